@@ -1,0 +1,116 @@
+-- What every step keeps, and what follows of the queue's plan: it is one, no plan has more requests, and it has as many as were
+-- served and wait. Assumes nothing.
+use Prim.Native.Nat.{ℕ, suc, _+_, _≤_, _<_}
+use mathlib.Core.Path.{_≡_, refl}
+use mathlib.Core.List.{List, _++_}
+use native.Mathlib.Omega.{arith}
+use lib.ListN.{length, length-append}
+use Rattle.slots.specs.Plan.{Slot, at, planned, size}
+use Rattle.slots.proofs.Tests.{le, gt, order}
+use Rattle.slots.proofs.Sums.{All, all-imp, all-append, total, total-append, total-one}
+use Rattle.slots.proofs.Queue.{opens, Entry, Booking, Queue, empty, arrival, asking, ticked, Joined, Swapped, is, Placed}
+use Rattle.slots.proofs.Count.{size-total}
+use Rattle.slots.proofs.Sorted.{Sorted, due, upto}
+use Rattle.slots.proofs.Upper.{Inv, inv-empty, inv-kept, inv-dropped, inv-ticked, upper}
+use Rattle.slots.proofs.Chart.{chart, plan}
+use Rattle.slots.proofs.Book.{who, Known, book-total, Good, book-fits}
+use Rattle.slots.proofs.Seat.{sits, chart-length, chart-who, seated, rank-heads, rank-none}
+use Rattle.slots.proofs.Own.{Served, Waits, Own, own-empty, own-kept, own-dropped, own-ticked, log-none, none-due, roomy}
+
+module _ (heads : ℕ → ℕ) where
+  pub record Both (q : Queue) : Type 0 where
+    pub inv : Inv heads q
+    pub own : Own heads q
+
+  pub both-empty : Both empty
+  both-empty = record { inv = inv-empty heads; own = own-empty heads }
+
+  -- a request with the deadline d is kept, and vs waits
+  pub both-kept : (d : ℕ) (q : Queue) (vs : List Entry) → q .clock < d → Joined (arrival d q) (q .waiting) vs → Sorted 0 vs
+      → ((D : ℕ) → q .clock ≤ D → upto D vs + opens heads (q .clock) ≤ opens heads D)
+      → Both q → Both (asking d vs q)
+  both-kept d q vs late J s f B =
+      record { inv = inv-kept heads d q vs late s (B .inv) J f; own = own-kept heads d q vs (B .own) J }
+
+  -- a request with the deadline d comes, the victim goes, and vs waits: full is the smallest deadline that is overfull with the new one
+  pub both-dropped : (d : ℕ) (q : Queue) (victim : Entry) (vs : List Entry) (full : ℕ) → q .clock < d
+      → Swapped (arrival d q) victim (q .waiting) vs → Sorted 0 vs → victim .deadline ≤ full
+      → opens heads full < due full (arrival d q) + upto full (q .waiting) + opens heads (q .clock)
+      → ((D : ℕ) → q .clock ≤ D → D < full → due D (arrival d q) + upto D (q .waiting) + opens heads (q .clock) ≤ opens heads D)
+      → Both q → Both (asking d vs q)
+  both-dropped d q victim vs full late S s picked over under B =
+      record {
+        inv = inv-dropped heads d q vs late s (B .inv) victim full S picked over under;
+        own = own-dropped heads d q vs (B .own) victim S;
+      }
+
+  pub both-ticked : (q : Queue) → Both q → Both (ticked heads q)
+  both-ticked q B = record { inv = inv-ticked heads q (B .inv); own = own-ticked heads q (B .inv) (B .own) }
+
+  -- ---- the log and the chart together
+  abbrev pub bookings : Queue → List Booking
+  bookings q = q .log ++ chart heads (q .waiting)
+
+  -- a booking of a request that was asked, in a slot that it can have
+  abbrev pub Sound : Queue → Booking → Type 0
+  Sound q b = Good (q .asked) b × Known (length (q .asked)) (b .number)
+
+  module _ (q : Queue) (B : Both q) where
+    pub sound-all : All (Sound q) (bookings q)
+    sound-all =
+        all-append (Sound q) (q .log) (chart heads (q .waiting))
+        (all-imp (Served (q .clock) (q .asked)) (Sound q) (q .log) (λ b h. (h .good, h .known)) (B .own .served))
+        (seated heads (q .clock) (Waits (q .clock) (q .asked)) (Sound q)
+        (λ w x h l u. ((omega (arith, h .released), omega (arith, h .limit)), h .known))
+        0 (suc (q .clock)) (q .waiting) (none-due heads q (B .inv)) (roomy heads q (B .inv)) (B .own .waits))
+
+    pub known-all : All (λ (b : Booking). Known (length (q .asked)) (b .number)) (bookings q)
+    known-all = all-imp (Sound q) (λ (b : Booking). Known (length (q .asked)) (b .number)) (bookings q) (λ b h. h .1) sound-all
+
+    -- each number is booked at most once
+    pub once-all : (i : ℕ) → total (who i) (bookings q) ≤ 1
+    once-all i =
+        omega (arith, total-append (who i) (q .log) (chart heads (q .waiting)), chart-who heads i (q .waiting), B .own .once i)
+
+    heads-all : (x : ℕ) → total (sits x) (bookings q) ≤ heads x
+    heads-all x =
+        elim (order (q .clock) x) [
+          | le h ↦ omega (arith, sum, log-none x (q .clock) (q .asked) (q .log) (B .own .served) h, rank-heads heads (q .clock) x lo ws s f)
+          | gt h ↦ omega (arith, sum, B .own .spread x, rank-none heads (q .clock) x lo ws s f h)
+        ]
+      where
+        ws : List Entry
+        ws = q .waiting
+
+        lo : ℕ
+        lo = suc (q .clock)
+
+        s : Sorted lo ws
+        s = none-due heads q (B .inv)
+
+        f : (x : ℕ) → lo ≤ x → 0 + upto x ws + opens heads (q .clock) ≤ opens heads x
+        f = roomy heads q (B .inv)
+
+        sum : total (sits x) (bookings q) ≡ total (sits x) (q .log) + total (sits x) (chart heads ws)
+        sum = total-append (sits x) (q .log) (chart heads ws)
+
+    pub plan-placed : Placed heads (q .asked) (plan heads q)
+    plan-placed =
+        record {
+          fits = book-fits (q .asked) (bookings q) (all-imp (Sound q) (Good (q .asked)) (bookings q) (λ b h. h .0) sound-all);
+          slots = λ x. omega (arith, book-total (is x) refl (length (q .asked)) (bookings q) once-all known-all, heads-all x);
+        }
+
+    pub plan-size : size (plan heads q) ≡ length (q .log) + length (q .waiting)
+    plan-size =
+        omega (
+          arith,
+          size-total (plan heads q),
+          book-total planned refl (length (q .asked)) (bookings q) once-all known-all,
+          total-one (λ (b : Booking). planned (at (b .slot))) (bookings q) (λ b. refl),
+          length-append (q .log) (chart heads (q .waiting)),
+          chart-length heads (q .waiting),
+        )
+
+    pub placed-size : (P : List Slot) → Placed heads (q .asked) P → size P ≤ length (q .log) + length (q .waiting)
+    placed-size = upper heads q (B .inv)

@@ -1,0 +1,16 @@
+pub mod Tests
+pub mod Sums
+pub mod Queue
+pub mod Count
+pub mod Sorted
+pub mod Upper
+pub mod Chart
+pub mod Book
+pub mod Seat
+pub mod Own
+pub mod Both
+pub mod Agree
+pub mod Room
+pub mod Placing
+pub mod Plain
+pub mod Examples

@@ -1,0 +1,201 @@
+-- No plan of the requests has more than the queue has served and still holds. Assumes nothing.
+use Prim.Native.Nat.{ℕ, suc, _+_, _≤_, _<_}
+use mathlib.Core.Path.{_≡_}
+use mathlib.Core.List.{List, [], _∷_}
+use native.Mathlib.Omega.{arith}
+use lib.ListN.{length}
+use Rattle.slots.specs.Plan.{Window, Slot, none, at, Fits, planned, size}
+use Rattle.slots.proofs.Tests.{le, gt, order}
+use Rattle.slots.proofs.Sums.{total}
+use Rattle.slots.proofs.Queue.{opens, Entry, Queue, empty, arrival, asking, ticked, Joined, Swapped, Placed}
+use Rattle.slots.proofs.Count.{length-log, length-joined, length-swapped, before, below, below-mono, below-suc}
+use Rattle.slots.proofs.Count.{opens-suc, opens-mono, pigeon}
+use Rattle.slots.proofs.Sorted.{Sorted, sorted-drop, due, upto, due-one, due-yes, due-no, upto-drop}
+
+-- ---- the newest entry of a plan, and the plan without it
+record New (t d : ℕ) (x : Slot) : Type 0 where
+  early : before t x ≡ 0
+  late : (y : ℕ) → d ≤ y → before y x ≡ planned x
+  one : planned x ≤ 1
+
+new : (t d : ℕ) (R : List Window) (x : Slot) (P : List Slot) → Fits (record { release = t; deadline = d } ∷ R) (x ∷ P) → New t d x
+unfolding before
+new t d R none P f = record { early = omega arith; late = λ y h. omega arith; one = omega arith }
+new t d R (at s) P f = record { early = omega arith; late = λ y h. omega arith; one = omega arith }
+
+rest-fits : (r : Window) (R : List Window) (x : Slot) (P : List Slot) → Fits (r ∷ R) (x ∷ P) → Fits R P
+rest-fits r R none P f = f
+rest-fits r R (at s) P f = f .2
+
+after : {a b c : ℕ} → a ≤ b → b ≤ c → a ≤ c
+after p q = omega arith
+
+module _ (heads : ℕ → ℕ) where
+  rest : (r : Window) (R : List Window) (x : Slot) (P : List Slot) → Placed heads (r ∷ R) (x ∷ P) → Placed heads R P
+  unfolding total
+  rest r R x P p = record { fits = rest-fits r R x P (p .fits); slots = λ t. omega (arith, p .slots t) }
+
+  -- the slots of a plan before the clock, or not before D, are no more than were served and wait for a deadline after D
+  abbrev pub Bound : Queue → List Slot → Type 0
+  Bound q P =
+      (D : ℕ) → q .clock ≤ D → size P + below (q .clock) P + upto D (q .waiting) ≤ length (q .log) + length (q .waiting) + below D P
+
+  -- those of the waiting ones that are due by a time have room from the clock on
+  abbrev pub Feasible : ℕ → List Entry → Type 0
+  Feasible t ws = (D : ℕ) → t ≤ D → upto D ws + opens heads t ≤ opens heads D
+
+  pub record Inv (q : Queue) : Type 0 where
+    pub sorted : Sorted 0 (q .waiting)
+    pub feasible : Feasible (q .clock) (q .waiting)
+    pub bound : (P : List Slot) → Placed heads (q .asked) P → Bound q P
+
+  pub inv-empty : Inv empty
+  unfolding total size
+  inv-empty = record { sorted = tt; feasible = λ D h. omega (arith, opens-mono heads 0 D h); bound = none-asked }
+    where
+      none-asked : (P : List Slot) → Placed heads [] P → Bound empty P
+      none-asked [] p = λ D h. omega arith
+      none-asked (x ∷ P) p = absurd (p .fits)
+
+  -- ---- a request comes
+  module _ (d : ℕ) (q : Queue) (vs : List Entry) (late : q .clock < d) (s : Sorted 0 vs) (I : Inv q) where
+    abbrev t : ℕ
+    t = q .clock
+
+    abbrev ws : List Entry
+    ws = q .waiting
+
+    abbrev e : Entry
+    e = arrival d q
+
+    abbrev r : Window
+    r = record { release = q .clock; deadline = d }
+
+    -- ---- it is kept
+    kept-bound : Joined e ws vs → (P : List Slot) → Placed heads (r ∷ q .asked) P → Bound (asking d vs q) P
+    unfolding total size
+    kept-bound J [] p D h = absurd (p .fits)
+    kept-bound J (x ∷ P) p D h =
+        elim (order d D) [
+          | le g ↦ omega (arith, old, J .sums (due D), length-joined e ws vs J, n .early, n .late D g, due-one D e)
+          | gt g ↦ omega (arith, old, J .sums (due D), length-joined e ws vs J, n .early, n .one, due-no D e g)
+        ]
+      where
+        n : New t d x
+        n = new t d (q .asked) x P (p .fits)
+
+        old : size P + below t P + upto D ws ≤ length (q .log) + length ws + below D P
+        old = I .bound P (rest r (q .asked) x P p) D h
+
+    pub inv-kept : Joined e ws vs → Feasible t vs → Inv (asking d vs q)
+    inv-kept J f = record { sorted = s; feasible = f; bound = kept-bound J }
+
+    -- ---- one is dropped: full is the smallest deadline that is overfull with the new one
+    module _ (victim : Entry) (full : ℕ) (S : Swapped e victim ws vs) (picked : victim .deadline ≤ full)
+        (over : opens heads full < due full e + upto full ws + opens heads t)
+        (under : (D : ℕ) → t ≤ D → D < full → due D e + upto D ws + opens heads t ≤ opens heads D) where
+      -- none of them is due by the clock, the victim neither
+      ripe : t < full
+      ripe =
+          elim (order full t) [
+            | le h ↦
+                absurd (omega (arith, S .sums (due t), due-yes t victim (after picked h), due-no t e late, I .feasible t (omega arith)))
+            | gt h ↦ h
+          ]
+
+      -- without the new one nothing was overfull
+      fresh : d ≤ full
+      fresh =
+          elim (order d full) [
+            | le h ↦ h
+            | gt h ↦ absurd (omega (arith, ripe, I .feasible full (omega (arith, ripe)), due-no full e h))
+          ]
+
+      dropped-bound : (P : List Slot) → Placed heads (r ∷ q .asked) P → Bound (asking d vs q) P
+      unfolding total size
+      dropped-bound [] p D h = absurd (p .fits)
+      dropped-bound (x ∷ P) p D h =
+          elim (order full D) [
+            | le g ↦
+                omega (
+                  arith,
+                  old D h,
+                  S .sums (due D),
+                  alike,
+                  n .early,
+                  n .late D (after fresh g),
+                  due-yes D victim (after picked g),
+                  due-one D e,
+                )
+            | gt g ↦
+                omega (
+                  arith,
+                  old full (omega (arith, ripe)),
+                  S .sums (due D),
+                  alike,
+                  n .early,
+                  n .late full fresh,
+                  due-one full e,
+                  under D h g,
+                  pigeon heads (x ∷ P) (p .slots) D full (omega arith),
+                )
+          ]
+        where
+          n : New t d x
+          n = new t d (q .asked) x P (p .fits)
+
+          alike : length vs ≡ length ws
+          alike = length-swapped e victim ws vs S
+
+          old : (D : ℕ) → t ≤ D → size P + below t P + upto D ws ≤ length (q .log) + length ws + below D P
+          old = I .bound P (rest r (q .asked) x P p)
+
+      dropped-feasible : Feasible t vs
+      dropped-feasible D h =
+          elim (order full D) [
+            | le g ↦ omega (arith, S .sums (due D), I .feasible D h, due-one D e, due-yes D victim (after picked g))
+            | gt g ↦ omega (arith, S .sums (due D), under D h g)
+          ]
+
+      pub inv-dropped : Inv (asking d vs q)
+      inv-dropped = record { sorted = s; feasible = dropped-feasible; bound = dropped-bound }
+
+  -- ---- a tick
+  pub inv-ticked : (q : Queue) → Inv q → Inv (ticked heads q)
+  inv-ticked q I =
+      record {
+        sorted = sorted-drop 0 k ws (I .sorted);
+        feasible =
+            λ D h.
+            omega (
+              arith,
+              upto-drop D 0 k ws (I .sorted),
+              I .feasible D (omega arith),
+              opens-suc heads t,
+              opens-mono heads (suc t) D h,
+            );
+        bound =
+            λ P p D h.
+            omega (
+              arith,
+              upto-drop D 0 k ws (I .sorted),
+              below-suc t P,
+              p .slots t,
+              I .bound P p D (omega arith),
+              I .bound P p t (omega arith),
+              below-mono (suc t) D P h,
+              length-log t k ws (q .log),
+            );
+      }
+    where
+      t : ℕ
+      t = q .clock
+
+      k : ℕ
+      k = heads t
+
+      ws : List Entry
+      ws = q .waiting
+
+  pub upper : (q : Queue) → Inv q → (P : List Slot) → Placed heads (q .asked) P → size P ≤ length (q .log) + length (q .waiting)
+  upper q I P p = omega (arith, I .bound P p (q .clock) (omega arith))

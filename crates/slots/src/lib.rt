@@ -1,0 +1,1 @@
+// Slots and plans: definitions in specs/, their theory in proofs/. No code.

@@ -1,0 +1,193 @@
+-- What it means that a call is accepted, as facts, and the states that accepted calls leave. Assumes nothing.
+use Prim.Native.Nat.{ℕ, zero, suc, _+_, _-_, _≤_, _<_}
+use mathlib.Core.Path.{_≡_, refl, sym, ap, _∙_}
+use mathlib.Core.Logic.{_≢_}
+use mathlib.Core.Bool.{Bool, true, false, not, cond, _||_}
+use mathlib.Core.List.{List, [], _∷_, _++_}
+use native.Mathlib.Omega.{arith}
+use borrow.Author.Tests.{ltb-true, ltb-false, eqb-true, eqb-false, not-false}
+use lib.Dec.{leb, ltb, eqb}
+use lib.ListN.{length, getD, take, drop, replicate, length-take, length-drop, length-append, length-replicate, take-append-drop}
+use lib.Seq.{take-append-seam, drop-append-seam}
+use Rattle.slots.proofs.Tests.{Same, same-yes, same-no, same}
+use Rattle.spec.specs.declared.types.Counts.{Counts}
+use Rattle.spec.specs.declared.types.Request.{Request}
+use Rattle.spec.specs.declared.types.Answer.the-variants.{Refused}
+use Rattle.spec.specs.Every.{isWithin}
+use Rattle.spec.specs.Tables.{mostClients, mostRecords, mostCounted, clockEnd, numberEnd, mostPeriod, mostAhead, zeroRequest, zeroCounts, State, waiting, behind, holding, nextState}
+use Rattle.spec.specs.Sound.{isAhead, isClient, isSound}
+use Rattle.spec.specs.Refusals.{Refusal, firstMatch, isMisshapen, refusal2, refusal3, refusal4Open, refusal4, refusal5, refusal6, refusal7, refusal8, refusal9, refusal10, refusal11, refusal12, openRefusals, submitRefusals, tickRefusals, reportRefusals, chartRefusals}
+use Rattle.spec.specs.Calls.{Outcome, unlessRefused}
+use Rattle.spec.proofs.Laws.{or-none}
+use Rattle.spec.proofs.Facts.{within-facts, Shaped, Sound, sound-facts}
+
+-- ---- accepted, or refused with the first number that matches
+pub data Decided (rs : List Refusal) (s : State) (o : Outcome) : Outcome → Type 0 where
+  accepts : firstMatch rs ≡ 0 → Decided rs s o o
+  refuses : firstMatch rs ≢ 0 → Decided rs s o (record { answer = Refused (firstMatch rs); after = s })
+
+pub decided : (rs : List Refusal) (s : State) (o : Outcome) → Decided rs s o (unlessRefused rs s o)
+decided rs s o = go (eqb (firstMatch rs) 0) (same (firstMatch rs) 0)
+  where
+    go : (x : Bool) → Same (firstMatch rs) 0 x → Decided rs s o (cond x o (record { answer = Refused (firstMatch rs); after = s }))
+    go true (same-yes e) = accepts e
+    go false (same-no e) = refuses e
+
+-- none matches: the first does not hold, and none of the rest matches
+pub none-match : (r : Refusal) (rs : List Refusal) → r .number ≢ 0 → firstMatch (r ∷ rs) ≡ 0 → (r .holds ≡ false) × (firstMatch rs ≡ 0)
+unfolding firstMatch
+none-match r rs n e = go (r .holds) e
+  where
+    go : (x : Bool) → cond x (r .number) (firstMatch rs) ≡ 0 → (x ≡ false) × (firstMatch rs ≡ 0)
+    go true e = absurd (n e)
+    go false e = (refl, e)
+
+-- ---- the conditions as facts
+within-refused : (lo hi x : ℕ) → not (isWithin lo hi x) ≡ false → (lo ≤ x) × (x ≤ hi)
+within-refused lo hi x e = within-facts lo hi x (not-false (isWithin lo hi x) e)
+
+pub record Lengths (clients : ℕ) (s : State) : Type 0 where
+  pub some-records : 1 ≤ length (s .waitingTable)
+  pub most-records : length (s .waitingTable) ≤ mostRecords
+  pub clients-length : length (s .clientTable) ≡ clients
+
+lengths : (clients : ℕ) (s : State) → isMisshapen clients s ≡ false → Lengths clients s
+lengths clients s e =
+    let p = or-none (not (isWithin 1 mostRecords (length (s .waitingTable)))) (not (eqb (length (s .clientTable)) clients)) e in
+    let w = within-refused 1 mostRecords (length (s .waitingTable)) (p .0) in
+    record {
+      some-records = w .0;
+      most-records = w .1;
+      clients-length = eqb-true (length (s .clientTable)) clients (not-false (eqb (length (s .clientTable)) clients) (p .1));
+    }
+
+shaped : (s : State) → refusal4 s .holds ≡ false → Shaped s
+shaped s e =
+    let p = or-none (isMisshapen (s .head .clients) s) (ltb (length (s .waitingTable)) (s .head .waiting)) e in
+    let l = lengths (s .head .clients) s (p .0) in
+    record {
+      some-records = l .some-records;
+      most-records = l .most-records;
+      clients = l .clients-length;
+      waits = ltb-false (length (s .waitingTable)) (s .head .waiting) (p .1);
+    }
+
+-- refusals 4 and 5 do not hold
+pub record Ready (s : State) : Type 0 where
+  pub shape : Shaped s
+  pub sound : Sound s
+
+ready : (s : State) (rs : List Refusal) → firstMatch (refusal4 s ∷ refusal5 s ∷ rs) ≡ 0 → Ready s × (firstMatch rs ≡ 0)
+ready s rs e =
+    let p = none-match (refusal4 s) (refusal5 s ∷ rs) (omega arith) e in
+    let q = none-match (refusal5 s) rs (omega arith) (p .1) in
+    (record { shape = shaped s (p .0); sound = sound-facts s (not-false (isSound s) (q .0)) }, q .1)
+
+-- ---- each call
+pub record OpenReady (clients period : ℕ) (s : State) : Type 0 where
+  pub some-clients : 1 ≤ clients
+  pub most-clients : clients ≤ mostClients
+  pub some-period : 1 ≤ period
+  pub most-period : period ≤ mostPeriod
+  pub lengths : Lengths clients s
+
+pub open-ready : (clients period : ℕ) (s : State) → firstMatch (openRefusals clients period s) ≡ 0 → OpenReady clients period s
+unfolding openRefusals
+open-ready clients period s e =
+    let p = none-match (refusal2 clients) (refusal3 period ∷ refusal4Open clients s ∷ []) (omega arith) e in
+    let q = none-match (refusal3 period) (refusal4Open clients s ∷ []) (omega arith) (p .1) in
+    let r = none-match (refusal4Open clients s) [] (omega arith) (q .1) in
+    let c = within-refused 1 mostClients clients (p .0) in
+    let d = within-refused 1 mostPeriod period (q .0) in
+    record { some-clients = c .0; most-clients = c .1; some-period = d .0; most-period = d .1; lengths = lengths clients s (r .0) }
+
+pub record SubmitReady (client deadline : ℕ) (s : State) : Type 0 where
+  pub ready : Ready s
+  pub exists : client < s .head .clients
+  pub late : suc (s .head .clock) ≤ deadline
+  pub near : deadline ≤ s .head .clock + mostAhead
+  pub countable : getD (s .clientTable) client zeroCounts .submitted ≢ mostCounted
+  pub numbered : s .head .last ≢ numberEnd
+  pub free : s .head .waiting ≢ length (s .waitingTable)
+
+pub submit-ready : (client deadline : ℕ) (s : State) → firstMatch (submitRefusals client deadline s) ≡ 0 → SubmitReady client deadline s
+unfolding submitRefusals
+submit-ready client deadline s e =
+    let a = ready s (refusal6 client s ∷ refusal7 deadline s ∷ refusal8 client s ∷ refusal9 s ∷ refusal10 s ∷ []) e in
+    let b = none-match (refusal6 client s) (refusal7 deadline s ∷ refusal8 client s ∷ refusal9 s ∷ refusal10 s ∷ []) (omega arith) (a .1) in
+    let c = none-match (refusal7 deadline s) (refusal8 client s ∷ refusal9 s ∷ refusal10 s ∷ []) (omega arith) (b .1) in
+    let d = none-match (refusal8 client s) (refusal9 s ∷ refusal10 s ∷ []) (omega arith) (c .1) in
+    let f = none-match (refusal9 s) (refusal10 s ∷ []) (omega arith) (d .1) in
+    let g = none-match (refusal10 s) [] (omega arith) (f .1) in
+    let w = within-refused (suc (s .head .clock)) (s .head .clock + mostAhead) deadline (c .0) in
+    record {
+      ready = a .0;
+      exists = ltb-true client (s .head .clients) (not-false (isClient (s .head .clients) client) (b .0));
+      late = w .0;
+      near = w .1;
+      countable = eqb-false (getD (s .clientTable) client zeroCounts .submitted) mostCounted (d .0);
+      numbered = eqb-false (s .head .last) numberEnd (f .0);
+      free = eqb-false (s .head .waiting) (length (s .waitingTable)) (g .0);
+    }
+
+pub record TickReady (s : State) : Type 0 where
+  pub ready : Ready s
+  pub ticking : s .head .clock ≢ clockEnd
+
+pub tick-ready : (s : State) → firstMatch (tickRefusals s) ≡ 0 → TickReady s
+unfolding tickRefusals
+tick-ready s e =
+    let a = ready s (refusal11 s ∷ []) e in
+    let b = none-match (refusal11 s) [] (omega arith) (a .1) in
+    record { ready = a .0; ticking = eqb-false (s .head .clock) clockEnd (b .0) }
+
+pub record ReportReady (client : ℕ) (s : State) : Type 0 where
+  pub ready : Ready s
+  pub exists : client < s .head .clients
+
+pub report-ready : (client : ℕ) (s : State) → firstMatch (reportRefusals client s) ≡ 0 → ReportReady client s
+unfolding reportRefusals
+report-ready client s e =
+    let a = ready s (refusal6 client s ∷ []) e in
+    let b = none-match (refusal6 client s) [] (omega arith) (a .1) in
+    record { ready = a .0; exists = ltb-true client (s .head .clients) (not-false (isClient (s .head .clients) client) (b .0)) }
+
+pub record ChartReady (output : List ℕ) (s : State) : Type 0 where
+  pub ready : Ready s
+  pub long : s .head .waiting ≤ length output
+
+pub chart-ready : (output : List ℕ) (s : State) → firstMatch (chartRefusals output s) ≡ 0 → ChartReady output s
+unfolding chartRefusals
+chart-ready output s e =
+    let a = ready s (refusal12 output s ∷ []) e in
+    let b = none-match (refusal12 output s) [] (omega arith) (a .1) in
+    record { ready = a .0; long = ltb-false (length output) (s .head .waiting) (b .0) }
+
+-- ---- the waiting requests of a state
+pub waiting-length : (s : State) → Shaped s → length (waiting s) ≡ s .head .waiting
+waiting-length s f = omega (arith, length-take (s .head .waiting) (s .waitingTable), f .waits)
+
+-- in sound tables the waiting table is what holds them
+pub table-held : (s : State) → Ready s → s .waitingTable ≡ holding (length (s .waitingTable)) (waiting s)
+table-held s r =
+    sym (take-append-drop (s .head .waiting) (s .waitingTable))
+    ∙ ap (λ (l : List Request). waiting s ++ l) (r .sound .zeros ∙ ap (λ (n : ℕ). replicate n zeroRequest) left)
+  where
+    left : length (behind s) ≡ length (s .waitingTable) - length (waiting s)
+    left = omega (arith, length-drop (s .head .waiting) (s .waitingTable), waiting-length s (r .shape))
+
+-- ---- the states that calls leave
+module _ (clock last : ℕ) (ws : List Request) (cs : List Counts) (s : State) where
+  pub next-waiting : waiting (nextState clock last ws cs s) ≡ ws
+  unfolding nextState
+  next-waiting = take-append-seam ws (replicate (length (s .waitingTable) - length ws) zeroRequest)
+
+  pub next-behind : behind (nextState clock last ws cs s) ≡ replicate (length (s .waitingTable) - length ws) zeroRequest
+  unfolding nextState
+  next-behind = drop-append-seam ws (replicate (length (s .waitingTable) - length ws) zeroRequest)
+
+  pub next-length : length ws ≤ length (s .waitingTable) → length (nextState clock last ws cs s .waitingTable) ≡ length (s .waitingTable)
+  unfolding nextState
+  next-length h =
+      omega
+      (arith, length-append ws (replicate (length (s .waitingTable) - length ws) zeroRequest), length-replicate (length (s .waitingTable) - length ws) zeroRequest)

@@ -1,0 +1,153 @@
+-- The worked reads that document 01 marks P, as one table that is checked by one theorem, and the document's session.
+-- Assumes nothing.
+use Prim.Native.Nat.{ℕ}
+use Prim.Native.Char.{code}
+use Prim.Native.String.{String, [] as []ˢ, _∷_ as _∷ˢ_}
+use mathlib.Core.Path.{_≡_, refl}
+use mathlib.Core.List.{List, [], _∷_, _++_, map, reverse}
+use lib.ListN.{replicate}
+use Rattle.slots.specs.Room.{room}
+use Rattle.spec.specs.declared.types.Request.{Request}
+use Rattle.spec.specs.declared.types.Counts.{Counts}
+use Rattle.spec.specs.declared.types.Answer.{Answer}
+use Rattle.spec.specs.declared.types.Answer.the-variants.{Opened, Kept, Dropped, Served, Idle, Refused}
+use Rattle.spec.specs.Every.{every, everyFrom, countIf, mapFrom, exists, select}
+use Rattle.spec.specs.Tables.{State, waiting, holding, zeroRequest, zeroCounts, nextState}
+use Rattle.spec.specs.Order.{comesBefore, isInOrder, placeOf, putInOrder, removeAt}
+use Rattle.spec.specs.Chart.{startsOf, segmentsOf, Segment, dueBy, isOverfull, hasNoOverfull}
+use Rattle.spec.specs.Victim.{isCandidate, candidatesFrom, hasSmallerRatio, smallestOf, victimOf}
+use Rattle.spec.specs.Sound.{isHeadWithin, isZeroRequest, waitingOf, isBalanced, isSound}
+use Rattle.spec.specs.Refusals.{firstMatch, openRefusals, submitRefusals, tickRefusals, reportRefusals, chartRefusals}
+use Rattle.spec.specs.Calls.{openOf, opened, change, kept, droppedAt, submitted, submitOf, ticked, tickOf, reported, reportOf, charted, chartOf, chartOutput}
+use Rattle.spec.specs.Lists.{Call, submit, tick, outcomeOf, run, history, Event}
+use Rattle.spec.specs.Frames.{digitOf, characterOf, numberFrom, digits, frameWith, frameOf, kindOf, valuesOf, fieldDigits, lineOf, segmentLines}
+use Rattle.spec.specs.Session.{textOf, atStart, reply, replies, session}
+
+-- a state to begin with, calls from the first to the last, and what they come to: the answers, and the chart at the end
+pub record Case : Type 0 where
+  pub start : State
+  pub calls : List Call
+  pub answers : List Answer
+  pub starts : List ℕ
+  pub segments : List Segment
+
+-- "fresh tables": what an open of so many clients and records left
+abbrev fresh : ℕ → ℕ → State
+fresh clients records =
+    openOf clients 100 (record {
+      head = record { clients = 0; period = 0; clock = 0; last = 0; waiting = 0 };
+      waitingTable = replicate records zeroRequest;
+      clientTable = replicate clients zeroCounts;
+    }) .after
+
+abbrev counts : ℕ → ℕ → ℕ → Counts
+counts submitted served dropped = record { submitted = submitted; served = served; dropped = dropped }
+
+-- clients 0 and 1 have these counts, and a request of this client, the last that was numbered, waits with deadline 1
+abbrev rivals : ℕ → ℕ → Counts → Counts → State
+rivals client number a b =
+    record {
+      head = record { clients = 2; period = 100; clock = 0; last = number; waiting = 1 };
+      waitingTable = holding 4 (record { deadline = 1; number = number; client = client } ∷ []);
+      clientTable = a ∷ b ∷ [];
+    }
+
+abbrev segment : ℕ → ℕ → Segment
+segment left right = record { left = left; right = right }
+
+abbrev case : State → List Call → List Answer → List ℕ → List Segment → Case
+case start calls answers starts segments =
+    record { start = start; calls = calls; answers = answers; starts = starts; segments = segments }
+
+abbrev cases : List Case
+cases =
+    -- "tick answers idle, slot 0."
+    case (fresh 1 8) (tick ∷ []) (Idle 0 ∷ []) [] []
+    -- "deadline 0 meets 7; 1 is kept."
+    ∷ case (fresh 1 8) (submit 0 0 ∷ []) (Refused 7 ∷ []) [] []
+    ∷ case (fresh 1 8) (submit 0 1 ∷ []) (Kept 1 0 ∷ []) (0 ∷ []) (segment 0 1 ∷ [])
+    -- "65,535 is kept; 65,536 meets 7."
+    ∷ case (fresh 1 8) (submit 0 65535 ∷ []) (Kept 1 0 ∷ []) (65534 ∷ []) (segment 65534 65535 ∷ [])
+    ∷ case (fresh 1 8) (submit 0 65536 ∷ []) (Refused 7 ∷ []) [] []
+    -- "the third submit above."
+    ∷ case (fresh 2 8) (submit 0 1 ∷ submit 1 2 ∷ submit 1 1 ∷ []) (Kept 1 0 ∷ Kept 2 1 ∷ Dropped 3 3 1 ∷ []) (0 ∷ 1 ∷ []) (segment 0 2 ∷ [])
+    -- "deadlines 2, 2, 2 from clients 0, 0, 1: the third is dropped."
+    ∷ case (fresh 2 8) (submit 0 2 ∷ submit 0 2 ∷ submit 1 2 ∷ []) (Kept 1 0 ∷ Kept 2 1 ∷ Dropped 3 3 1 ∷ []) (0 ∷ 1 ∷ []) (segment 0 2 ∷ [])
+    -- "candidates of clients at 1 of 4 and 1 of 2: the first client loses." The new request is the fourth, or the second, of its client
+    ∷ case (rivals 0 5 (counts 4 2 1) (counts 1 0 1)) (submit 1 1 ∷ []) (Dropped 6 5 0 ∷ []) (0 ∷ []) (segment 0 1 ∷ [])
+    ∷ case (rivals 1 5 (counts 3 2 1) (counts 2 0 1)) (submit 0 1 ∷ []) (Dropped 6 6 0 ∷ []) (0 ∷ []) (segment 0 1 ∷ [])
+    -- "1 of 3 against 2 of 6 is a tie.": the last in chart order is dropped, whichever client it is of
+    ∷ case (rivals 0 8 (counts 3 1 1) (counts 5 3 2)) (submit 1 1 ∷ []) (Dropped 9 9 1 ∷ []) (0 ∷ []) (segment 0 1 ∷ [])
+    ∷ case (rivals 1 8 (counts 2 1 1) (counts 6 3 2)) (submit 0 1 ∷ []) (Dropped 9 9 0 ∷ []) (0 ∷ []) (segment 0 1 ∷ [])
+    -- "deadlines 3, 5, 10, 10 start at 2, 4, 8, 9; segments [2,3], [4,5], [8,10]."
+    ∷ case (fresh 1 8) (submit 0 3 ∷ submit 0 5 ∷ submit 0 10 ∷ submit 0 10 ∷ []) (Kept 1 0 ∷ Kept 2 1 ∷ Kept 3 2 ∷ Kept 4 3 ∷ [])
+    (2 ∷ 4 ∷ 8 ∷ 9 ∷ []) (segment 2 3 ∷ segment 4 5 ∷ segment 8 10 ∷ [])
+    -- "adding 4 gives [2,5], [8,10]."
+    ∷ case (fresh 1 8) (submit 0 3 ∷ submit 0 5 ∷ submit 0 10 ∷ submit 0 10 ∷ submit 0 4 ∷ [])
+    (Kept 1 0 ∷ Kept 2 1 ∷ Kept 3 2 ∷ Kept 4 3 ∷ Kept 5 1 ∷ []) (2 ∷ 3 ∷ 4 ∷ 8 ∷ 9 ∷ []) (segment 2 5 ∷ segment 8 10 ∷ [])
+    -- "a one-record table with one waiting meets 10; after a tick it accepts."
+    ∷ case (fresh 1 1) (submit 0 5 ∷ submit 0 5 ∷ tick ∷ submit 0 5 ∷ []) (Kept 1 0 ∷ Refused 10 ∷ Served 0 1 0 ∷ Kept 2 0 ∷ [])
+    (4 ∷ []) (segment 4 5 ∷ [])
+    ∷ []
+
+-- what a case says, and what the definitions give
+pub record Result : Type 0 where
+  pub answers : List Answer
+  pub starts : List ℕ
+  pub segments : List Segment
+
+abbrev said : Case → Result
+said c = record { answers = c .answers; starts = c .starts; segments = c .segments }
+
+abbrev given : Case → Result
+given c =
+    record {
+      answers = reverse (map (λ (e : Event). e .answer) (history (c .start) (reverse (c .calls))));
+      starts = startsOf (waiting (run (c .start) (reverse (c .calls))));
+      segments = segmentsOf (startsOf (waiting (run (c .start) (reverse (c .calls)))));
+    }
+
+pub worked-reads : map given cases ≡ map said cases
+unfolding room every everyFrom countIf mapFrom comesBefore isInOrder placeOf putInOrder removeAt startsOf segmentsOf dueBy isOverfull hasNoOverfull isCandidate candidatesFrom hasSmallerRatio smallestOf victimOf isHeadWithin isZeroRequest waitingOf isBalanced isSound firstMatch openRefusals submitRefusals tickRefusals openOf opened change nextState kept droppedAt submitted submitOf ticked tickOf outcomeOf run history
+worked-reads = refl
+
+-- ---- the session of document 01
+-- the bytes of lines of text, each with its line feed
+abbrev pub line : String → List ℕ
+line []ˢ = 10 ∷ []
+line (c ∷ˢ s) = code c ∷ line s
+
+abbrev pub text : List String → List ℕ
+text [] = []
+text (l ∷ ls) = line l ++ text ls
+
+abbrev pub input : List ℕ
+input =
+    text (
+    "010002000000640008"
+    ∷ "0200000000000000000001"
+    ∷ "0200010000000000000002"
+    ∷ "0200010000000000000001"
+    ∷ "05"
+    ∷ "03"
+    ∷ "040001"
+    ∷ []
+    )
+
+abbrev pub output : List ℕ
+output =
+    text (
+    "81"
+    ∷ "8200000000000000010000"
+    ∷ "8200000000000000020001"
+    ∷ "83000000000000000300000000000000030001"
+    ∷ "8700000000000000000000000000000002"
+    ∷ "880001"
+    ∷ "84000000000000000000000000000000010000"
+    ∷ "8600010000000200000000000000010001"
+    ∷ []
+    )
+
+pub worked-session : session input ≡ output
+unfolding digits characterOf digitOf numberFrom frameWith frameOf kindOf valuesOf fieldDigits lineOf segmentLines textOf atStart reply replies session every everyFrom countIf mapFrom room comesBefore isInOrder placeOf putInOrder removeAt startsOf segmentsOf dueBy isOverfull hasNoOverfull isCandidate candidatesFrom hasSmallerRatio smallestOf victimOf isHeadWithin isZeroRequest waitingOf isBalanced isSound firstMatch openRefusals submitRefusals tickRefusals reportRefusals chartRefusals openOf opened change nextState kept droppedAt submitted submitOf ticked tickOf reported reportOf charted chartOf chartOutput
+worked-session = refl

@@ -1,0 +1,183 @@
+-- Shape and soundness as facts, and what it means that a call is not refused. Assumes nothing.
+use Prim.Native.Nat.{ℕ, zero, suc, _+_, _-_, _≤_, _<_}
+use mathlib.Core.Path.{_≡_, refl, sym, ap, _∙_}
+use mathlib.Core.Logic.{_≢_}
+use mathlib.Core.Bool.{Bool, true, false, not, cond, _&&_, _||_, and-eq-true-iff}
+use mathlib.Core.List.{List, [], _∷_, _++_}
+use native.Mathlib.Omega.{arith}
+use borrow.Author.Tests.{leb-true, ltb-true, ltb-false, eqb-true, eqb-false, le-leb, lt-ltb, le-ltb, eq-eqb, ne-eqb, not-true, not-false}
+use lib.Dec.{leb, ltb, eqb}
+use lib.ListN.{length, getD, take, drop, replicate, length-take, length-drop, take-append-drop}
+use Rattle.slots.proofs.Sums.{All, all-imp}
+use Rattle.spec.specs.declared.types.Head.{Head}
+use Rattle.spec.specs.declared.types.Request.{Request}
+use Rattle.spec.specs.declared.types.Counts.{Counts}
+use Rattle.spec.specs.Every.{isWithin, every, everyFrom}
+use Rattle.spec.specs.Tables.{mostClients, mostRecords, mostCounted, clockEnd, numberEnd, mostPeriod, mostAhead, zeroRequest, zeroCounts, State, waiting, behind, holding}
+use Rattle.spec.specs.Order.{isInOrder}
+use Rattle.spec.specs.Chart.{hasNoOverfull}
+use Rattle.spec.specs.Sound.{isHeadWithin, isAhead, isGiven, isClient, isZeroRequest, waitingOf, isBalanced, isSound}
+use Rattle.spec.specs.Refusals.{Refusal, firstMatch, isMisshapen, refusal4, refusal5, refusal6, refusal7, refusal8, refusal9, refusal10, refusal11, refusal12, refusal2, refusal3, refusal4Open, openRefusals, submitRefusals, tickRefusals, reportRefusals, chartRefusals}
+use Rattle.spec.proofs.Laws.{and-left, and-right, and-both, or-none, every-facts, every-test, everyFrom-facts, everyFrom-test}
+use Rattle.spec.proofs.Order.{InOrder, order-facts, order-test}
+use Rattle.spec.proofs.Feasible.{Feasible, feasible-facts, feasible-test}
+
+-- ---- numbers within bounds
+pub within-facts : (lo hi x : ℕ) → isWithin lo hi x ≡ true → (lo ≤ x) × (x ≤ hi)
+within-facts lo hi x e =
+    (leb-true lo x (and-left (leb lo x) (leb x hi) e), leb-true x hi (and-right (leb lo x) (leb x hi) e))
+
+pub within-test : (lo hi x : ℕ) → lo ≤ x → x ≤ hi → isWithin lo hi x ≡ true
+within-test lo hi x h g = and-both (leb lo x) (leb x hi) (le-leb lo x h) (le-leb x hi g)
+
+-- ---- the head
+pub record HeadWithin (h : Head) : Type 0 where
+  pub some-clients : 1 ≤ h .clients
+  pub most-clients : h .clients ≤ mostClients
+  pub some-period : 1 ≤ h .period
+  pub most-period : h .period ≤ mostPeriod
+  pub clock : h .clock ≤ clockEnd
+  pub last : h .last ≤ numberEnd
+
+pub head-facts : (h : Head) → isHeadWithin h ≡ true → HeadWithin h
+unfolding isHeadWithin
+head-facts h e =
+    let p = simp and-eq-true-iff at e in
+    record {
+      some-clients = leb-true 1 (h .clients) (p .0 .0 .0 .0);
+      most-clients = leb-true (h .clients) mostClients (p .0 .0 .0 .1);
+      some-period = leb-true 1 (h .period) (p .0 .0 .1 .0);
+      most-period = leb-true (h .period) mostPeriod (p .0 .0 .1 .1);
+      clock = leb-true (h .clock) clockEnd (p .0 .1);
+      last = leb-true (h .last) numberEnd (p .1);
+    }
+
+pub head-test : (h : Head) → HeadWithin h → isHeadWithin h ≡ true
+unfolding isHeadWithin
+head-test h f =
+    rw (
+      le-leb 1 (h .clients) (f .some-clients),
+      le-leb (h .clients) mostClients (f .most-clients),
+      le-leb 1 (h .period) (f .some-period),
+      le-leb (h .period) mostPeriod (f .most-period),
+      le-leb (h .clock) clockEnd (f .clock),
+      le-leb (h .last) numberEnd (f .last),
+    )
+
+-- ---- records that are zero
+zero-facts : (r : Request) → isZeroRequest r ≡ true → r ≡ zeroRequest
+unfolding isZeroRequest
+zero-facts r e =
+    let p = and-left (eqb (r .deadline) 0 && eqb (r .number) 0) (eqb (r .client) 0) e in
+    λ i.
+    record {
+      deadline = eqb-true (r .deadline) 0 (and-left (eqb (r .deadline) 0) (eqb (r .number) 0) p) i;
+      number = eqb-true (r .number) 0 (and-right (eqb (r .deadline) 0) (eqb (r .number) 0) p) i;
+      client = eqb-true (r .client) 0 (and-right (eqb (r .deadline) 0 && eqb (r .number) 0) (eqb (r .client) 0) e) i;
+    }
+
+pub zeros-facts : (rs : List Request) → every isZeroRequest rs ≡ true → rs ≡ replicate (length rs) zeroRequest
+unfolding every
+zeros-facts [] e = refl
+zeros-facts (r ∷ rs) e =
+    λ i.
+    zero-facts r (and-left (isZeroRequest r) (every isZeroRequest rs) e) i
+    ∷ zeros-facts rs (and-right (isZeroRequest r) (every isZeroRequest rs) e) i
+
+pub zeros-test : (n : ℕ) → every isZeroRequest (replicate n zeroRequest) ≡ true
+unfolding every isZeroRequest
+zeros-test zero = refl
+zeros-test (suc n) = zeros-test n
+
+zeros-all : (rs : List Request) → rs ≡ replicate (length rs) zeroRequest → every isZeroRequest rs ≡ true
+zeros-all rs e = ap (every isZeroRequest) e ∙ zeros-test (length rs)
+
+-- ---- tables of the right lengths
+pub record Shaped (s : State) : Type 0 where
+  pub some-records : 1 ≤ length (s .waitingTable)
+  pub most-records : length (s .waitingTable) ≤ mostRecords
+  pub clients : length (s .clientTable) ≡ s .head .clients
+  pub waits : s .head .waiting ≤ length (s .waitingTable)
+
+-- ---- sound tables
+abbrev pub Ahead : ℕ → Request → Type 0
+Ahead clock w = (suc clock ≤ w .deadline) × (w .deadline ≤ clock + mostAhead)
+
+abbrev pub Given : ℕ → Request → Type 0
+Given last w = (1 ≤ w .number) × (w .number ≤ last)
+
+abbrev pub Owned : ℕ → Request → Type 0
+Owned clients w = w .client < clients
+
+abbrev pub Balanced : List Request → ℕ → Counts → Type 0
+Balanced ws client k = (k .submitted ≡ k .served + k .dropped + waitingOf client ws) × (k .submitted ≤ mostCounted)
+
+pub record Sound (s : State) : Type 0 where
+  pub headed : HeadWithin (s .head)
+  pub ordered : InOrder (waiting s)
+  pub ahead : All (Ahead (s .head .clock)) (waiting s)
+  pub given : All (Given (s .head .last)) (waiting s)
+  pub owned : All (Owned (s .head .clients)) (waiting s)
+  pub feasible : Feasible (s .head .clock) (waiting s)
+  pub zeros : behind s ≡ replicate (length (behind s)) zeroRequest
+  pub balanced : (c : ℕ) → c < length (s .clientTable) → Balanced (waiting s) c (getD (s .clientTable) c zeroCounts)
+
+balanced-facts : (ws : List Request) (client : ℕ) (k : Counts) → isBalanced ws client k ≡ true → Balanced ws client k
+unfolding isBalanced
+balanced-facts ws client k e =
+    let sum = eqb (k .submitted) (k .served + k .dropped + waitingOf client ws) in
+    let most = leb (k .submitted) mostCounted in
+    (eqb-true (k .submitted) (k .served + k .dropped + waitingOf client ws) (and-left sum most e), leb-true (k .submitted) mostCounted (and-right sum most e))
+
+balanced-test : (ws : List Request) (client : ℕ) (k : Counts) → Balanced ws client k → isBalanced ws client k ≡ true
+unfolding isBalanced
+balanced-test ws client k b =
+    and-both (eqb (k .submitted) (k .served + k .dropped + waitingOf client ws)) (leb (k .submitted) mostCounted)
+    (eq-eqb (k .submitted) (k .served + k .dropped + waitingOf client ws) (b .0)) (le-leb (k .submitted) mostCounted (b .1))
+
+pub sound-facts : (s : State) → isSound s ≡ true → Sound s
+unfolding isSound
+sound-facts s e =
+    let p = simp and-eq-true-iff at e in
+    record {
+      headed = head-facts (s .head) (p .0 .0 .0 .0 .0 .0 .0);
+      ordered = order-facts (waiting s) (p .0 .0 .0 .0 .0 .0 .1);
+      ahead =
+          all-imp (λ (w : Request). isAhead (s .head .clock) (w .deadline) ≡ true) (Ahead (s .head .clock)) (waiting s)
+          (λ w h. within-facts (suc (s .head .clock)) (s .head .clock + mostAhead) (w .deadline) h)
+          (every-facts (λ w. isAhead (s .head .clock) (w .deadline)) (waiting s) (p .0 .0 .0 .0 .0 .1));
+      given =
+          all-imp (λ (w : Request). isGiven (s .head .last) (w .number) ≡ true) (Given (s .head .last)) (waiting s)
+          (λ w h. within-facts 1 (s .head .last) (w .number) h)
+          (every-facts (λ w. isGiven (s .head .last) (w .number)) (waiting s) (p .0 .0 .0 .0 .1));
+      owned =
+          all-imp (λ (w : Request). isClient (s .head .clients) (w .client) ≡ true) (Owned (s .head .clients)) (waiting s)
+          (λ w h. ltb-true (w .client) (s .head .clients) h)
+          (every-facts (λ w. isClient (s .head .clients) (w .client)) (waiting s) (p .0 .0 .0 .1));
+      feasible = feasible-facts (s .head .clock) (waiting s) (p .0 .0 .1);
+      zeros = zeros-facts (behind s) (p .0 .1);
+      balanced =
+          λ c h. balanced-facts (waiting s) c (getD (s .clientTable) c zeroCounts)
+          (everyFrom-facts (isBalanced (waiting s)) (s .clientTable) (p .1) c zeroCounts h);
+    }
+
+pub sound-test : (s : State) → Sound s → isSound s ≡ true
+unfolding isSound
+sound-test s f =
+    rw (
+      head-test (s .head) (f .headed),
+      order-test (waiting s) (f .ordered),
+      every-test (λ w. isAhead (s .head .clock) (w .deadline)) (waiting s)
+          (all-imp (Ahead (s .head .clock)) (λ (w : Request). isAhead (s .head .clock) (w .deadline) ≡ true) (waiting s)
+          (λ w h. within-test (suc (s .head .clock)) (s .head .clock + mostAhead) (w .deadline) (h .0) (h .1)) (f .ahead)),
+      every-test (λ w. isGiven (s .head .last) (w .number)) (waiting s)
+          (all-imp (Given (s .head .last)) (λ (w : Request). isGiven (s .head .last) (w .number) ≡ true) (waiting s)
+          (λ w h. within-test 1 (s .head .last) (w .number) (h .0) (h .1)) (f .given)),
+      every-test (λ w. isClient (s .head .clients) (w .client)) (waiting s)
+          (all-imp (Owned (s .head .clients)) (λ (w : Request). isClient (s .head .clients) (w .client) ≡ true) (waiting s)
+          (λ w h. lt-ltb (w .client) (s .head .clients) h) (f .owned)),
+      feasible-test (s .head .clock) (waiting s) (f .feasible),
+      zeros-all (behind s) (f .zeros),
+      everyFrom-test (isBalanced (waiting s)) (s .clientTable) zeroCounts
+          (λ c h. balanced-test (waiting s) c (getD (s .clientTable) c zeroCounts) (f .balanced c h)),
+    )

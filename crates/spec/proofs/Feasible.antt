@@ -1,0 +1,198 @@
+-- Overfull deadlines as counts: no deadline of the requests is overfull where no number at all is. Assumes nothing.
+use Prim.Native.Nat.{ℕ, zero, suc, _+_, _-_, _≤_, _<_, min}
+use mathlib.Core.Path.{_≡_, refl, sym, ap, _∙_}
+use mathlib.Core.Bool.{Bool, true, false, not, cond, true≢false, false≢true}
+use mathlib.Core.List.{List, [], _∷_}
+use native.Mathlib.Omega.{arith}
+use borrow.Author.Tests.{ltb-true, ltb-false, le-ltb, lt-ltb, not-true}
+use lib.Dec.{leb, ltb}
+use lib.ListN.{length, getD}
+use Rattle.slots.specs.Room.{room}
+use Rattle.slots.proofs.Room.{room-mono}
+use Rattle.slots.proofs.Tests.{Test, holds, fails, test, le, gt, order}
+use Rattle.slots.proofs.Sums.{All, all-each, all-imp, total, total-le}
+use Rattle.spec.specs.declared.types.Request.{Request}
+use Rattle.spec.specs.Every.{toNumber, every, countIf}
+use Rattle.spec.specs.Order.{putInOrder, removeAt}
+use Rattle.spec.specs.Chart.{dueBy, isOverfull, hasNoOverfull, Search, nothing, found, searchOverfull, firstOverfull}
+use Rattle.spec.proofs.Laws.{every-facts, every-test, count-total, to-number-most, total-remove}
+use Rattle.spec.proofs.Order.{InOrder, Before, before-deadline, total-put}
+
+-- ---- one request due by D, counted
+unfoldable pub due : ℕ → Request → ℕ
+due D w = toNumber (leb (w .deadline) D)
+
+pub due-most : (D : ℕ) (w : Request) → due D w ≤ 1
+unfolding due
+due-most D w = to-number-most (leb (w .deadline) D)
+
+pub due-yes : (D : ℕ) (w : Request) → w .deadline ≤ D → due D w ≡ 1
+unfolding due
+due-yes D w h = go (leb (w .deadline) D) (test (w .deadline) D)
+  where
+    go : (x : Bool) → Test (w .deadline) D x → toNumber x ≡ 1
+    go true (holds g) = refl
+    go false (fails g) = absurd (omega arith)
+
+pub due-no : (D : ℕ) (w : Request) → D < w .deadline → due D w ≡ 0
+unfolding due
+due-no D w h = go (leb (w .deadline) D) (test (w .deadline) D)
+  where
+    go : (x : Bool) → Test (w .deadline) D x → toNumber x ≡ 0
+    go true (holds g) = absurd (omega arith)
+    go false (fails g) = refl
+
+pub due-mono : (x y : ℕ) → x ≤ y → (w : Request) → due x w ≤ due y w
+due-mono x y h w =
+    elim (order (w .deadline) x) [
+      | le g ↦ omega (arith, due-yes x w g, due-yes y w (omega arith))
+      | gt g ↦ omega (arith, due-no x w g)
+    ]
+
+pub dueBy-total : (D : ℕ) (ws : List Request) → dueBy D ws ≡ total (due D) ws
+unfolding dueBy due
+dueBy-total D ws = count-total (λ w. leb (w .deadline) D) ws
+
+pub dueBy-cons : (D : ℕ) (w : Request) (ws : List Request) → dueBy D (w ∷ ws) ≡ due D w + dueBy D ws
+unfolding dueBy due countIf
+dueBy-cons D w ws = refl
+
+pub dueBy-mono : (x y : ℕ) (ws : List Request) → x ≤ y → dueBy x ws ≤ dueBy y ws
+dueBy-mono x y ws h = omega (arith, dueBy-total x ws, dueBy-total y ws, total-le (due x) (due y) ws (due-mono x y h))
+
+pub dueBy-put : (D : ℕ) (r : Request) (ws : List Request) → dueBy D (putInOrder r ws) ≡ due D r + dueBy D ws
+dueBy-put D r ws = omega (arith, dueBy-total D (putInOrder r ws), dueBy-total D ws, total-put (due D) r ws)
+
+pub dueBy-remove : (D k : ℕ) (z : Request) (ws : List Request) → k < length ws → dueBy D ws ≡ due D (getD ws k z) + dueBy D (removeAt k ws)
+dueBy-remove D k z ws h = omega (arith, dueBy-total D (removeAt k ws), dueBy-total D ws, total-remove (due D) k z ws h)
+
+-- none is due before the first in order
+pub dueBy-none : (D : ℕ) (ws : List Request) → All (λ (w : Request). D < w .deadline) ws → dueBy D ws ≡ 0
+unfolding dueBy countIf
+dueBy-none D [] a = refl
+dueBy-none D (w ∷ ws) a = omega (arith, dueBy-cons D w ws, due-no D w (a .0), dueBy-none D ws (a .1))
+
+-- each request is due by its own deadline
+pub dueBy-self : (ws : List Request) → All (λ (w : Request). 1 ≤ dueBy (w .deadline) ws) ws
+dueBy-self [] = tt
+dueBy-self (w ∷ ws) = (
+  omega (arith, dueBy-cons (w .deadline) w ws, due-yes (w .deadline) w (omega arith)),
+  all-imp (λ (v : Request). 1 ≤ dueBy (v .deadline) ws) (λ (v : Request). 1 ≤ dueBy (v .deadline) (w ∷ ws)) ws
+      (λ v h. omega (arith, dueBy-cons (v .deadline) w ws)) (dueBy-self ws),
+)
+
+-- ---- there is room for all that are due by any D
+abbrev pub Feasible : ℕ → List Request → Type 0
+Feasible clock ws = (D : ℕ) → dueBy D ws ≤ room clock D
+
+pub overfull-facts : (clock : ℕ) (ws : List Request) (D : ℕ) → isOverfull clock ws D ≡ true → room clock D < dueBy D ws
+unfolding isOverfull
+overfull-facts clock ws D e = ltb-true (room clock D) (dueBy D ws) e
+
+pub roomy-facts : (clock : ℕ) (ws : List Request) (D : ℕ) → isOverfull clock ws D ≡ false → dueBy D ws ≤ room clock D
+unfolding isOverfull
+roomy-facts clock ws D e = ltb-false (room clock D) (dueBy D ws) e
+
+pub roomy-test : (clock : ℕ) (ws : List Request) (D : ℕ) → dueBy D ws ≤ room clock D → isOverfull clock ws D ≡ false
+unfolding isOverfull
+roomy-test clock ws D h = le-ltb (room clock D) (dueBy D ws) h
+
+pub overfull-test : (clock : ℕ) (ws : List Request) (D : ℕ) → room clock D < dueBy D ws → isOverfull clock ws D ≡ true
+unfolding isOverfull
+overfull-test clock ws D h = lt-ltb (room clock D) (dueBy D ws) h
+
+-- of those that are due by D one is the last, and all of those are due by its deadline; p holds of it
+pub data Last (p : Request → Type 0) (D : ℕ) (ws : List Request) : Type 0 where
+  none-due : dueBy D ws ≡ 0 → Last p D ws
+  last-due : (w : Request) → p w → w .deadline ≤ D → dueBy D ws ≤ dueBy (w .deadline) ws → Last p D ws
+
+pub last : (p : Request → Type 0) (D : ℕ) (ws : List Request) → All p ws → Last p D ws
+last p D [] a = none-due (dueBy-none D [] tt)
+last p D (w ∷ ws) a = go (last p D ws (a .1))
+  where
+    go : Last p D ws → Last p D (w ∷ ws)
+    go (none-due h) =
+        elim (order (w .deadline) D) [
+          | le g ↦ last-due w (a .0) g (omega (arith, dueBy-cons D w ws, dueBy-cons (w .deadline) w ws, due-most D w, due-yes (w .deadline) w (omega arith)))
+          | gt g ↦ none-due (omega (arith, dueBy-cons D w ws, due-no D w g))
+        ]
+    go (last-due v q l h) =
+        elim (order (w .deadline) D) [
+          | le g ↦
+              elim (order (w .deadline) (v .deadline)) [
+                | le k ↦ last-due v q l (omega (arith, dueBy-cons D w ws, dueBy-cons (v .deadline) w ws, due-most D w, due-yes (v .deadline) w k))
+                | gt k ↦
+                    last-due w (a .0) g
+                    (omega (arith, dueBy-cons D w ws, dueBy-cons (w .deadline) w ws, due-most D w, due-yes (w .deadline) w (omega arith), dueBy-mono (v .deadline) (w .deadline) ws (omega arith)))
+              ]
+          | gt g ↦ last-due v q l (omega (arith, dueBy-cons D w ws, dueBy-cons (v .deadline) w ws, due-no D w g))
+        ]
+
+-- where the last that is due by D has room, D has
+roomy-last : (clock D : ℕ) (ws : List Request) → Last (λ (w : Request). dueBy (w .deadline) ws ≤ room clock (w .deadline)) D ws → dueBy D ws ≤ room clock D
+roomy-last clock D ws (none-due h) = omega arith
+roomy-last clock D ws (last-due w p l h) = omega (arith, room-mono clock (w .deadline) D l)
+
+pub feasible-facts : (clock : ℕ) (ws : List Request) → hasNoOverfull clock ws ≡ true → Feasible clock ws
+unfolding hasNoOverfull
+feasible-facts clock ws e D =
+    roomy-last clock D ws (last ok D ws (all-imp passed ok ws each (every-facts (λ w. not (isOverfull clock ws (w .deadline))) ws e)))
+  where
+    ok : Request → Type 0
+    ok w = dueBy (w .deadline) ws ≤ room clock (w .deadline)
+
+    passed : Request → Type 0
+    passed w = not (isOverfull clock ws (w .deadline)) ≡ true
+
+    each : (w : Request) → passed w → ok w
+    each w p = roomy-facts clock ws (w .deadline) (not-true (isOverfull clock ws (w .deadline)) p)
+
+pub feasible-test : (clock : ℕ) (ws : List Request) → Feasible clock ws → hasNoOverfull clock ws ≡ true
+unfolding hasNoOverfull
+feasible-test clock ws f =
+    every-test (λ w. not (isOverfull clock ws (w .deadline))) ws
+    (all-each (λ (w : Request). not (isOverfull clock ws (w .deadline)) ≡ true) ws
+    (λ w. ap not (roomy-test clock ws (w .deadline) (f (w .deadline)))))
+
+-- ---- the search: the deadline that it yields is the smallest overfull one
+data Scan (clock : ℕ) (all ys : List Request) : Search → Type 0 where
+  clear : All (λ (w : Request). dueBy (w .deadline) all ≤ room clock (w .deadline)) ys → Scan clock all ys nothing
+  hit :
+      (D : ℕ) → room clock D < dueBy D all
+      → All (λ (w : Request). w .deadline < D → dueBy (w .deadline) all ≤ room clock (w .deadline)) ys → Scan clock all ys (found D)
+
+scan : (clock : ℕ) (all ys : List Request) → InOrder ys → Scan clock all ys (searchOverfull clock all ys)
+unfolding searchOverfull
+scan clock all [] o = clear tt
+scan clock all (w ∷ ys) o = go (isOverfull clock all (w .deadline)) (overfull-facts clock all (w .deadline)) (roomy-facts clock all (w .deadline)) (scan clock all ys (o .1))
+  where
+    go : (x : Bool) → (x ≡ true → room clock (w .deadline) < dueBy (w .deadline) all)
+        → (x ≡ false → dueBy (w .deadline) all ≤ room clock (w .deadline)) → {f : Search} → Scan clock all ys f
+        → Scan clock all (w ∷ ys) (cond x (found (w .deadline)) f)
+    go true t u r =
+        hit (w .deadline) (t refl) (
+          (λ h. absurd (omega arith)),
+          all-imp (Before w) (λ (v : Request). v .deadline < w .deadline → dueBy (v .deadline) all ≤ room clock (v .deadline)) ys
+              (λ v b h. absurd (omega (arith, before-deadline w v b))) (o .0),
+        )
+    go false t u (clear a) = clear (u refl, a)
+    go false t u (hit D h a) = hit D h ((λ g. u refl), a)
+
+pub data Verdict (clock : ℕ) (ws : List Request) : Search → Type 0 where
+  fine : Feasible clock ws → Verdict clock ws nothing
+  over :
+      (D : ℕ) → room clock D < dueBy D ws → ((x : ℕ) → x < D → dueBy x ws ≤ room clock x) → Verdict clock ws (found D)
+
+pub verdict : (clock : ℕ) (ws : List Request) → InOrder ws → Verdict clock ws (firstOverfull clock ws)
+verdict clock ws o = go (scan clock ws ws o)
+  where
+    ok : Request → Type 0
+    ok w = dueBy (w .deadline) ws ≤ room clock (w .deadline)
+
+    below : (D x : ℕ) → x < D → Last (λ (w : Request). w .deadline < D → ok w) x ws → Last ok x ws
+    below D x h (none-due e) = none-due e
+    below D x h (last-due w p l e) = last-due w (p (omega arith)) l e
+
+    go : {f : Search} → Scan clock ws ws f → Verdict clock ws f
+    go (clear a) = fine (λ D. roomy-last clock D ws (last ok D ws a))
+    go (hit D h a) = over D h (λ x l. roomy-last clock x ws (below D x l (last (λ (w : Request). w .deadline < D → ok w) x ws a)))

@@ -1,0 +1,69 @@
+-- The occupancy chart and overfull deadlines: document 01, "Chart and victim". Assumes nothing.
+use Prim.Native.Nat.{ℕ, suc, _-_, min}
+use mathlib.Core.Bool.{Bool, not, cond}
+use mathlib.Core.List.{List, [], _∷_}
+use lib.Dec.{leb, ltb, eqb}
+use Rattle.slots.specs.Room.{room}
+use Rattle.spec.specs.declared.types.Request.{Request}
+use Rattle.spec.specs.Every.{every, countIf}
+
+-- "a request ends at the smaller of its deadline and the start of the record behind it": behind it are the starts of the later ones
+abbrev pub endOf : Request → List ℕ → ℕ
+endOf w [] = w .deadline
+endOf w (start ∷ later) = min (w .deadline) start
+
+-- ".. and starts one slot earlier."
+abbrev pub startBefore : Request → List ℕ → List ℕ
+startBefore w later = (endOf w later - 1) ∷ later
+
+-- "From the last record to the first": the start slots, in chart order
+unfoldable pub startsOf : List Request → List ℕ
+startsOf [] = []
+startsOf (w ∷ ws) = startBefore w (startsOf ws)
+
+-- "Segments are the longest runs of touching intervals, given as [left, right]."
+pub record Segment : Type 0 where
+  pub left : ℕ
+  pub right : ℕ
+
+-- an interval that ends at `end` touches one that starts at `start`
+abbrev pub doTouch : ℕ → ℕ → Bool
+doTouch end start = eqb end start
+
+-- the segments with the interval of one more start slot, on their left
+abbrev pub joinLeft : ℕ → List Segment → List Segment
+joinLeft s [] = record { left = s; right = suc s } ∷ []
+joinLeft s (g ∷ gs) =
+    cond (doTouch (suc s) (g .left))
+    (record { left = s; right = g .right } ∷ gs)
+    (record { left = s; right = suc s } ∷ g ∷ gs)
+
+unfoldable pub segmentsOf : List ℕ → List Segment
+segmentsOf [] = []
+segmentsOf (s ∷ starts) = joinLeft s (segmentsOf starts)
+
+-- how many requests have deadlines at most D
+unfoldable pub dueBy : ℕ → List Request → ℕ
+dueBy D ws = countIf (λ w. leb (w .deadline) D) ws
+
+-- "A deadline D is overfull if more than D minus the clock requests have deadlines at most D."
+unfoldable pub isOverfull : ℕ → List Request → ℕ → Bool
+isOverfull clock ws D = ltb (room clock D) (dueBy D ws)
+
+-- whether no deadline of the requests is overfull: "every request can still finish"
+unfoldable pub hasNoOverfull : ℕ → List Request → Bool
+hasNoOverfull clock ws = every (λ w. not (isOverfull clock ws (w .deadline))) ws
+
+-- what a search comes to
+pub data Search : Type 0 where
+  nothing : Search
+  found : ℕ → Search
+
+-- "The search for an overfull deadline ends at the first one found and yields it.": ws are those still to look at
+unfoldable pub searchOverfull : ℕ → List Request → List Request → Search
+searchOverfull clock all [] = nothing
+searchOverfull clock all (w ∷ ws) =
+    cond (isOverfull clock all (w .deadline)) (found (w .deadline)) (searchOverfull clock all ws)
+
+abbrev pub firstOverfull : ℕ → List Request → Search
+firstOverfull clock ws = searchOverfull clock ws ws

@@ -1,0 +1,11 @@
+pub mod Every
+pub mod Tables
+pub mod Order
+pub mod Chart
+pub mod Victim
+pub mod Sound
+pub mod Refusals
+pub mod Calls
+pub mod Lists
+pub mod Frames
+pub mod Session

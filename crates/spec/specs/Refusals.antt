@@ -1,0 +1,97 @@
+-- The refusals, document 01, "Refusals, first match wins". Assumes nothing.
+use Prim.Native.Nat.{ℕ}
+use mathlib.Core.Bool.{Bool, not, cond, _||_}
+use mathlib.Core.List.{List, [], _∷_}
+use lib.Dec.{leb, ltb, eqb}
+use lib.ListN.{length, getD}
+use Rattle.spec.specs.Every.{isWithin}
+use Rattle.spec.specs.Tables.{mostClients, mostRecords, mostPeriod, mostCounted, clockEnd, numberEnd, zeroCounts, State}
+use Rattle.spec.specs.Sound.{isAhead, isClient, isSound}
+
+-- a refusal's number, and whether its condition holds
+pub record Refusal : Type 0 where
+  pub number : ℕ
+  pub holds : Bool
+
+-- "first match wins": the number of the first whose condition holds, 0 where none does
+unfoldable pub firstMatch : List Refusal → ℕ
+firstMatch [] = 0
+firstMatch (r ∷ rs) = cond (r .holds) (r .number) (firstMatch rs)
+
+-- "2. Open: clients outside 1 to 256."
+abbrev pub refusal2 : ℕ → Refusal
+refusal2 clients = record { number = 2; holds = not (isWithin 1 mostClients clients) }
+
+-- "3. Open: period outside its bounds."
+abbrev pub refusal3 : ℕ → Refusal
+refusal3 period = record { number = 3; holds = not (isWithin 1 mostPeriod period) }
+
+-- "4. All calls: the waiting table has no records or more than 2,048, or the client table's length differs from the number of
+-- clients (in open, the number given)."
+abbrev pub isMisshapen : ℕ → State → Bool
+isMisshapen clients s =
+    not (isWithin 1 mostRecords (length (s .waitingTable))) || not (eqb (length (s .clientTable)) clients)
+
+abbrev pub refusal4Open : ℕ → State → Refusal
+refusal4Open clients s = record { number = 4; holds = isMisshapen clients s }
+
+-- ".. All but open: the waiting count exceeds the waiting table's length."
+abbrev pub refusal4 : State → Refusal
+refusal4 s =
+    record { number = 4; holds = isMisshapen (s .head .clients) s || ltb (length (s .waitingTable)) (s .head .waiting) }
+
+-- "5. All calls but open: the tables are not sound."
+abbrev pub refusal5 : State → Refusal
+refusal5 s = record { number = 5; holds = not (isSound s) }
+
+-- "6. Submit and report: the client does not exist."
+abbrev pub refusal6 : ℕ → State → Refusal
+refusal6 client s = record { number = 6; holds = not (isClient (s .head .clients) client) }
+
+-- "7. Submit: the deadline is not after the clock, or more than 65,535 after it, all slots counted."
+abbrev pub refusal7 : ℕ → State → Refusal
+refusal7 deadline s = record { number = 7; holds = not (isAhead (s .head .clock) deadline) }
+
+-- "8. Submit: the client's submitted is 268,435,455."
+abbrev pub refusal8 : ℕ → State → Refusal
+refusal8 client s = record { number = 8; holds = eqb (getD (s .clientTable) client zeroCounts .submitted) mostCounted }
+
+-- "9. Submit: the last request number has been given."
+abbrev pub refusal9 : State → Refusal
+refusal9 s = record { number = 9; holds = eqb (s .head .last) numberEnd }
+
+-- "10. Submit: the waiting count equals the table's length."
+abbrev pub refusal10 : State → Refusal
+refusal10 s = record { number = 10; holds = eqb (s .head .waiting) (length (s .waitingTable)) }
+
+-- "11. Tick: the clock is at its end."
+abbrev pub refusal11 : State → Refusal
+refusal11 s = record { number = 11; holds = eqb (s .head .clock) clockEnd }
+
+-- "12. Chart: the output is shorter than the waiting count."
+abbrev pub refusal12 : List ℕ → State → Refusal
+refusal12 output s = record { number = 12; holds = ltb (length output) (s .head .waiting) }
+
+-- each call's list, in the paper's order
+unfoldable pub openRefusals : ℕ → ℕ → State → List Refusal
+openRefusals clients period s = refusal2 clients ∷ refusal3 period ∷ refusal4Open clients s ∷ []
+
+unfoldable pub submitRefusals : ℕ → ℕ → State → List Refusal
+submitRefusals client deadline s =
+    refusal4 s
+    ∷ refusal5 s
+    ∷ refusal6 client s
+    ∷ refusal7 deadline s
+    ∷ refusal8 client s
+    ∷ refusal9 s
+    ∷ refusal10 s
+    ∷ []
+
+unfoldable pub tickRefusals : State → List Refusal
+tickRefusals s = refusal4 s ∷ refusal5 s ∷ refusal11 s ∷ []
+
+unfoldable pub reportRefusals : ℕ → State → List Refusal
+reportRefusals client s = refusal4 s ∷ refusal5 s ∷ refusal6 client s ∷ []
+
+unfoldable pub chartRefusals : List ℕ → State → List Refusal
+chartRefusals output s = refusal4 s ∷ refusal5 s ∷ refusal12 output s ∷ []

@@ -1,0 +1,75 @@
+-- Bounds, records and the whole state of the queue: document 01, "Tables and bounds". Each number of the document stands here once.
+-- Assumes nothing.
+use Prim.Native.Nat.{ℕ, _-_}
+use mathlib.Core.List.{List, _++_}
+use lib.ListN.{length, take, drop, replicate}
+use Rattle.spec.specs.declared.types.Head.{Head}
+use Rattle.spec.specs.declared.types.Request.{Request}
+use Rattle.spec.specs.declared.types.Counts.{Counts}
+
+-- "Clients: 1 to 256, numbered from 0."
+abbrev pub mostClients : ℕ
+mostClients = 256
+
+-- "The waiting requests are records in a lent table of 1 to 2,048 records."
+abbrev pub mostRecords : ℕ
+mostRecords = 2048
+
+-- "submitted, served, dropped, each at most 268,435,455."
+abbrev pub mostCounted : ℕ
+mostCounted = 268435455
+
+-- "Clock and request numbers end at 281,474,976,710,655."
+abbrev pub clockEnd : ℕ
+clockEnd = 281474976710655
+
+abbrev pub numberEnd : ℕ
+numberEnd = clockEnd
+
+-- "Period: 1 to 4,294,967,295 slots."
+abbrev pub mostPeriod : ℕ
+mostPeriod = 4294967295
+
+-- "each deadline is past the clock by 1 to 65,535"
+abbrev pub mostAhead : ℕ
+mostAhead = 65535
+
+-- A record that is zero.
+abbrev pub zeroRequest : Request
+zeroRequest = record { deadline = 0; number = 0; client = 0 }
+
+abbrev pub zeroCounts : Counts
+zeroCounts = record { submitted = 0; served = 0; dropped = 0 }
+
+-- The head and the two lent tables, whatever they hold.
+pub record State : Type 0 where
+  pub head : Head
+  pub waitingTable : List Request
+  pub clientTable : List Counts
+
+-- the waiting requests, and the records behind them
+abbrev pub waiting : State → List Request
+waiting s = take (s .head .waiting) (s .waitingTable)
+
+abbrev pub behind : State → List Request
+behind s = drop (s .head .waiting) (s .waitingTable)
+
+-- a table of n records that holds these requests: "every record behind the waiting ones is zero"
+abbrev pub holding : ℕ → List Request → List Request
+holding n ws = ws ++ replicate (n - length ws) zeroRequest
+
+-- the state with another clock, last number, waiting requests and client table
+unfoldable pub nextState : ℕ → ℕ → List Request → List Counts → State → State
+nextState clock last ws cs s =
+    record {
+      head =
+          record {
+            clients = s .head .clients;
+            period = s .head .period;
+            clock = clock;
+            last = last;
+            waiting = length ws;
+          };
+      waitingTable = holding (length (s .waitingTable)) ws;
+      clientTable = cs;
+    }

@@ -1,0 +1,3 @@
+// The recorder's read queue as definitions: the declared types here, everything that contracts cite in specs/, and the
+// theorems about it in proofs/. No code.
+pub mod types;

@@ -1,0 +1,78 @@
+// The types of the queue, document 01, "Tables and bounds" and "Calls".
+
+// "A record has a deadline, a request number and a client."
+pub struct Request {
+    pub deadline: u64,
+    pub number: u64,
+    pub client: u64,
+}
+
+// "The client table has one record a client: submitted, served, dropped"
+pub struct Counts {
+    pub submitted: u32,
+    pub served: u32,
+    pub dropped: u32,
+}
+
+// "The head, passed and handed back: clients, period, clock, last request number, waiting count."
+pub struct Head {
+    pub clients: u64,
+    pub period: u64,
+    pub clock: u64,
+    pub last: u64,
+    pub waiting: u64,
+}
+
+// What a call answers. specs/Frames.antt gives the paper's number and values of each case.
+pub enum Answer {
+    Opened,
+    Kept {
+        number: u64,
+        place: u64,
+    },
+    Dropped {
+        number: u64,
+        victim: u64,
+        client: u64,
+    },
+    Served {
+        slot: u64,
+        number: u64,
+        client: u64,
+    },
+    Idle {
+        slot: u64,
+    },
+    Reported {
+        client: u64,
+        submitted: u64,
+        served: u64,
+        dropped: u64,
+        waiting: u64,
+    },
+    Charted {
+        count: u64,
+    },
+    Refused {
+        number: u64,
+    },
+}
+
+// A session line, document 01, "Session lines"; `Bad` is a line that is no frame.
+pub enum Frame {
+    Open {
+        clients: u64,
+        period: u64,
+        records: u64,
+    },
+    Submit {
+        client: u64,
+        deadline: u64,
+    },
+    Tick,
+    Report {
+        client: u64,
+    },
+    Chart,
+    Bad,
+}
