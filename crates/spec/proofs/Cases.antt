@@ -1,27 +1,18 @@
--- The worked reads that document 01 marks P, as one table that is checked by one theorem, and the document's session.
+-- The worked reads that document 01 marks P, as one table that is checked by one theorem.
 -- Assumes nothing.
 use Prim.Native.Nat.{ℕ}
-use Prim.Native.Char.{code}
-use Prim.Native.String.{String, [] as []ˢ, _∷_ as _∷ˢ_}
 use mathlib.Core.Path.{_≡_, refl}
 use mathlib.Core.List.{List, [], _∷_, _++_, map, reverse}
 use lib.ListN.{replicate}
-use Rattle.slots.specs.Room.{room}
 use Rattle.spec.specs.declared.types.Request.{Request}
 use Rattle.spec.specs.declared.types.Counts.{Counts}
 use Rattle.spec.specs.declared.types.Answer.{Answer}
 use Rattle.spec.specs.declared.types.Answer.the-variants.{Opened, Kept, Dropped, Served, Idle, Refused}
-use Rattle.spec.specs.Every.{every, everyFrom, countIf, mapFrom, exists, select}
-use Rattle.spec.specs.Tables.{State, waiting, holding, zeroRequest, zeroCounts, nextState}
-use Rattle.spec.specs.Order.{comesBefore, isInOrder, placeOf, putInOrder, removeAt}
-use Rattle.spec.specs.Chart.{startsOf, segmentsOf, Segment, dueBy, isOverfull, hasNoOverfull}
-use Rattle.spec.specs.Victim.{isCandidate, candidatesFrom, hasSmallerRatio, smallestOf, victimOf}
-use Rattle.spec.specs.Sound.{isHeadWithin, isZeroRequest, waitingOf, isBalanced, isSound}
-use Rattle.spec.specs.Refusals.{firstMatch, openRefusals, submitRefusals, tickRefusals, reportRefusals, chartRefusals}
-use Rattle.spec.specs.Calls.{openOf, opened, change, kept, droppedAt, submitted, submitOf, ticked, tickOf, reported, reportOf, charted, chartOf, chartOutput}
+use Rattle.spec.specs.Tables.{State, waiting, holding, zeroRequest, zeroCounts}
+use Rattle.spec.specs.Chart.{Segment, startsOf, segmentsOf}
+use Rattle.spec.specs.Calls.{openOf}
 use Rattle.spec.specs.Lists.{Call, submit, tick, outcomeOf, run, history, Event}
-use Rattle.spec.specs.Frames.{digitOf, characterOf, numberFrom, digits, frameWith, frameOf, kindOf, valuesOf, fieldDigits, lineOf, segmentLines}
-use Rattle.spec.specs.Session.{textOf, atStart, reply, replies, session}
+use Rattle.spec.proofs.Computed.{calls}
 
 -- a state to begin with, calls from the first to the last, and what they come to: the answers, and the chart at the end
 pub record Case : Type 0 where
@@ -108,46 +99,5 @@ given c =
     }
 
 pub worked-reads : map given cases ≡ map said cases
-unfolding room every everyFrom countIf mapFrom comesBefore isInOrder placeOf putInOrder removeAt startsOf segmentsOf dueBy isOverfull hasNoOverfull isCandidate candidatesFrom hasSmallerRatio smallestOf victimOf isHeadWithin isZeroRequest waitingOf isBalanced isSound firstMatch openRefusals submitRefusals tickRefusals openOf opened change nextState kept droppedAt submitted submitOf ticked tickOf outcomeOf run history
+unfolding calls outcomeOf run history
 worked-reads = refl
-
--- ---- the session of document 01
--- the bytes of lines of text, each with its line feed
-abbrev pub line : String → List ℕ
-line []ˢ = 10 ∷ []
-line (c ∷ˢ s) = code c ∷ line s
-
-abbrev pub text : List String → List ℕ
-text [] = []
-text (l ∷ ls) = line l ++ text ls
-
-abbrev pub input : List ℕ
-input =
-    text (
-    "010002000000640008"
-    ∷ "0200000000000000000001"
-    ∷ "0200010000000000000002"
-    ∷ "0200010000000000000001"
-    ∷ "05"
-    ∷ "03"
-    ∷ "040001"
-    ∷ []
-    )
-
-abbrev pub output : List ℕ
-output =
-    text (
-    "81"
-    ∷ "8200000000000000010000"
-    ∷ "8200000000000000020001"
-    ∷ "83000000000000000300000000000000030001"
-    ∷ "8700000000000000000000000000000002"
-    ∷ "880001"
-    ∷ "84000000000000000000000000000000010000"
-    ∷ "8600010000000200000000000000010001"
-    ∷ []
-    )
-
-pub worked-session : session input ≡ output
-unfolding digits characterOf digitOf numberFrom frameWith frameOf kindOf valuesOf fieldDigits lineOf segmentLines textOf atStart reply replies session every everyFrom countIf mapFrom room comesBefore isInOrder placeOf putInOrder removeAt startsOf segmentsOf dueBy isOverfull hasNoOverfull isCandidate candidatesFrom hasSmallerRatio smallestOf victimOf isHeadWithin isZeroRequest waitingOf isBalanced isSound firstMatch openRefusals submitRefusals tickRefusals reportRefusals chartRefusals openOf opened change nextState kept droppedAt submitted submitOf ticked tickOf reported reportOf charted chartOf chartOutput
-worked-session = refl

@@ -3,4 +3,13 @@ pub mod Order
 pub mod Feasible
 pub mod Facts
 pub mod Accepted
+pub mod Victim
+pub mod Refused
+pub mod Keeps
+pub mod Fair
+pub mod Latest
+pub mod Trace
+pub mod Counts
+pub mod Computed
 pub mod Cases
+pub mod Sessions

@@ -177,7 +177,8 @@ windowOf a = record { release = a .release; deadline = a .request .deadline }
 abbrev pub windows : List Event → List Window
 windows es = map windowOf (asked es)
 
--- ---- the queue's own plan: "the served ones in their slots and the waiting ones at the start slots that the chart call writes"
+-- ---- the queue's own plan: each served request in the slot that served it, each waiting one at the start slot that the chart
+-- call writes for it
 unfoldable pub charts : List Request → List ℕ → List Booking
 charts [] starts = []
 charts (w ∷ ws) [] = []

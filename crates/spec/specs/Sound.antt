@@ -11,7 +11,7 @@ use Rattle.spec.specs.Tables.{mostClients, mostPeriod, clockEnd, numberE
 use Rattle.spec.specs.Order.{isInOrder}
 use Rattle.spec.specs.Chart.{hasNoOverfull}
 
--- "the head is within these bounds"
+-- "the head is within these bounds and those of every value document 02 adds to it": so far it adds none
 unfoldable pub isHeadWithin : Head → Bool
 isHeadWithin h =
     isWithin 1 mostClients (h .clients)

@@ -1,0 +1,297 @@
+-- Counts: after any list of calls from open on, each client's counts are what the calls and answers since the last period start
+-- say. Assumes nothing.
+use Prim.Native.Nat.{ℕ, suc, _+_, _<_}
+use mathlib.Core.Path.{_≡_, refl, sym, ap, _∙_}
+use mathlib.Core.Bool.{Bool, true, false, cond, not, _&&_, true≢false}
+use mathlib.Core.List.{List, [], _∷_, map}
+use native.Mathlib.Nat.{zero-add}
+use native.Mathlib.Omega.{arith}
+use lib.Dec.{eqb}
+use lib.ListN.{length, getD, set, length-set, replicate, getD-replicate, length-replicate}
+use lib.Seq.{getD-set-same, getD-set-other}
+use Rattle.slots.proofs.Tests.{Same, same-yes, same-no, same}
+use Rattle.slots.proofs.Sums.{total, total-map}
+use Rattle.spec.specs.declared.types.Request.{Request}
+use Rattle.spec.specs.declared.types.Counts.{Counts}
+use Rattle.spec.specs.declared.types.Answer.{Answer}
+use Rattle.spec.specs.declared.types.Answer.the-variants.{Kept, Dropped, Served, Idle, Reported, Charted, Refused}
+use Rattle.spec.specs.Every.{toNumber, exists, countIf, mapFrom}
+use Rattle.spec.specs.Tables.{zeroCounts, State, waiting, nextState}
+use Rattle.spec.specs.Sound.{waitingOf}
+use Rattle.spec.specs.Calls.{Outcome, openOf, opened, change, oneMoreSubmitted, oneMoreServed, oneMoreDropped, isPeriodStart, restarted, countsAfter, oneLater, kept, droppedAt, submitted, submitOf, ticked, tickOf, reported, reportOf, reportAnswer, charted, chartOf, victimPlace, requestAt}
+use Rattle.spec.specs.Lists.{Call, opening, submit, tick, report, chart, outcomeOf, run, history, Event, isRefused, isOpened, isTick, ticks, Asked, Victim, waitingRequests, waitingBy, submitters, servedClients, victimClients, startsPeriod, sinceStart, countsSince}
+use Rattle.spec.specs.Refusals.{firstMatch, openRefusals, submitRefusals, tickRefusals, reportRefusals, chartRefusals}
+use Rattle.spec.proofs.Laws.{count-total, length-mapFrom, getD-mapFrom}
+use Rattle.spec.proofs.Accepted.{next-waiting, ReportReady, report-ready}
+use Rattle.spec.proofs.Refused.{accepted-none, accepted-same}
+use Rattle.spec.proofs.Trace.{Traced, event, requests, Submitted, keeps, drops, submitted-cases, Step, submits, serves, passes, traced-open, traced-step, along, accepted-open}
+
+-- ---- a client's counts, changed or not
+counts-path : (a b : Counts) → a .submitted ≡ b .submitted → a .served ≡ b .served → a .dropped ≡ b .dropped → a ≡ b
+counts-path a b p q r = λ i. record { submitted = p i; served = q i; dropped = r i }
+
+pub length-change : (f : Counts → Counts) (client : ℕ) (cs : List Counts) → length (change f client cs) ≡ length cs
+unfolding change
+length-change f client cs = length-set cs client (f (getD cs client zeroCounts))
+
+pub getD-change : (f : Counts → Counts) (client : ℕ) (cs : List Counts) (c : ℕ) → c < length cs
+    → getD (change f client cs) c zeroCounts ≡ cond (eqb c client) (f (getD cs c zeroCounts)) (getD cs c zeroCounts)
+unfolding change
+getD-change f client cs c h = go (eqb c client) (same c client)
+  where
+    go : (x : Bool) → Same c client x
+        → getD (set cs client (f (getD cs client zeroCounts))) c zeroCounts ≡ cond x (f (getD cs c zeroCounts)) (getD cs c zeroCounts)
+    go true (same-yes e) = rw e (getD-set-same cs client (f (getD cs client zeroCounts)) zeroCounts (omega arith))
+    go false (same-no n) = getD-set-other cs client c (f (getD cs client zeroCounts)) zeroCounts n
+
+-- ---- what one event adds
+abbrev adding : ℕ → ℕ → ℕ → Counts → Counts
+adding a b d k = record { submitted = a + k .submitted; served = b + k .served; dropped = d + k .dropped }
+
+adding-none : (k : Counts) → adding 0 0 0 k ≡ k
+adding-none k =
+    counts-path (adding 0 0 0 k) k (zero-add (k .submitted)) (zero-add (k .served)) (zero-add (k .dropped))
+
+-- where no period starts, an event adds one for each time that it names the client
+since-adds : (period c : ℕ) (e : Event) (es : List Event) → startsPeriod period e es ≡ false
+    → countsSince period c (e ∷ es)
+    ≡ adding (countIf (eqb c) (submitters e)) (countIf (eqb c) (servedClients e)) (countIf (eqb c) (victimClients e)) (countsSince period c es)
+unfolding countsSince sinceStart
+since-adds period c e es h =
+    counts-path (countsSince period c (e ∷ es))
+    (adding (countIf (eqb c) (submitters e)) (countIf (eqb c) (servedClients e)) (countIf (eqb c) (victimClients e)) (countsSince period c es))
+    (later (waitingBy c) submitters) (later (λ _. 0) servedClients) (later (λ _. 0) victimClients)
+  where
+    later : (atStart : List Event → ℕ) (names : Event → List ℕ)
+        → sinceStart atStart names period c (e ∷ es) ≡ countIf (eqb c) (names e) + sinceStart atStart names period c es
+    later atStart names = rw h
+
+-- where one starts, only what waits is counted
+since-starts : (period c : ℕ) (e : Event) (es : List Event) → startsPeriod period e es ≡ true
+    → countsSince period c (e ∷ es) ≡ record { submitted = waitingBy c (e ∷ es); served = 0; dropped = 0 }
+unfolding countsSince sinceStart
+since-starts period c e es h =
+    counts-path (countsSince period c (e ∷ es)) (record { submitted = waitingBy c (e ∷ es); served = 0; dropped = 0 })
+    (first (waitingBy c) submitters) (first (λ _. 0) servedClients) (first (λ _. 0) victimClients)
+  where
+    first : (atStart : List Event → ℕ) (names : Event → List ℕ) → sinceStart atStart names period c (e ∷ es) ≡ atStart (e ∷ es)
+    first atStart names = rw h
+
+named-one : (c x : ℕ) → countIf (eqb c) (x ∷ []) ≡ toNumber (eqb c x)
+unfolding countIf
+named-one c x = omega arith
+
+named-none : (c : ℕ) → countIf (eqb c) [] ≡ 0
+unfolding countIf
+named-none c = refl
+
+-- one more of a count, where the client is the one named
+module _ (x : Bool) (k : Counts) where
+  one-submitted : cond x (oneMoreSubmitted k) k ≡ adding (toNumber x) 0 0 k
+  one-submitted = go x
+    where
+      go : (y : Bool) → cond y (oneMoreSubmitted k) k ≡ adding (toNumber y) 0 0 k
+      go true = counts-path (oneMoreSubmitted k) (adding 1 0 0 k) (omega arith) (omega arith) (omega arith)
+      go false = sym (adding-none k)
+
+  one-served : cond x (oneMoreServed k) k ≡ adding 0 (toNumber x) 0 k
+  one-served = go x
+    where
+      go : (y : Bool) → cond y (oneMoreServed k) k ≡ adding 0 (toNumber y) 0 k
+      go true = counts-path (oneMoreServed k) (adding 0 1 0 k) (omega arith) (omega arith) (omega arith)
+      go false = sym (adding-none k)
+
+  one-dropped : cond x (oneMoreDropped k) k ≡ adding 0 0 (toNumber x) k
+  one-dropped = go x
+    where
+      go : (y : Bool) → cond y (oneMoreDropped k) k ≡ adding 0 0 (toNumber y) k
+      go true = counts-path (oneMoreDropped k) (adding 0 0 1 k) (omega arith) (omega arith) (omega arith)
+      go false = sym (adding-none k)
+
+-- ---- the client table is what the events say
+pub record Counted (period : ℕ) (es : List Event) (s : State) : Type 0 where
+  pub period-is : s .head .period ≡ period
+  pub counts-are : (c : ℕ) → c < length (s .clientTable) → getD (s .clientTable) c zeroCounts ≡ countsSince period c es
+
+-- the requests that wait by the events are those of the table
+waits-counted : (es : List Event) (s : State) (c : ℕ) → Traced es s → waitingBy c es ≡ waitingOf c (waiting s)
+unfolding waitingBy waitingOf
+waits-counted es s c T =
+    count-total (λ a. eqb (a .request .client) c) (waitingRequests es)
+    ∙ sym (total-map of-client (λ (a : Asked). a .request) (waitingRequests es))
+    ∙ T .sums of-client
+    ∙ sym (count-total (λ w. eqb (w .client) c) (waiting s))
+  where
+    of-client : Request → ℕ
+    of-client r = toNumber (eqb (r .client) c)
+
+module _ (period : ℕ) (es : List Event) (s : State) (C : Counted period es s) where
+  -- ---- a call that leaves the state as it was, and names nobody
+  counted-same : (e : Event) → isTick e ≡ false → submitters e ≡ [] → victimClients e ≡ [] → Counted period (e ∷ es) s
+  counted-same e t p q =
+      record {
+        period-is = C .period-is;
+        counts-are = λ c h. C .counts-are c h ∙ sym (since-adds period c e es none-starts ∙ rw (p, served, q, named-none c) (adding-none (countsSince period c es)));
+      }
+    where
+      none-starts : startsPeriod period e es ≡ false
+      none-starts = rw t
+
+      served : servedClients e ≡ []
+      served = rw t
+
+  -- ---- submit
+  counted-kept : (client deadline : ℕ)
+      → Counted period (event (submit client deadline) (kept client deadline s .answer) ∷ es) (kept client deadline s .after)
+  unfolding kept nextState
+  counted-kept client deadline =
+      record {
+        period-is = C .period-is;
+        counts-are = λ c h. table c (omega (arith, length-change oneMoreSubmitted client (s .clientTable)));
+      }
+    where
+      e : Event
+      e = event (submit client deadline) (kept client deadline s .answer)
+
+      table : (c : ℕ) → c < length (s .clientTable)
+          → getD (change oneMoreSubmitted client (s .clientTable)) c zeroCounts ≡ countsSince period c (e ∷ es)
+      table c h =
+          getD-change oneMoreSubmitted client (s .clientTable) c h
+          ∙ one-submitted (eqb c client) (getD (s .clientTable) c zeroCounts)
+          ∙ ap (adding (toNumber (eqb c client)) 0 0) (C .counts-are c h)
+          ∙ sym (since-adds period c e es refl ∙ rw (named-one c client, named-none c))
+
+  counted-dropped : (k client deadline : ℕ)
+      → Counted period (event (submit client deadline) (droppedAt k client deadline s .answer) ∷ es) (droppedAt k client deadline s .after)
+  unfolding droppedAt nextState
+  counted-dropped k client deadline =
+      record {
+        period-is = C .period-is;
+        counts-are =
+            λ c h. table c (omega (arith, length-change oneMoreDropped (v .client) counted, length-change oneMoreSubmitted client (s .clientTable)));
+      }
+    where
+      e : Event
+      e = event (submit client deadline) (droppedAt k client deadline s .answer)
+
+      v : Request
+      v = requestAt k client deadline s
+
+      counted : List Counts
+      counted = change oneMoreSubmitted client (s .clientTable)
+
+      both : (x y : ℕ) (j : Counts) → adding 0 0 y (adding x 0 0 j) ≡ adding x 0 y j
+      both x y j = counts-path (adding 0 0 y (adding x 0 0 j)) (adding x 0 y j) (omega arith) (omega arith) (omega arith)
+
+      table : (c : ℕ) → c < length (s .clientTable)
+          → getD (change oneMoreDropped (v .client) counted) c zeroCounts ≡ countsSince period c (e ∷ es)
+      table c h =
+          getD-change oneMoreDropped (v .client) counted c (omega (arith, length-change oneMoreSubmitted client (s .clientTable)))
+          ∙ one-dropped (eqb c (v .client)) (getD counted c zeroCounts)
+          ∙ ap (adding 0 0 (toNumber (eqb c (v .client))))
+          (getD-change oneMoreSubmitted client (s .clientTable) c h
+          ∙ one-submitted (eqb c client) (getD (s .clientTable) c zeroCounts)
+          ∙ ap (adding (toNumber (eqb c client)) 0 0) (C .counts-are c h))
+          ∙ both (toNumber (eqb c client)) (toNumber (eqb c (v .client))) (countsSince period c es)
+          ∙ sym (since-adds period c e es refl ∙ rw (named-one c client, named-one c (v .client), named-none c))
+
+  -- ---- tick
+  -- the state one slot later, where cs counts what the tick served
+  module _ (ws : List Request) (cs : List Counts) (a : Answer) (accepted : isRefused a ≡ false) (clock-is : s .head .clock ≡ ticks es) where
+    starts-same : isPeriodStart (s .head .period) (suc (s .head .clock)) ≡ startsPeriod period (event tick a) es
+    unfolding ticks countIf
+    starts-same = rw (accepted, C .period-is, later)
+      where
+        later : suc (s .head .clock) ≡ 1 + ticks es
+        later = omega arith
+
+    counted-later : Traced (event tick a ∷ es) (oneLater ws cs s) → victimClients (event tick a) ≡ []
+        → ((c : ℕ) → c < length cs → getD cs c zeroCounts ≡ adding 0 (countIf (eqb c) (servedClients (event tick a))) 0 (countsSince period c es))
+        → Counted period (event tick a ∷ es) (oneLater ws cs s)
+    unfolding nextState
+    counted-later T q f =
+        record {
+          period-is = C .period-is;
+          counts-are = table (isPeriodStart (s .head .period) (suc (s .head .clock))) refl;
+        }
+      where
+        e : Event
+        e = event tick a
+
+        table : (x : Bool) → isPeriodStart (s .head .period) (suc (s .head .clock)) ≡ x → (c : ℕ)
+            → c < length (cond x (mapFrom (restarted ws) 0 cs) cs) → getD (cond x (mapFrom (restarted ws) 0 cs) cs) c zeroCounts ≡ countsSince period c (e ∷ es)
+        table true p c h =
+            getD-mapFrom (restarted ws) cs c zeroCounts zeroCounts (omega (arith, length-mapFrom (restarted ws) 0 cs))
+            ∙ ap (λ (n : ℕ). record { submitted = n; served = 0; dropped = 0 }) waits
+            ∙ sym (since-starts period c e es (sym starts-same ∙ p))
+          where
+            waits : waitingOf c ws ≡ waitingBy c (e ∷ es)
+            waits =
+                ap (waitingOf c) (sym (next-waiting (suc (s .head .clock)) (s .head .last) ws (countsAfter (s .head .period) (suc (s .head .clock)) ws cs) s))
+                ∙ sym (waits-counted (e ∷ es) (oneLater ws cs s) c T)
+        table false p c h = f c h ∙ sym (since-adds period c e es (sym starts-same ∙ p) ∙ rw (q, named-none c))
+
+  counted-tick : (ws : List Request) → s .head .clock ≡ ticks es → Traced (event tick (ticked ws s .answer) ∷ es) (ticked ws s .after)
+      → Counted period (event tick (ticked ws s .answer) ∷ es) (ticked ws s .after)
+  unfolding ticked
+  counted-tick [] k T =
+      counted-later [] (s .clientTable) (Idle (s .head .clock)) refl k T refl
+      (λ c h. C .counts-are c h ∙ sym (rw (named-none c) (adding-none (countsSince period c es))))
+  counted-tick (w ∷ ws) k T =
+      counted-later ws (change oneMoreServed (w .client) (s .clientTable)) (Served (s .head .clock) (w .number) (w .client)) refl k T refl
+      (λ c h. table c (omega (arith, length-change oneMoreServed (w .client) (s .clientTable))))
+    where
+      table : (c : ℕ) → c < length (s .clientTable)
+          → getD (change oneMoreServed (w .client) (s .clientTable)) c zeroCounts ≡ adding 0 (countIf (eqb c) (w .client ∷ [])) 0 (countsSince period c es)
+      table c h =
+          getD-change oneMoreServed (w .client) (s .clientTable) c h
+          ∙ one-served (eqb c (w .client)) (getD (s .clientTable) c zeroCounts)
+          ∙ ap (adding 0 (toNumber (eqb c (w .client))) 0) (C .counts-are c h)
+          ∙ sym (rw (named-one c (w .client)))
+
+  -- ---- any call but an accepted open
+  counted-step : (e : Event) (t : State) → Step s e t → Traced es s → Traced (e ∷ es) t → Counted period (e ∷ es) t
+  counted-step e t (submits client deadline r) T U = go (submitted-cases client deadline s)
+    where
+      go : {o : Outcome} → Submitted client deadline s o → Counted period (event (submit client deadline) (o .answer) ∷ es) (o .after)
+      go (keeps h) = counted-kept client deadline
+      go (drops h) = counted-dropped (victimPlace client deadline s) client deadline
+  counted-step e t (serves r) T U = counted-tick (waiting s) (T .clock) U
+  counted-step e t (passes x p) T U =
+      counted-same x (p .no-tick) (ap (map (λ (a : Asked). a .request .client)) (p .none-asked 0))
+      (ap (map (λ (v : Victim). v .client)) (p .none-dropped))
+
+counted-open : (clients period : ℕ) (s : State) → Counted period [] (opened clients period s .after)
+unfolding opened countsSince sinceStart
+counted-open clients period s =
+    record {
+      period-is = refl;
+      counts-are =
+          λ c h. getD-replicate (length (s .clientTable)) c zeroCounts zeroCounts
+          (omega (arith, length-replicate (length (s .clientTable)) zeroCounts));
+    }
+
+-- after any list of calls from an accepted open on, with no other accepted open in it
+pub counted : (clients period : ℕ) (s : State) (cs : List Call) → isRefused (openOf clients period s .answer) ≡ false
+    → exists isOpened (history (openOf clients period s .after) cs) ≡ false
+    → Counted period (history (openOf clients period s .after) cs) (run (openOf clients period s .after) cs)
+counted clients period s cs a h =
+    along (Counted period)
+    (λ s e t es k T C. counted-step period es s C e t k T (traced-step s e t es k T)) (openOf clients period s .after) cs h
+    (accepted-open (λ (o : Outcome). Traced [] (o .after)) clients period s a (traced-open clients period s))
+    (accepted-open (λ (o : Outcome). Counted period [] (o .after)) clients period s a (λ r. counted-open clients period s)) .1
+
+-- an accepted report says so
+pub reported-counts : (period client : ℕ) (es : List Event) (s : State) → Traced es s → Counted period es s
+    → isRefused (reportOf client s .answer) ≡ false
+    → reportOf client s .answer ≡ reportAnswer client (countsSince period client es) (waitingBy client es)
+unfolding reported outcomeOf
+reported-counts period client es s T C a =
+    ap (λ (o : Outcome). o .answer) (accepted-same (report client) s a)
+    ∙ (λ i. reportAnswer client (C .counts-are client inside i) (sym (waits-counted es s client T) i))
+  where
+    R : ReportReady client s
+    R = report-ready client s (accepted-none (report client) s a)
+
+    inside : client < length (s .clientTable)
+    inside = omega (arith, R .exists, R .ready .shape .clients)

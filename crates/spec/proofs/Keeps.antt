@@ -1,0 +1,419 @@
+-- Accepted calls leave sound tables: document 01, "Tables and bounds". Assumes nothing.
+use Prim.Native.Nat.{ℕ, suc, _+_, _≤_, _<_}
+use mathlib.Core.Path.{_≡_, refl, sym, _∙_}
+use mathlib.Core.Logic.{_≢_}
+use mathlib.Core.Bool.{Bool, true, false, cond}
+use mathlib.Core.List.{List, [], _∷_}
+use native.Mathlib.Omega.{arith}
+use borrow.Author.Tests.{le-ltb, eq-eqb}
+use lib.Dec.{eqb}
+use lib.ListN.{length, getD, set, replicate, length-set, length-replicate, getD-replicate}
+use lib.Seq.{getD-set-same, getD-set-other}
+use Rattle.slots.proofs.Room.{room-back, room-step, room-split}
+use Rattle.slots.proofs.Tests.{Same, same-yes, same-no, same, le, gt, order}
+use Rattle.slots.proofs.Sums.{All, all-imp, total, total-nil}
+use Rattle.spec.specs.declared.types.Request.{Request}
+use Rattle.spec.specs.declared.types.Counts.{Counts}
+use Rattle.spec.specs.Every.{toNumber, mapFrom}
+use Rattle.spec.specs.Tables.{mostRecords, mostCounted, clockEnd, numberEnd, zeroRequest, zeroCounts, State, waiting, nextState}
+use Rattle.spec.specs.Order.{putInOrder, removeAt}
+use Rattle.spec.specs.Chart.{dueBy, hasNoOverfull}
+use Rattle.spec.specs.Victim.{isCandidate}
+use Rattle.spec.specs.Sound.{waitingOf, isSound}
+use Rattle.spec.specs.Refusals.{firstMatch, refusal4}
+use Rattle.spec.specs.Calls.{change, oneMoreSubmitted, oneMoreServed, oneMoreDropped, opened, newRequest, countedIn, withNew, kept, requestAt, droppedAt, victimPlace, submitted, isPeriodStart, restarted, countsAfter, oneLater, ticked, reported, charted}
+use Rattle.spec.specs.Lists.{Call, opening, submit, tick, report, chart, outcomeOf, isRefused}
+use Rattle.spec.proofs.Laws.{Value, is-true, is-false, value, count-total, length-mapFrom, getD-mapFrom, total-remove, all-remove, length-remove}
+use Rattle.spec.proofs.Order.{InOrder, Before, before-deadline, order-put, order-remove, total-put, all-put, length-put}
+use Rattle.spec.proofs.Feasible.{Feasible, feasible-facts, due-yes, dueBy-cons, dueBy-none, dueBy-self}
+use Rattle.spec.proofs.Facts.{within-test, Shaped, Ahead, Given, Owned, Balanced, sound-test}
+use Rattle.spec.proofs.Accepted.{Ready, OpenReady, open-ready, SubmitReady, submit-ready, TickReady, tick-ready, report-ready, chart-ready, waiting-length, next-waiting, next-behind, next-length}
+use Rattle.spec.proofs.Victim.{victim-place}
+use Rattle.spec.proofs.Refused.{refusalsOf, acceptedOf, accepted-none, accepted-same}
+
+-- for Laws
+pub all-two : {A : Type 0} (p q r : A → Type 0) (xs : List A) → ((x : A) → p x → q x → r x) → All p xs → All q xs → All r xs
+all-two p q r [] f a b = tt
+all-two p q r (x ∷ xs) f a b = (f x (a .0) (b .0), all-two p q r xs f (a .1) (b .1))
+
+-- ---- one request of a client, counted
+unfoldable pub of : ℕ → Request → ℕ
+of client w = toNumber (eqb (w .client) client)
+
+pub of-yes : (client : ℕ) (w : Request) → client ≡ w .client → of client w ≡ 1
+unfolding of
+of-yes client w h = go (eqb (w .client) client) (same (w .client) client)
+  where
+    go : (x : Bool) → Same (w .client) client x → toNumber x ≡ 1
+    go true (same-yes e) = refl
+    go false (same-no e) = absurd (e (sym h))
+
+pub of-no : (client : ℕ) (w : Request) → client ≢ w .client → of client w ≡ 0
+unfolding of
+of-no client w h = go (eqb (w .client) client) (same (w .client) client)
+  where
+    go : (x : Bool) → Same (w .client) client x → toNumber x ≡ 0
+    go true (same-yes e) = absurd (h (sym e))
+    go false (same-no e) = refl
+
+pub waitingOf-total : (client : ℕ) (ws : List Request) → waitingOf client ws ≡ total (of client) ws
+unfolding waitingOf of
+waitingOf-total client ws = count-total (λ w. eqb (w .client) client) ws
+
+pub waitingOf-none : (client : ℕ) → waitingOf client [] ≡ 0
+waitingOf-none client = omega (arith, waitingOf-total client [], total-nil (of client))
+
+pub waitingOf-put : (client : ℕ) (r : Request) (ws : List Request)
+    → waitingOf client (putInOrder r ws) ≡ of client r + waitingOf client ws
+waitingOf-put client r ws =
+    omega (arith, waitingOf-total client (putInOrder r ws), waitingOf-total client ws, total-put (of client) r ws)
+
+pub waitingOf-remove : (client k : ℕ) (z : Request) (ws : List Request) → k < length ws
+    → waitingOf client ws ≡ of client (getD ws k z) + waitingOf client (removeAt k ws)
+waitingOf-remove client k z ws h =
+    omega (arith, waitingOf-total client (removeAt k ws), waitingOf-total client ws, total-remove (of client) k z ws h)
+
+-- ---- a client's counts after a change of one client's
+pub data Changed (f : Counts → Counts) (client : ℕ) (cs : List Counts) (c : ℕ) : Counts → Type 0 where
+  changes : c ≡ client → Changed f client cs c (f (getD cs c zeroCounts))
+  stays : c ≢ client → Changed f client cs c (getD cs c zeroCounts)
+
+pub changed : (f : Counts → Counts) (client : ℕ) (cs : List Counts) (c : ℕ) → c < length cs
+    → Changed f client cs c (getD (change f client cs) c zeroCounts)
+unfolding change
+changed f client cs c h = go (eqb c client) (same c client)
+  where
+    go : (x : Bool) → Same c client x → Changed f client cs c (getD (set cs client (f (getD cs client zeroCounts))) c zeroCounts)
+    go true (same-yes e) =
+        rw (← e, getD-set-same cs c (f (getD cs c zeroCounts)) zeroCounts h) (changes refl)
+    go false (same-no e) = rw (getD-set-other cs client c (f (getD cs client zeroCounts)) zeroCounts e) (stays e)
+
+pub length-change : (f : Counts → Counts) (client : ℕ) (cs : List Counts) → length (change f client cs) ≡ length cs
+unfolding change
+length-change f client cs = length-set cs client (f (getD cs client zeroCounts))
+
+-- ---- the clauses of sound tables on requests and counts, without the one on overfull deadlines; clients have one record each
+pub record Tidy (clock last clients : ℕ) (ws : List Request) (cs : List Counts) : Type 0 where
+  pub ordered : InOrder ws
+  pub ahead : All (Ahead clock) ws
+  pub given : All (Given last) ws
+  pub owned : All (Owned clients) ws
+  pub counted : length cs ≡ clients
+  pub balanced : (c : ℕ) → c < length cs → Balanced ws c (getD cs c zeroCounts)
+
+pub tidy : (s : State) → Ready s → Tidy (s .head .clock) (s .head .last) (s .head .clients) (waiting s) (s .clientTable)
+tidy s r =
+    record {
+      ordered = r .sound .ordered;
+      ahead = r .sound .ahead;
+      given = r .sound .given;
+      owned = r .sound .owned;
+      counted = r .shape .clients;
+      balanced = r .sound .balanced;
+    }
+
+-- a state that a call leaves is sound where its requests and counts are
+pub next-ready : (clock last : ℕ) (ws : List Request) (cs : List Counts) (s : State) → Ready s → clock ≤ clockEnd
+    → last ≤ numberEnd → length ws ≤ length (s .waitingTable) → Tidy clock last (s .head .clients) ws cs → Feasible clock ws
+    → Ready (nextState clock last ws cs s)
+unfolding nextState
+next-ready clock last ws cs s r c l n t f =
+    record {
+      shape =
+          record {
+            some-records = omega (arith, next-length clock last ws cs s n, r .shape .some-records);
+            most-records = omega (arith, next-length clock last ws cs s n, r .shape .most-records);
+            clients = t .counted;
+            waits = omega (arith, next-length clock last ws cs s n);
+          };
+      sound =
+          record {
+            headed =
+                record {
+                  some-clients = r .sound .headed .some-clients;
+                  most-clients = r .sound .headed .most-clients;
+                  some-period = r .sound .headed .some-period;
+                  most-period = r .sound .headed .most-period;
+                  clock = c;
+                  last = l;
+                };
+            ordered = rw (next-waiting clock last ws cs s) (t .ordered);
+            ahead = rw (next-waiting clock last ws cs s) (t .ahead);
+            given = rw (next-waiting clock last ws cs s) (t .given);
+            owned = rw (next-waiting clock last ws cs s) (t .owned);
+            feasible = rw (next-waiting clock last ws cs s) f;
+            zeros = rw (next-behind clock last ws cs s, length-replicate);
+            balanced = rw (next-waiting clock last ws cs s) (t .balanced);
+          };
+    }
+
+-- ---- open
+pub open-keeps : (clients period : ℕ) (s : State) → OpenReady clients period s → Ready (opened clients period s .after)
+unfolding opened
+open-keeps clients period s r =
+    record {
+      shape =
+          record {
+            some-records = omega (arith, length-replicate (length (s .waitingTable)) zeroRequest, r .lengths .some-records);
+            most-records = omega (arith, length-replicate (length (s .waitingTable)) zeroRequest, r .lengths .most-records);
+            clients = length-replicate (length (s .clientTable)) zeroCounts ∙ r .lengths .clients-length;
+            waits = omega arith;
+          };
+      sound =
+          record {
+            headed =
+                record {
+                  some-clients = r .some-clients;
+                  most-clients = r .most-clients;
+                  some-period = r .some-period;
+                  most-period = r .most-period;
+                  clock = omega arith;
+                  last = omega arith;
+                };
+            ordered = tt;
+            ahead = tt;
+            given = tt;
+            owned = tt;
+            feasible = λ D. omega (arith, dueBy-none D [] tt);
+            zeros = rw length-replicate;
+            balanced = balanced;
+          };
+    }
+  where
+    balanced : (c : ℕ) → c < length (replicate (length (s .clientTable)) zeroCounts)
+        → Balanced [] c (getD (replicate (length (s .clientTable)) zeroCounts) c zeroCounts)
+    balanced c h =
+        let n : c < length (s .clientTable) = omega (arith, length-replicate (length (s .clientTable)) zeroCounts) in
+        rw (getD-replicate (length (s .clientTable)) c zeroCounts zeroCounts n) (omega (arith, waitingOf-none c), omega arith)
+
+-- ---- submit
+-- the new request counted and put in; overfull deadlines apart
+pub tidy-put : (client deadline : ℕ) (s : State) → SubmitReady client deadline s
+    → Tidy (s .head .clock) (suc (s .head .last)) (s .head .clients) (withNew client deadline s) (countedIn client s)
+tidy-put client deadline s r =
+    let last = s .head .last in
+    let t = tidy s (r .ready) in
+    record {
+      ordered =
+          order-put new (waiting s)
+          (all-imp (Given last) (λ (w : Request). w .number < suc last) (waiting s) (λ w h. omega arith) (t .given)) (t .ordered);
+      ahead = all-put (Ahead (s .head .clock)) new (waiting s) (r .late, r .near) (t .ahead);
+      given =
+          all-put (Given (suc last)) new (waiting s) (omega arith, omega arith)
+          (all-imp (Given last) (Given (suc last)) (waiting s) (λ w h. (h .0, omega arith)) (t .given));
+      owned = all-put (Owned (s .head .clients)) new (waiting s) (r .exists) (t .owned);
+      counted = same-length ∙ t .counted;
+      balanced =
+          λ c h. let l : c < length (s .clientTable) = omega (arith, same-length) in
+          go c (changed oneMoreSubmitted client (s .clientTable) c l) (t .balanced c l);
+    }
+  where
+    new : Request
+    new = newRequest client deadline s
+
+    same-length : length (countedIn client s) ≡ length (s .clientTable)
+    same-length = length-change oneMoreSubmitted client (s .clientTable)
+
+    go : (c : ℕ) {k : Counts} → Changed oneMoreSubmitted client (s .clientTable) c k
+        → Balanced (waiting s) c (getD (s .clientTable) c zeroCounts) → Balanced (withNew client deadline s) c k
+    go c (changes e) b =
+        let m : getD (s .clientTable) c zeroCounts .submitted ≢ mostCounted = rw e (r .countable) in
+        (omega (arith, waitingOf-put c new (waiting s), of-yes c new e), omega arith)
+    go c (stays e) b = (omega (arith, waitingOf-put c new (waiting s), of-no c new e), b .1)
+
+-- a change of counts that adds 1 to served or dropped
+pub record Ends (f : Counts → Counts) : Type 0 where
+  pub submits : (k : Counts) → f k .submitted ≡ k .submitted
+  pub ends : (k : Counts) → f k .served + f k .dropped ≡ suc (k .served + k .dropped)
+
+-- a request taken out, and counted as served or dropped
+pub tidy-remove : (f : Counts → Counts) → Ends f → (k clock last clients : ℕ) (ws : List Request) (cs : List Counts)
+    → k < length ws → Tidy clock last clients ws cs
+    → Tidy clock last clients (removeAt k ws) (change f (getD ws k zeroRequest .client) cs)
+tidy-remove f E k clock last clients ws cs n t =
+    record {
+      ordered = order-remove k ws (t .ordered);
+      ahead = all-remove (Ahead clock) k ws (t .ahead);
+      given = all-remove (Given last) k ws (t .given);
+      owned = all-remove (Owned clients) k ws (t .owned);
+      counted = same-length ∙ t .counted;
+      balanced =
+          λ c h. let l : c < length cs = omega (arith, same-length) in
+          go c (changed f (out .client) cs c l) (t .balanced c l);
+    }
+  where
+    out : Request
+    out = getD ws k zeroRequest
+
+    same-length : length (change f (out .client) cs) ≡ length cs
+    same-length = length-change f (out .client) cs
+
+    go : (c : ℕ) {j : Counts} → Changed f (out .client) cs c j → Balanced ws c (getD cs c zeroCounts)
+        → Balanced (removeAt k ws) c j
+    go c (changes e) b =
+        let submits = E .submits (getD cs c zeroCounts) in
+        let ends = E .ends (getD cs c zeroCounts) in
+        (omega (arith, submits, ends, waitingOf-remove c k zeroRequest ws n, of-yes c out e), omega (arith, submits))
+    go c (stays e) b = (omega (arith, waitingOf-remove c k zeroRequest ws n, of-no c out e), b .1)
+
+served-ends : Ends oneMoreServed
+served-ends = record { submits = λ k. refl; ends = λ k. omega arith }
+
+dropped-ends : Ends oneMoreDropped
+dropped-ends = record { submits = λ k. refl; ends = λ k. omega arith }
+
+module _ (client deadline : ℕ) (s : State) (r : SubmitReady client deadline s) where
+  number-left : suc (s .head .last) ≤ numberEnd
+  number-left = omega (arith, r .ready .sound .headed .last, r .numbered)
+
+  record-left : length (withNew client deadline s) ≤ length (s .waitingTable)
+  record-left =
+      let shape = r .ready .shape in
+      omega (arith, length-put (newRequest client deadline s) (waiting s), waiting-length s shape, shape .waits, r .free)
+
+  pub kept-keeps : Feasible (s .head .clock) (withNew client deadline s) → Ready (kept client deadline s .after)
+  unfolding kept
+  kept-keeps f =
+      next-ready (s .head .clock) (suc (s .head .last)) (withNew client deadline s) (countedIn client s) s (r .ready)
+      (r .ready .sound .headed .clock) number-left record-left (tidy-put client deadline s r) f
+
+  pub dropped-keeps : (k : ℕ) → k < length (withNew client deadline s)
+      → isCandidate (s .head .clock) (withNew client deadline s) k ≡ true → Ready (droppedAt k client deadline s .after)
+  unfolding droppedAt isCandidate
+  dropped-keeps k n e =
+      next-ready (s .head .clock) (suc (s .head .last)) (removeAt k (withNew client deadline s))
+      (change oneMoreDropped (requestAt k client deadline s .client) (countedIn client s)) s (r .ready)
+      (r .ready .sound .headed .clock) number-left (omega (arith, record-left, length-remove k (withNew client deadline s) n))
+      (tidy-remove oneMoreDropped dropped-ends k (s .head .clock) (suc (s .head .last)) (s .head .clients)
+      (withNew client deadline s) (countedIn client s) n (tidy-put client deadline s r))
+      (feasible-facts (s .head .clock) (removeAt k (withNew client deadline s)) e)
+
+pub submit-keeps : (client deadline : ℕ) (s : State) → SubmitReady client deadline s → Ready (submitted client deadline s .after)
+unfolding submitted
+submit-keeps client deadline s r = go (value (hasNoOverfull (s .head .clock) (withNew client deadline s)))
+  where
+    go : Value (hasNoOverfull (s .head .clock) (withNew client deadline s)) → Ready (submitted client deadline s .after)
+    go (is-true e) = rw e (kept-keeps client deadline s r (feasible-facts (s .head .clock) (withNew client deadline s) e))
+    go (is-false e) =
+        let v = victim-place client deadline s r in
+        rw e (dropped-keeps client deadline s r (victimPlace client deadline s) (v .0) (v .1))
+
+-- ---- tick
+-- where there is room from the next slot on, no deadline is past
+pub tidy-later : (clock last clients : ℕ) (ws : List Request) (cs : List Counts) → Feasible (suc clock) ws
+    → Tidy clock last clients ws cs → Tidy (suc clock) last clients ws cs
+tidy-later clock last clients ws cs f t =
+    record {
+      ordered = t .ordered;
+      ahead =
+          all-two (Ahead clock) (λ (w : Request). 1 ≤ dueBy (w .deadline) ws) (Ahead (suc clock)) ws
+          (λ w h d. (later w d, omega arith)) (t .ahead) (dueBy-self ws);
+      given = t .given;
+      owned = t .owned;
+      counted = t .counted;
+      balanced = t .balanced;
+    }
+  where
+    later : (w : Request) → 1 ≤ dueBy (w .deadline) ws → suc (suc clock) ≤ w .deadline
+    later w d =
+        elim (order (w .deadline) (suc clock)) [
+          | le h ↦ absurd (omega (arith, f (w .deadline), room-back (suc clock) (w .deadline) h))
+          | gt h ↦ h
+        ]
+
+-- a period start, at any clock, leaves the counts balanced
+pub tidy-restart : (period start clock last clients : ℕ) (ws : List Request) (cs : List Counts)
+    → Tidy clock last clients ws cs → Tidy clock last clients ws (countsAfter period start ws cs)
+tidy-restart period start clock last clients ws cs t = go (isPeriodStart period start)
+  where
+    same-length : length (mapFrom (restarted ws) 0 cs) ≡ length cs
+    same-length = length-mapFrom (restarted ws) 0 cs
+
+    go : (x : Bool) → Tidy clock last clients ws (cond x (mapFrom (restarted ws) 0 cs) cs)
+    go true =
+        record {
+          ordered = t .ordered;
+          ahead = t .ahead;
+          given = t .given;
+          owned = t .owned;
+          counted = same-length ∙ t .counted;
+          balanced =
+              λ c h. let l : c < length cs = omega (arith, same-length) in
+              rw (getD-mapFrom (restarted ws) cs c zeroCounts zeroCounts l) (omega arith, omega (arith, t .balanced c l));
+        }
+    go false = t
+
+-- the first waiting request served in the slot at the clock, there is room for the others from the next slot on
+pub feasible-later : (clock : ℕ) (w : Request) (ws : List Request) → InOrder (w ∷ ws) → Feasible clock (w ∷ ws)
+    → Feasible (suc clock) ws
+feasible-later clock w ws o f D =
+    elim (order (w .deadline) D) [
+      | le h ↦
+          elim (order D clock) [
+            | le g ↦ absurd (omega (arith, f D, dueBy-cons D w ws, due-yes D w h, room-back clock D g))
+            | gt g ↦
+                omega
+                (arith, f D, dueBy-cons D w ws, due-yes D w h, room-split clock (suc clock) D (omega arith) g, room-step clock)
+          ]
+      | gt h ↦
+          omega (
+            arith,
+            dueBy-none D ws
+                (all-imp (Before w) (λ (v : Request). D < v .deadline) ws (λ v b. omega (arith, before-deadline w v b)) (o .0)),
+          )
+    ]
+
+later-ready : (ws : List Request) (cs : List Counts) (s : State) → TickReady s → length ws ≤ length (s .waitingTable)
+    → Tidy (s .head .clock) (s .head .last) (s .head .clients) ws cs → Feasible (suc (s .head .clock)) ws
+    → Ready (oneLater ws cs s)
+later-ready ws cs s r n t f =
+    let clock = suc (s .head .clock) in
+    next-ready clock (s .head .last) ws (countsAfter (s .head .period) clock ws cs) s (r .ready)
+    (omega (arith, r .ready .sound .headed .clock, r .ticking)) (r .ready .sound .headed .last) n
+    (tidy-restart (s .head .period) clock clock (s .head .last) (s .head .clients) ws cs
+    (tidy-later (s .head .clock) (s .head .last) (s .head .clients) ws cs f t)) f
+
+pub tick-keeps : (s : State) → TickReady s → Ready (ticked (waiting s) s .after)
+unfolding ticked removeAt
+tick-keeps s r =
+    go (waiting s) (omega (arith, waiting-length s (r .ready .shape), r .ready .shape .waits)) (tidy s (r .ready))
+    (r .ready .sound .feasible)
+  where
+    go : (ws : List Request) → length ws ≤ length (s .waitingTable)
+        → Tidy (s .head .clock) (s .head .last) (s .head .clients) ws (s .clientTable) → Feasible (s .head .clock) ws
+        → Ready (ticked ws s .after)
+    go [] n t f = later-ready [] (s .clientTable) s r n t (λ D. omega (arith, dueBy-none D [] tt))
+    go (w ∷ ws) n t f =
+        later-ready ws (change oneMoreServed (w .client) (s .clientTable)) s r (omega arith)
+        (tidy-remove oneMoreServed served-ends 0 (s .head .clock) (s .head .last) (s .head .clients) (w ∷ ws) (s .clientTable)
+        (omega arith) t)
+        (feasible-later (s .head .clock) w ws (t .ordered) f)
+
+-- ---- every call
+accepted-keeps : (c : Call) (s : State) → firstMatch (refusalsOf c s) ≡ 0 → Ready (acceptedOf c s .after)
+unfolding reported charted
+accepted-keeps (opening clients period) s e = open-keeps clients period s (open-ready clients period s e)
+accepted-keeps (submit client deadline) s e = submit-keeps client deadline s (submit-ready client deadline s e)
+accepted-keeps tick s e = tick-keeps s (tick-ready s e)
+accepted-keeps (report client) s e = report-ready client s e .ready
+accepted-keeps (chart output) s e = chart-ready output s e .ready
+
+-- tables of the right lengths do not meet refusal 4
+shaped-test : (s : State) → Shaped s → refusal4 s .holds ≡ false
+shaped-test s f =
+    rw (
+      within-test 1 mostRecords (length (s .waitingTable)) (f .some-records) (f .most-records),
+      eq-eqb (length (s .clientTable)) (s .head .clients) (f .clients),
+      le-ltb (length (s .waitingTable)) (s .head .waiting) (f .waits),
+    )
+
+-- "Every accepted call leaves sound tables.": as facts, and in the definitions' own words. The tables keep their right lengths
+-- too, so refusals 4 and 5 do not hold of them
+pub keeps : (c : Call) (s : State) → isRefused (outcomeOf c s .answer) ≡ false → Ready (outcomeOf c s .after)
+keeps c s h = rw (accepted-same c s h) (accepted-keeps c s (accepted-none c s h))
+
+pub leaves-sound : (c : Call) (s : State) → isRefused (outcomeOf c s .answer) ≡ false
+    → (isSound (outcomeOf c s .after) ≡ true) × (refusal4 (outcomeOf c s .after) .holds ≡ false)
+leaves-sound c s h =
+    let r = keeps c s h in
+    (sound-test (outcomeOf c s .after) (r .sound), shaped-test (outcomeOf c s .after) (r .shape))

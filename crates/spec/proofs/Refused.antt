@@ -1,0 +1,204 @@
+-- Refused calls: document 01, "Refusals, first match wins". Assumes nothing.
+use Prim.Native.Nat.{ℕ, suc}
+use mathlib.Core.Path.{_≡_, refl, sym, ap, _∙_}
+use mathlib.Core.Logic.{_≢_, _↔_}
+use mathlib.Core.Bool.{Bool, true, false, cond, true≢false}
+use mathlib.Core.List.{List, [], _∷_, _++_}
+use native.Mathlib.Omega.{arith}
+use lib.Dec.{eqb}
+use lib.ListN.{length, take, drop, length-append, length-drop}
+use lib.Seq.{take-append-seam, drop-append-seam}
+use Rattle.slots.proofs.Tests.{Same, same-yes, same-no, same}
+use Rattle.slots.proofs.Sums.{All}
+use Rattle.spec.specs.declared.types.Request.{Request}
+use Rattle.spec.specs.declared.types.Answer.the-variants.{Refused}
+use Rattle.spec.specs.Tables.{State, waiting}
+use Rattle.spec.specs.Chart.{startsOf, hasNoOverfull}
+use Rattle.spec.specs.Refusals.{Refusal, firstMatch, openRefusals, submitRefusals, tickRefusals, reportRefusals, chartRefusals}
+use Rattle.spec.specs.Calls.{Outcome, unlessRefused, opened, openOf, kept, droppedAt, victimPlace, withNew, submitted, submitOf, ticked, tickOf, reported, reportOf, charted, chartOf, chartOutput}
+use Rattle.spec.specs.Lists.{Call, opening, submit, tick, report, chart, outcomeOf, isRefused}
+use Rattle.spec.proofs.Accepted.{Decided, accepts, refuses, decided, chart-ready, waiting-length}
+
+-- ---- each call is its refusals and what it does where none holds
+-- the call's refusals, in the paper's order
+abbrev pub refusalsOf : Call → State → List Refusal
+refusalsOf (opening clients period) s = openRefusals clients period s
+refusalsOf (submit client deadline) s = submitRefusals client deadline s
+refusalsOf tick s = tickRefusals s
+refusalsOf (report client) s = reportRefusals client s
+refusalsOf (chart output) s = chartRefusals output s
+
+-- what an accepted call comes to
+abbrev pub acceptedOf : Call → State → Outcome
+acceptedOf (opening clients period) s = opened clients period s
+acceptedOf (submit client deadline) s = submitted client deadline s
+acceptedOf tick s = ticked (waiting s) s
+acceptedOf (report client) s = reported client s
+acceptedOf (chart output) s = charted s
+
+outcome-unless : (c : Call) (s : State) → unlessRefused (refusalsOf c s) s (acceptedOf c s) ≡ outcomeOf c s
+unfolding outcomeOf openOf submitOf tickOf reportOf chartOf
+outcome-unless (opening clients period) s = refl
+outcome-unless (submit client deadline) s = refl
+outcome-unless tick s = refl
+outcome-unless (report client) s = refl
+outcome-unless (chart output) s = refl
+
+pub outcome-decided : (c : Call) (s : State) → Decided (refusalsOf c s) s (acceptedOf c s) (outcomeOf c s)
+outcome-decided c s = rw (outcome-unless c s) at (decided (refusalsOf c s) s (acceptedOf c s))
+
+-- no answer of an accepted call is a refusal
+pub accepted-answer : (c : Call) (s : State) → isRefused (acceptedOf c s .answer) ≡ false
+unfolding opened submitted kept droppedAt ticked reported charted
+accepted-answer (opening clients period) s = refl
+accepted-answer (submit client deadline) s = go (hasNoOverfull (s .head .clock) (withNew client deadline s))
+  where
+    go : (x : Bool)
+        → isRefused (cond x (kept client deadline s) (droppedAt (victimPlace client deadline s) client deadline s) .answer) ≡ false
+    go true = refl
+    go false = refl
+accepted-answer tick s = go (waiting s)
+  where
+    go : (ws : List Request) → isRefused (ticked ws s .answer) ≡ false
+    go [] = refl
+    go (w ∷ ws) = refl
+accepted-answer (report client) s = refl
+accepted-answer (chart output) s = refl
+
+-- ---- the first that holds
+-- "first match wins": n is the number of one whose condition holds, and no earlier condition does
+pub data FirstHolds : List Refusal → ℕ → Type 0 where
+  here : {r : Refusal} {rs : List Refusal} → r .holds ≡ true → FirstHolds (r ∷ rs) (r .number)
+  further : {r : Refusal} {rs : List Refusal} {n : ℕ} → r .holds ≡ false → FirstHolds rs n → FirstHolds (r ∷ rs) n
+
+first-holds : (rs : List Refusal) → firstMatch rs ≢ 0 → FirstHolds rs (firstMatch rs)
+unfolding firstMatch
+first-holds [] n = absurd (n refl)
+first-holds (r ∷ rs) n = go (r .holds) refl n (first-holds rs)
+  where
+    go : (x : Bool) → r .holds ≡ x → cond x (r .number) (firstMatch rs) ≢ 0 → (firstMatch rs ≢ 0 → FirstHolds rs (firstMatch rs))
+        → FirstHolds (r ∷ rs) (cond x (r .number) (firstMatch rs))
+    go true e n f = here e
+    go false e n f = further e (f n)
+
+first-match : {rs : List Refusal} {n : ℕ} → FirstHolds rs n → firstMatch rs ≡ n
+unfolding firstMatch
+first-match (here e) = rw e
+first-match (further e f) = rw e (first-match f)
+
+abbrev Numbered : Refusal → Type 0
+Numbered r = r .number ≢ 0
+
+first-number : {rs : List Refusal} {n : ℕ} → FirstHolds rs n → All Numbered rs → n ≢ 0
+first-number (here e) a = a .0
+first-number (further e f) a = first-number f (a .1)
+
+numbered : (c : Call) (s : State) → All Numbered (refusalsOf c s)
+unfolding openRefusals submitRefusals tickRefusals reportRefusals chartRefusals
+numbered (opening clients period) s = (omega arith, (omega arith, (omega arith, tt)))
+numbered (submit client deadline) s =
+    (omega arith, (omega arith, (omega arith, (omega arith, (omega arith, (omega arith, (omega arith, tt)))))))
+numbered tick s = (omega arith, (omega arith, (omega arith, tt)))
+numbered (report client) s = (omega arith, (omega arith, (omega arith, tt)))
+numbered (chart output) s = (omega arith, (omega arith, (omega arith, tt)))
+
+-- "Refusals, first match wins": a call is refused with n exactly where refusal n's condition holds and no earlier one does
+pub refused-exactly : (c : Call) (s : State) (n : ℕ) → (outcomeOf c s .answer ≡ Refused n) ↔ FirstHolds (refusalsOf c s) n
+refused-exactly c s n = (to (outcome-decided c s), (λ f. from f (outcome-decided c s)))
+  where
+    to : {o : Outcome} → Decided (refusalsOf c s) s (acceptedOf c s) o → o .answer ≡ Refused n → FirstHolds (refusalsOf c s) n
+    to (accepts e) p = absurd (true≢false (sym (ap isRefused p) ∙ accepted-answer c s))
+    to (refuses e) p =
+        let q : firstMatch (refusalsOf c s) ≡ n = cc in
+        rw q at (first-holds (refusalsOf c s) e)
+
+    from : {o : Outcome} → FirstHolds (refusalsOf c s) n → Decided (refusalsOf c s) s (acceptedOf c s) o → o .answer ≡ Refused n
+    from f (accepts e) = absurd (first-number f (numbered c s) (sym (first-match f) ∙ e))
+    from f (refuses e) = ap Refused (first-match f)
+
+-- "head, tables and output stay unchanged.": head and tables
+pub refused-same : (c : Call) (s : State) → isRefused (outcomeOf c s .answer) ≡ true → outcomeOf c s .after ≡ s
+refused-same c s = go (outcome-decided c s)
+  where
+    go : {o : Outcome} → Decided (refusalsOf c s) s (acceptedOf c s) o → isRefused (o .answer) ≡ true → o .after ≡ s
+    go (accepts e) p = absurd (true≢false (sym p ∙ accepted-answer c s))
+    go (refuses e) p = refl
+
+-- a call that is not refused meets none of its refusals, and comes to what an accepted call does
+pub accepted-none : (c : Call) (s : State) → isRefused (outcomeOf c s .answer) ≡ false → firstMatch (refusalsOf c s) ≡ 0
+accepted-none c s = go (outcome-decided c s)
+  where
+    go : {o : Outcome} → Decided (refusalsOf c s) s (acceptedOf c s) o → isRefused (o .answer) ≡ false
+        → firstMatch (refusalsOf c s) ≡ 0
+    go (accepts e) p = e
+    go (refuses e) p = absurd (true≢false p)
+
+pub accepted-same : (c : Call) (s : State) → isRefused (outcomeOf c s .answer) ≡ false → outcomeOf c s ≡ acceptedOf c s
+accepted-same c s = go (outcome-decided c s)
+  where
+    go : {o : Outcome} → Decided (refusalsOf c s) s (acceptedOf c s) o → isRefused (o .answer) ≡ false → o ≡ acceptedOf c s
+    go (accepts e) p = refl
+    go (refuses e) p = absurd (true≢false p)
+
+-- ---- the output of chart
+-- "one start slot a waiting record"
+pub length-starts : (ws : List Request) → length (startsOf ws) ≡ length ws
+unfolding startsOf
+length-starts [] = refl
+length-starts (w ∷ ws) = ap suc (length-starts ws)
+
+-- the output is written where no refusal matches, and only there
+data Written (output : List ℕ) (s : State) : List ℕ → Type 0 where
+  untouched : firstMatch (chartRefusals output s) ≢ 0 → Written output s output
+  written :
+      firstMatch (chartRefusals output s) ≡ 0
+      → Written output s (startsOf (waiting s) ++ drop (length (startsOf (waiting s))) output)
+
+output-written : (output : List ℕ) (s : State) → Written output s (chartOutput output s)
+unfolding chartOutput
+output-written output s = go (eqb (firstMatch (chartRefusals output s)) 0) (same (firstMatch (chartRefusals output s)) 0)
+  where
+    go : (x : Bool) → Same (firstMatch (chartRefusals output s)) 0 x
+        → Written output s (cond x (startsOf (waiting s) ++ drop (length (startsOf (waiting s))) output) output)
+    go true (same-yes e) = written e
+    go false (same-no e) = untouched e
+
+-- "head, tables and output stay unchanged.": the output
+pub chart-refused-same : (output : List ℕ) (s : State) → isRefused (chartOf output s .answer) ≡ true
+    → chartOutput output s ≡ output
+unfolding chartOf
+chart-refused-same output s = go (decided (chartRefusals output s) s (charted s)) (output-written output s)
+  where
+    go : {o : Outcome} {l : List ℕ} → Decided (chartRefusals output s) s (charted s) o → Written output s l
+        → isRefused (o .answer) ≡ true → l ≡ output
+    go (accepts e) w p = absurd (true≢false (sym p ∙ accepted-answer (chart output) s))
+    go (refuses e) (untouched f) p = refl
+    go (refuses e) (written f) p = absurd (e f)
+
+-- "Chart writes one start slot a waiting record, in chart order, into a lent output table .. entries beyond are untouched."
+pub record Charts (output : List ℕ) (s : State) (l : List ℕ) : Type 0 where
+  pub same-length : length l ≡ length output
+  pub starts : take (length (startsOf (waiting s))) l ≡ startsOf (waiting s)
+  pub beyond : drop (length (startsOf (waiting s))) l ≡ drop (length (startsOf (waiting s))) output
+
+pub chart-beyond : (output : List ℕ) (s : State) → isRefused (chartOf output s .answer) ≡ false
+    → Charts output s (chartOutput output s)
+unfolding chartOf
+chart-beyond output s = go (decided (chartRefusals output s) s (charted s)) (output-written output s)
+  where
+    go : {o : Outcome} {l : List ℕ} → Decided (chartRefusals output s) s (charted s) o → Written output s l
+        → isRefused (o .answer) ≡ false → Charts output s l
+    go (accepts e) (untouched f) p = absurd (f e)
+    go (accepts e) (written f) p =
+        let r = chart-ready output s e in
+        let waits = waiting-length s (r .ready .shape) in
+        let starts = startsOf (waiting s) in
+        let rest = drop (length starts) output in
+        let parts = length-append starts rest in
+        record {
+          same-length =
+              omega (arith, parts, length-drop (length starts) output, length-starts (waiting s), waits, r .long);
+          starts = take-append-seam starts rest;
+          beyond = drop-append-seam starts rest;
+        }
+    go (refuses e) w p = absurd (true≢false p)

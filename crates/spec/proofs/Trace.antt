@@ -1,0 +1,629 @@
+-- What ties the tables to what is read off the calls and answers of a list that an accepted open began, kept by every call that
+-- is no accepted open: clock, last number, and that the waiting table holds just the list's requests that no answer names.
+-- Assumes nothing.
+use Prim.Native.Nat.{ℕ, zero, suc, _+_, _≤_, _<_}
+use mathlib.Core.Path.{_≡_, refl, sym, ap, _∙_, fun-ext, subst}
+use mathlib.Core.Logic.{_≢_}
+use mathlib.Core.Bool.{Bool, true, false, not, cond, _&&_, _||_, true≢false, false≢true}
+use mathlib.Core.List.{List, [], _∷_, _++_, map}
+use native.Mathlib.Omega.{arith}
+use borrow.Author.Tests.{eq-eqb, ne-eqb, not-false}
+use lib.Dec.{eqb}
+use lib.ListN.{length, getD}
+use Rattle.slots.proofs.Tests.{Same, same-yes, same-no, same}
+use Rattle.slots.proofs.Sums.{one, one-yes, one-no, one-most, All, all-each, all-imp, total, total-le, total-zero, total-map, total-one, total-cons}
+use Rattle.spec.specs.declared.types.Request.{Request}
+use Rattle.spec.specs.declared.types.Answer.{Answer}
+use Rattle.spec.specs.declared.types.Answer.the-variants.{Refused}
+use Rattle.spec.specs.Every.{exists, countIf, select}
+use Rattle.spec.specs.Tables.{zeroRequest, State, waiting, nextState}
+use Rattle.spec.specs.Order.{putInOrder, removeAt}
+use Rattle.spec.specs.Chart.{hasNoOverfull}
+use Rattle.spec.specs.Refusals.{Refusal, firstMatch, openRefusals, submitRefusals, tickRefusals, reportRefusals, chartRefusals}
+use Rattle.spec.specs.Calls.{Outcome, opened, openOf, submitOf, submitted, kept, droppedAt, withNew, newRequest, requestAt, victimPlace, countedIn, change, oneMoreDropped, oneMoreServed, countsAfter, tickOf, ticked, reportOf, reported, chartOf, charted, unlessRefused}
+use Rattle.spec.specs.Lists.{Call, opening, submit, tick, report, chart, outcomeOf, run, Event, history, isRefused, isOpened, isTick, ticks, Asked, askedBy, asked, Booking, servedIn, bookings, Victim, victimBy, victims, isServed, isVictim, servedRequests, waitingRequests}
+use Rattle.spec.proofs.Laws.{or-none, Value, is-true, is-false, value, cond-true, cond-false, total-remove}
+use Rattle.spec.proofs.Order.{total-put, all-put}
+use Rattle.spec.proofs.Facts.{Given}
+use Rattle.spec.proofs.Accepted.{Ready, OpenReady, SubmitReady, TickReady, open-ready, submit-ready, tick-ready, Decided, accepts, refuses, decided, next-waiting}
+use Rattle.spec.proofs.Refused.{refusalsOf, acceptedOf, outcome-decided, accepted-none, accepted-same}
+use Rattle.spec.proofs.Keeps.{open-keeps, submit-keeps, tick-keeps}
+use Rattle.spec.proofs.Victim.{all-at, victim-place}
+
+-- ---- for Laws
+module _ {A : Type 0} where
+  -- a sum by parts
+  pub total-same : (f g : A → ℕ) (xs : List A) → ((x : A) → f x ≡ g x) → total f xs ≡ total g xs
+  total-same f g xs h = ap (λ (k : A → ℕ). total k xs) (fun-ext h)
+
+  pub total-add : (f g : A → ℕ) (xs : List A) → total (λ (x : A). f x + g x) xs ≡ total f xs + total g xs
+  unfolding total
+  total-add f g [] = refl
+  total-add f g (x ∷ xs) = omega (arith, total-add f g xs)
+
+  pub total-select : (f : A → ℕ) (test : A → Bool) (xs : List A) → total f (select test xs) ≡ total (λ (x : A). cond (test x) (f x) 0) xs
+  unfolding total select
+  total-select f test [] = refl
+  total-select f test (x ∷ xs) = go (test x) (total-select f test xs)
+    where
+      go : (b : Bool) → total f (select test xs) ≡ total (λ (x : A). cond (test x) (f x) 0) xs
+          → total f (cond b (x ∷ select test xs) (select test xs)) ≡ cond b (f x) 0 + total (λ (x : A). cond (test x) (f x) 0) xs
+      go true e = omega arith
+      go false e = omega arith
+
+  -- none of them passes
+  pub exists-none : (test : A → Bool) (xs : List A) → All (λ (x : A). test x ≡ false) xs → exists test xs ≡ false
+  unfolding exists
+  exists-none test [] a = refl
+  exists-none test (x ∷ xs) a = rw (a .0, exists-none test xs (a .1))
+
+or-assoc : (x y z : Bool) → (x || y) || z ≡ x || (y || z)
+or-assoc true y z = refl
+or-assoc false y z = refl
+
+or-swap : (x y z : Bool) → y || (x || z) ≡ x || (y || z)
+or-swap true true z = refl
+or-swap true false z = refl
+or-swap false true z = refl
+or-swap false false z = refl
+
+-- ---- requests with the number v, or all others
+abbrev only : ℕ → (Request → ℕ) → Request → ℕ
+only v f r = cond (eqb v (r .number)) (f r) 0
+
+abbrev without : ℕ → (Request → ℕ) → Request → ℕ
+without v f r = cond (eqb v (r .number)) 0 (f r)
+
+-- 1 for the number v
+abbrev has : ℕ → Request → ℕ
+has v r = one v (r .number)
+
+only-without : (v : ℕ) (f : Request → ℕ) (ws : List Request) → total (only v f) ws + total (without v f) ws ≡ total f ws
+only-without v f ws =
+    sym (total-add (only v f) (without v f) ws)
+    ∙ total-same (λ (r : Request). only v f r + without v f r) f ws (λ r. go r (eqb v (r .number)))
+  where
+    go : (r : Request) (b : Bool) → cond b (f r) 0 + cond b 0 (f r) ≡ f r
+    go r true = omega arith
+    go r false = omega arith
+
+without-none : (v : ℕ) (f : Request → ℕ) (ws : List Request) → total (has v) ws ≡ 0 → total (without v f) ws ≡ total f ws
+unfolding total
+without-none v f [] h = refl
+without-none v f (w ∷ ws) h = go (eqb v (w .number)) (same v (w .number)) (without-none v f ws (omega arith))
+  where
+    go : (b : Bool) → Same v (w .number) b → total (without v f) ws ≡ total f ws
+        → cond b 0 (f w) + total (without v f) ws ≡ f w + total f ws
+    go true (same-yes e) r = absurd (omega (arith, one-yes v (w .number) e))
+    go false (same-no n) r = omega arith
+
+-- ---- the list's requests are numbered from 1, the newest first
+abbrev pub Numbered : List Asked → Type 0
+Numbered [] = Unit {0}
+Numbered (a ∷ rs) = (a .request .number ≡ suc (length rs)) × Numbered rs
+
+-- no number stands twice
+numbered-none : (v : ℕ) (rs : List Asked) → Numbered rs → length rs < v → total (λ (a : Asked). has v (a .request)) rs ≡ 0
+unfolding total
+numbered-none v [] n h = refl
+numbered-none v (a ∷ rs) n h =
+    omega (arith, one-no v (a .request .number) (omega (arith, n .0)), numbered-none v rs (n .1) (omega arith))
+
+numbered-once : (v : ℕ) (rs : List Asked) → Numbered rs → total (λ (a : Asked). has v (a .request)) rs ≤ 1
+unfolding total
+numbered-once v [] n = omega arith
+numbered-once v (a ∷ rs) n = go (eqb v (a .request .number)) (same v (a .request .number)) (numbered-once v rs (n .1))
+  where
+    go : (b : Bool) → Same v (a .request .number) b → total (λ (a : Asked). has v (a .request)) rs ≤ 1
+        → has v (a .request) + total (λ (a : Asked). has v (a .request)) rs ≤ 1
+    go true (same-yes e) r = omega (arith, one-most v (a .request .number), numbered-none v rs (n .1) (omega (arith, n .0)))
+    go false (same-no m) r = omega (arith, one-no v (a .request .number) m)
+
+-- ---- sums over the requests whose number passes a test, or does not
+abbrev passing : (ℕ → Bool) → (Request → ℕ) → Asked → ℕ
+passing test f a = cond (test (a .request .number)) (f (a .request)) 0
+
+abbrev failing : (ℕ → Bool) → (Request → ℕ) → Asked → ℕ
+failing test f a = cond (test (a .request .number)) 0 (f (a .request))
+
+-- ws holds just the requests that are not named: one of them is named now, at the place k
+module _ (named : ℕ → Bool) (rs : List Asked) (ws : List Request) (k : ℕ) (num : Numbered rs)
+    (sums : (f : Request → ℕ) → total (failing named f) rs ≡ total f ws) (h : k < length ws) where
+  abbrev w : Request
+  w = getD ws k zeroRequest
+
+  abbrev v : ℕ
+  v = w .number
+
+  once : total (has v) ws ≤ 1
+  once =
+      omega (
+        arith,
+        sums (has v),
+        numbered-once v rs num,
+        total-le (failing named (has v)) (λ (a : Asked). has v (a .request)) rs (λ a. go a (named (a .request .number))),
+      )
+    where
+      go : (a : Asked) (b : Bool) → cond b 0 (has v (a .request)) ≤ has v (a .request)
+      go a true = omega arith
+      go a false = omega arith
+
+  rest-none : total (has v) (removeAt k ws) ≡ 0
+  rest-none = omega (arith, once, total-remove (has v) k zeroRequest ws h, one-yes v v refl)
+
+  -- those that are not named now stand in what is left
+  sums-left : (now : ℕ → Bool) → ((n : ℕ) → now n ≡ eqb v n || named n) → (f : Request → ℕ) → total (failing now f) rs ≡ total f (removeAt k ws)
+  sums-left now e f =
+      total-same (failing now f) (failing named (without v f)) rs (λ a. go a (now (a .request .number)) (eqb v (a .request .number)) (named (a .request .number)) (e (a .request .number)))
+      ∙ sums (without v f)
+      ∙ omega (arith, total-remove (without v f) k zeroRequest ws h, cond-true (eqb v v) 0 (f w) (eq-eqb v v refl), without-none v f (removeAt k ws) rest-none)
+    where
+      go : (a : Asked) (x y z : Bool) → x ≡ y || z → cond x 0 (f (a .request)) ≡ cond z 0 (cond y 0 (f (a .request)))
+      go a x true true e = rw e
+      go a x true false e = rw e
+      go a x false true e = rw e
+      go a x false false e = rw e
+
+  -- it was not named before
+  fresh : named v ≡ false
+  fresh = go (value (named v))
+    where
+      none-of : named v ≡ true → (a : Asked) → failing named (has v) a ≡ 0
+      none-of e a = at-number (eqb v (a .request .number)) (same v (a .request .number))
+        where
+          at-number : (b : Bool) → Same v (a .request .number) b → failing named (has v) a ≡ 0
+          at-number true (same-yes g) = cond-true (named (a .request .number)) 0 (has v (a .request)) (rw g at e)
+          at-number false (same-no n) = small (named (a .request .number)) (one-no v (a .request .number) n)
+            where
+              small : (c : Bool) → has v (a .request) ≡ 0 → cond c 0 (has v (a .request)) ≡ 0
+              small true z = refl
+              small false z = z
+
+      go : Value (named v) → named v ≡ false
+      go (is-true e) =
+          absurd (omega (arith, sums (has v), total-zero (failing named (has v)) rs (all-each (λ (a : Asked). failing named (has v) a ≡ 0) rs (none-of e)), total-remove (has v) k zeroRequest ws h, one-yes v v refl))
+      go (is-false e) = e
+
+  -- a sum over those that pass a test rises by the request that passes it now
+  sums-passing : (before now : ℕ → Bool) → before v ≡ false → ((n : ℕ) → now n ≡ eqb v n || before n) → (f : Request → ℕ)
+      → total (passing now f) rs ≡ f w + total (passing before f) rs
+  sums-passing before now b e f =
+      total-same (passing now f) (λ (a : Asked). failing named (only v f) a + passing before f a) rs split
+      ∙ total-add (failing named (only v f)) (passing before f) rs
+      ∙ omega (arith, sums (only v f), only-one)
+    where
+      only-one : total (only v f) ws ≡ f w
+      only-one =
+          omega (
+            arith,
+            total-remove (only v f) k zeroRequest ws h,
+            cond-true (eqb v v) (f w) 0 (eq-eqb v v refl),
+            only-without v f (removeAt k ws),
+            without-none v f (removeAt k ws) rest-none,
+          )
+
+      split : (a : Asked) → passing now f a ≡ failing named (only v f) a + passing before f a
+      split a = rw (e (a .request .number)) (go (eqb v (a .request .number)) (same v (a .request .number)))
+        where
+          n : ℕ
+          n = a .request .number
+
+          other : (c z : Bool) → cond z (f (a .request)) 0 ≡ cond c 0 0 + cond z (f (a .request)) 0
+          other true z = omega arith
+          other false z = omega arith
+
+          go : (y : Bool) → Same v n y → cond (y || before n) (f (a .request)) 0
+              ≡ cond (named n) 0 (cond y (f (a .request)) 0) + cond (before n) (f (a .request)) 0
+          go true (same-yes g) =
+              let p : named n ≡ false = rw g at fresh in
+              let q : before n ≡ false = rw g at b in
+              rw (p, q) (omega arith)
+          go false (same-no g) = other (named n) (before n)
+
+-- ---- what is read off the list, in sums
+-- whether an answer names the number
+abbrev pub isServedNumber : List Event → ℕ → Bool
+isServedNumber es n = exists (λ (b : Booking). eqb (b .number) n) (bookings es)
+
+abbrev pub isVictimNumber : List Event → ℕ → Bool
+isVictimNumber es n = exists (λ (v : Victim). eqb (v .number) n) (victims es)
+
+abbrev pub isNamed : List Event → ℕ → Bool
+isNamed es n = isVictimNumber es n || isServedNumber es n
+
+abbrev pub requests : List Asked → List Request
+requests rs = map (λ (a : Asked). a .request) rs
+
+waiting-total : (f : Request → ℕ) (es : List Event) → total f (requests (waitingRequests es)) ≡ total (failing (isNamed es) f) (asked es)
+unfolding waitingRequests
+waiting-total f es =
+    total-map f (λ (a : Asked). a .request) (waitingRequests es)
+    ∙ total-select (λ (a : Asked). f (a .request)) (λ (a : Asked). not (isNamed es (a .request .number))) (asked es)
+    ∙ total-same (λ (a : Asked). cond (not (isNamed es (a .request .number))) (f (a .request)) 0) (failing (isNamed es) f) (asked es)
+    (λ a. go a (isNamed es (a .request .number)))
+  where
+    go : (a : Asked) (b : Bool) → cond (not b) (f (a .request)) 0 ≡ cond b 0 (f (a .request))
+    go a true = refl
+    go a false = refl
+
+served-total : (f : Request → ℕ) (es : List Event) → total f (requests (servedRequests es)) ≡ total (passing (isServedNumber es) f) (asked es)
+unfolding servedRequests
+served-total f es =
+    total-map f (λ (a : Asked). a .request) (servedRequests es)
+    ∙ total-select (λ (a : Asked). f (a .request)) (λ (a : Asked). isServedNumber es (a .request .number)) (asked es)
+
+-- ---- what the list says of the state
+-- what can be summed up over requests and over bookings
+abbrev pub known : (ℕ → ℕ → ℕ) → Request → ℕ
+known f r = f (r .number) (r .client)
+
+abbrev pub knownBooking : (ℕ → ℕ → ℕ) → Booking → ℕ
+knownBooking f b = f (b .number) (b .client)
+
+pub record Traced (es : List Event) (s : State) : Type 0 where
+  pub ready : Ready s
+  -- "The clock at a submission is the number of ticks before it in the list that were not refused, whatever they answered."
+  pub clock : s .head .clock ≡ ticks es
+  pub last : s .head .last ≡ length (asked es)
+  pub numbered : Numbered (asked es)
+  -- the answers name given numbers
+  pub bookings-given : All (λ (b : Booking). b .number ≤ length (asked es)) (bookings es)
+  pub victims-given : All (λ (v : Victim). v .number ≤ length (asked es)) (victims es)
+  -- "Waiting are the list's requests that no answer in it names as victim or as served.": the table holds just these
+  pub sums : (f : Request → ℕ) → total f (requests (waitingRequests es)) ≡ total f (waiting s)
+  -- the bookings are of the list's requests, each of another
+  pub served : (f : ℕ → ℕ → ℕ) → total (known f) (requests (servedRequests es)) ≡ total (knownBooking f) (bookings es)
+
+-- as many wait as the list says, and as many were served
+pub waiting-as-many : (es : List Event) (s : State) → Traced es s → length (waitingRequests es) ≡ length (waiting s)
+waiting-as-many es s T =
+    sym (total-one (λ (a : Asked). 1) (waitingRequests es) (λ a. refl))
+    ∙ sym (total-map (λ (r : Request). 1) (λ (a : Asked). a .request) (waitingRequests es))
+    ∙ T .sums (λ r. 1)
+    ∙ total-one (λ (r : Request). 1) (waiting s) (λ r. refl)
+
+pub served-as-many : (es : List Event) (s : State) → Traced es s → length (servedRequests es) ≡ length (bookings es)
+served-as-many es s T =
+    sym (total-one (λ (a : Asked). 1) (servedRequests es) (λ a. refl))
+    ∙ sym (total-map (λ (r : Request). 1) (λ (a : Asked). a .request) (servedRequests es))
+    ∙ T .served (λ n c. 1)
+    ∙ total-one (λ (b : Booking). 1) (bookings es) (λ b. refl)
+
+-- a number that was not given is not named
+module _ (es : List Event) (s : State) (T : Traced es s) (n : ℕ) (h : length (asked es) < n) where
+  unserved : isServedNumber es n ≡ false
+  unserved =
+      exists-none (λ (b : Booking). eqb (b .number) n) (bookings es)
+      (all-imp (λ (b : Booking). b .number ≤ length (asked es)) (λ (b : Booking). eqb (b .number) n ≡ false) (bookings es)
+      (λ b g. ne-eqb (b .number) n (omega arith)) (T .bookings-given))
+
+  unnamed : isNamed es n ≡ false
+  unnamed = rw (none-of, unserved)
+    where
+      none-of : isVictimNumber es n ≡ false
+      none-of =
+          exists-none (λ (v : Victim). eqb (v .number) n) (victims es)
+          (all-imp (λ (v : Victim). v .number ≤ length (asked es)) (λ (v : Victim). eqb (v .number) n ≡ false) (victims es)
+          (λ v g. ne-eqb (v .number) n (omega arith)) (T .victims-given))
+
+-- ---- open
+pub traced-open : (clients period : ℕ) (s : State) → OpenReady clients period s → Traced [] (opened clients period s .after)
+unfolding opened ticks countIf asked bookings victims waitingRequests servedRequests select total
+traced-open clients period s r =
+    record {
+      ready = open-keeps clients period s r;
+      clock = refl;
+      last = refl;
+      numbered = tt;
+      bookings-given = tt;
+      victims-given = tt;
+      sums = λ f. refl;
+      served = λ f. refl;
+    }
+
+-- ---- submit
+-- kept, or one dropped
+pub data Submitted (client deadline : ℕ) (s : State) : Outcome → Type 0 where
+  keeps :
+      hasNoOverfull (s .head .clock) (withNew client deadline s) ≡ true
+      → Submitted client deadline s (kept client deadline s)
+  drops :
+      hasNoOverfull (s .head .clock) (withNew client deadline s) ≡ false
+      → Submitted client deadline s (droppedAt (victimPlace client deadline s) client deadline s)
+
+pub submitted-cases : (client deadline : ℕ) (s : State) → Submitted client deadline s (submitted client deadline s)
+unfolding submitted
+submitted-cases client deadline s = go (hasNoOverfull (s .head .clock) (withNew client deadline s)) refl
+  where
+    go : (x : Bool) → hasNoOverfull (s .head .clock) (withNew client deadline s) ≡ x
+        → Submitted client deadline s (cond x (kept client deadline s) (droppedAt (victimPlace client deadline s) client deadline s))
+    go true e = keeps e
+    go false e = drops e
+
+-- a call and its answer
+abbrev pub event : Call → Answer → Event
+event c a = record { call = c; answer = a }
+
+module _ (client deadline : ℕ) (s : State) (es : List Event) (T : Traced es s) where
+  abbrev new : Asked
+  new = record { request = newRequest client deadline s; release = ticks es }
+
+  -- the new request and the others that are not named are those that wait with it
+  new-sums : (f : Request → ℕ) → total (failing (isNamed es) f) (new ∷ asked es) ≡ total f (withNew client deadline s)
+  new-sums f =
+      omega (
+        arith,
+        total-cons (failing (isNamed es) f) new (asked es),
+        cond-false (isNamed es (suc (s .head .last))) 0 (f (newRequest client deadline s))
+            (unnamed es s T (suc (s .head .last)) (omega (arith, T .last))),
+        waiting-total f es,
+        T .sums f,
+        total-put f (newRequest client deadline s) (waiting s),
+      )
+
+  -- it is not served
+  new-served : (f : Request → ℕ) → total (passing (isServedNumber es) f) (new ∷ asked es) ≡ total f (requests (servedRequests es))
+  new-served f =
+      omega (
+        arith,
+        total-cons (passing (isServedNumber es) f) new (asked es),
+        cond-false (isServedNumber es (suc (s .head .last))) (f (newRequest client deadline s)) 0
+            (unserved es s T (suc (s .head .last)) (omega (arith, T .last))),
+        served-total f es,
+      )
+
+  bookings-on : All (λ (b : Booking). b .number ≤ suc (length (asked es))) (bookings es)
+  bookings-on =
+      all-imp (λ (b : Booking). b .number ≤ length (asked es)) (λ (b : Booking). b .number ≤ suc (length (asked es))) (bookings es)
+      (λ b h. omega arith) (T .bookings-given)
+
+  victims-on : All (λ (v : Victim). v .number ≤ suc (length (asked es))) (victims es)
+  victims-on =
+      all-imp (λ (v : Victim). v .number ≤ length (asked es)) (λ (v : Victim). v .number ≤ suc (length (asked es))) (victims es)
+      (λ v h. omega arith) (T .victims-given)
+
+  traced-kept : Ready (kept client deadline s .after)
+      → Traced (event (submit client deadline) (kept client deadline s .answer) ∷ es) (kept client deadline s .after)
+  unfolding kept nextState ticks countIf asked bookings victims
+  traced-kept r =
+      record {
+        ready = r;
+        clock = omega (arith, T .clock);
+        last = ap suc (T .last);
+        numbered = (ap suc (T .last), T .numbered);
+        bookings-given = bookings-on;
+        victims-given = victims-on;
+        sums =
+            λ f. waiting-total f (event (submit client deadline) (kept client deadline s .answer) ∷ es) ∙ new-sums f
+            ∙ ap (total f) (sym (next-waiting (s .head .clock) (suc (s .head .last)) (withNew client deadline s) (countedIn client s) s));
+        served =
+            λ f. served-total (known f) (event (submit client deadline) (kept client deadline s .answer) ∷ es)
+            ∙ new-served (known f) ∙ T .served f;
+      }
+
+  -- the record at the place k is dropped
+  module _ (k : ℕ) (h : k < length (withNew client deadline s)) where
+    victim-given : requestAt k client deadline s .number ≤ suc (length (asked es))
+    victim-given =
+        all-at (λ (r : Request). r .number ≤ suc (length (asked es))) (withNew client deadline s) k zeroRequest h
+        (all-put (λ (r : Request). r .number ≤ suc (length (asked es))) (newRequest client deadline s) (waiting s)
+        (omega (arith, T .last))
+        (all-imp (Given (s .head .last)) (λ (r : Request). r .number ≤ suc (length (asked es))) (waiting s)
+        (λ r g. omega (arith, T .last)) (T .ready .sound .given)))
+
+    traced-dropped : Ready (droppedAt k client deadline s .after)
+        → Traced (event (submit client deadline) (droppedAt k client deadline s .answer) ∷ es) (droppedAt k client deadline s .after)
+    unfolding droppedAt nextState ticks countIf asked bookings victims exists
+    traced-dropped r =
+        record {
+          ready = r;
+          clock = omega (arith, T .clock);
+          last = ap suc (T .last);
+          numbered = (ap suc (T .last), T .numbered);
+          bookings-given = bookings-on;
+          victims-given = (victim-given, victims-on);
+          sums =
+              λ f. waiting-total f now
+              ∙ sums-left (isNamed es) (new ∷ asked es) (withNew client deadline s) k (ap suc (T .last), T .numbered) new-sums h (isNamed now) named-now f
+              ∙ ap (total f)
+              (sym (next-waiting (s .head .clock) (suc (s .head .last)) (removeAt k (withNew client deadline s)) (change oneMoreDropped (requestAt k client deadline s .client) (countedIn client s)) s));
+          served = λ f. served-total (known f) now ∙ new-served (known f) ∙ T .served f;
+        }
+      where
+        now : List Event
+        now = event (submit client deadline) (droppedAt k client deadline s .answer) ∷ es
+
+        named-now : (n : ℕ) → isNamed now n ≡ eqb (requestAt k client deadline s .number) n || isNamed es n
+        named-now n = or-assoc (eqb (requestAt k client deadline s .number) n) (isVictimNumber es n) (isServedNumber es n)
+
+pub traced-submit : (client deadline : ℕ) (s : State) (es : List Event) → SubmitReady client deadline s → Traced es s
+    → Traced (event (submit client deadline) (submitted client deadline s .answer) ∷ es) (submitted client deadline s .after)
+traced-submit client deadline s es r T = go (submitted-cases client deadline s) (submit-keeps client deadline s r)
+  where
+    go : {o : Outcome} → Submitted client deadline s o → Ready (o .after) → Traced (event (submit client deadline) (o .answer) ∷ es) (o .after)
+    go (keeps e) q = traced-kept client deadline s es T q
+    go (drops e) q =
+        traced-dropped client deadline s es T (victimPlace client deadline s) (victim-place client deadline s r .0) q
+
+-- ---- tick
+module _ (s : State) (es : List Event) (T : Traced es s) where
+  traced-ticked : (ws : List Request) → waiting s ≡ ws → Ready (ticked ws s .after)
+      → Traced (event tick (ticked ws s .answer) ∷ es) (ticked ws s .after)
+  unfolding ticked nextState ticks countIf asked bookings victims exists total removeAt
+  traced-ticked [] e r =
+      record {
+        ready = r;
+        clock = omega (arith, T .clock);
+        last = T .last;
+        numbered = T .numbered;
+        bookings-given = T .bookings-given;
+        victims-given = T .victims-given;
+        sums = λ f. waiting-total f now ∙ sym (waiting-total f es) ∙ T .sums f ∙ ap (total f) e;
+        served = λ f. served-total (known f) now ∙ sym (served-total (known f) es) ∙ T .served f;
+      }
+    where
+      now : List Event
+      now = event tick (ticked [] s .answer) ∷ es
+  traced-ticked (w ∷ ws) e r =
+      record {
+        ready = r;
+        clock = omega (arith, T .clock);
+        last = T .last;
+        numbered = T .numbered;
+        bookings-given = (first-given, T .bookings-given);
+        victims-given = T .victims-given;
+        sums =
+            λ f. waiting-total f now
+            ∙ sums-left (isNamed es) (asked es) (w ∷ ws) 0 (T .numbered) old (omega arith) (isNamed now) named-now f
+            ∙ ap (total f) (sym (next-waiting (suc (s .head .clock)) (s .head .last) ws
+            (countsAfter (s .head .period) (suc (s .head .clock)) ws (change oneMoreServed (w .client) (s .clientTable))) s));
+        served =
+            λ f. served-total (known f) now
+            ∙ sums-passing (isNamed es) (asked es) (w ∷ ws) 0 (T .numbered) old (omega arith) (isServedNumber es) (isServedNumber now)
+            (or-none (isVictimNumber es (w .number)) (isServedNumber es (w .number)) (fresh (isNamed es) (asked es) (w ∷ ws) 0 (T .numbered) old (omega arith)) .1) (λ n. refl) (known f)
+            ∙ ap (λ (n : ℕ). f (w .number) (w .client) + n) (sym (served-total (known f) es) ∙ T .served f);
+      }
+    where
+      now : List Event
+      now = event tick (ticked (w ∷ ws) s .answer) ∷ es
+
+      old : (f : Request → ℕ) → total (failing (isNamed es) f) (asked es) ≡ total f (w ∷ ws)
+      old f = sym (waiting-total f es) ∙ T .sums f ∙ ap (total f) e
+
+      named-now : (n : ℕ) → isNamed now n ≡ eqb (w .number) n || isNamed es n
+      named-now n = or-swap (eqb (w .number) n) (isVictimNumber es n) (isServedNumber es n)
+
+      first-given : w .number ≤ length (asked es)
+      first-given =
+          let g : All (Given (s .head .last)) (w ∷ ws) = subst (All (Given (s .head .last))) e (T .ready .sound .given) in
+          omega (arith, g .0, T .last)
+
+pub traced-tick : (s : State) (es : List Event) → TickReady s → Traced es s
+    → Traced (event tick (ticked (waiting s) s .answer) ∷ es) (ticked (waiting s) s .after)
+traced-tick s es r T = traced-ticked s es T (waiting s) refl (tick-keeps s r)
+
+-- ---- events that leave the state: refused calls, reports and charts
+pub record Passing (e : Event) : Type 0 where
+  pub no-tick : isTick e ≡ false
+  pub none-asked : (clock : ℕ) → askedBy (e .call) (e .answer) clock ≡ []
+  pub none-served : servedIn e ≡ []
+  pub none-dropped : victimBy (e .answer) ≡ []
+
+pub refused-passing : (c : Call) (n : ℕ) → Passing (event c (Refused n))
+refused-passing (opening clients period) n = record { no-tick = refl; none-asked = λ t. refl; none-served = refl; none-dropped = refl }
+refused-passing (submit client deadline) n = record { no-tick = refl; none-asked = λ t. refl; none-served = refl; none-dropped = refl }
+refused-passing tick n = record { no-tick = refl; none-asked = λ t. refl; none-served = refl; none-dropped = refl }
+refused-passing (report client) n = record { no-tick = refl; none-asked = λ t. refl; none-served = refl; none-dropped = refl }
+refused-passing (chart output) n = record { no-tick = refl; none-asked = λ t. refl; none-served = refl; none-dropped = refl }
+
+module _ (e : Event) (es : List Event) (p : Passing e) where
+  pub same-ticks : ticks (e ∷ es) ≡ ticks es
+  unfolding ticks countIf
+  same-ticks = rw (p .no-tick) (omega arith)
+
+  pub same-asked : asked (e ∷ es) ≡ asked es
+  unfolding asked
+  same-asked = ap (λ (l : List Asked). l ++ asked es) (p .none-asked (ticks es))
+
+  pub same-bookings : bookings (e ∷ es) ≡ bookings es
+  unfolding bookings
+  same-bookings = ap (λ (l : List Booking). l ++ bookings es) (p .none-served)
+
+  pub same-victims : victims (e ∷ es) ≡ victims es
+  unfolding victims
+  same-victims = ap (λ (l : List Victim). l ++ victims es) (p .none-dropped)
+
+  pub same-waiting : waitingRequests (e ∷ es) ≡ waitingRequests es
+  unfolding waitingRequests
+  same-waiting = rw (same-asked, same-bookings, same-victims)
+
+  pub same-served : servedRequests (e ∷ es) ≡ servedRequests es
+  unfolding servedRequests
+  same-served = λ i. select (λ (a : Asked). exists (λ (b : Booking). eqb (b .number) (a .request .number)) (same-bookings i)) (same-asked i)
+
+  pub traced-same : (s : State) → Traced es s → Traced (e ∷ es) s
+  traced-same s T =
+      record {
+        ready = T .ready;
+        clock = rw same-ticks (T .clock);
+        last = rw same-asked (T .last);
+        numbered = rw same-asked (T .numbered);
+        bookings-given = rw (same-asked, same-bookings) (T .bookings-given);
+        victims-given = rw (same-asked, same-victims) (T .victims-given);
+        sums = rw same-waiting (T .sums);
+        served = rw (same-served, same-bookings) (T .served);
+      }
+
+-- ---- a call that is no accepted open
+pub data Step (s : State) : Event → State → Type 0 where
+  submits : (client deadline : ℕ) → SubmitReady client deadline s
+      → Step s (event (submit client deadline) (submitted client deadline s .answer)) (submitted client deadline s .after)
+  serves : TickReady s → Step s (event tick (ticked (waiting s) s .answer)) (ticked (waiting s) s .after)
+  passes : (e : Event) → Passing e → Step s e s
+
+abbrev pub eventOf : Call → State → Event
+eventOf c s = event c (outcomeOf c s .answer)
+
+accepted-step : (c : Call) (s : State) → firstMatch (refusalsOf c s) ≡ 0 → isOpened (event c (acceptedOf c s .answer)) ≡ false
+    → Step s (event c (acceptedOf c s .answer)) (acceptedOf c s .after)
+unfolding opened reported charted
+accepted-step (opening clients period) s e h = absurd (true≢false h)
+accepted-step (submit client deadline) s e h = submits client deadline (submit-ready client deadline s e)
+accepted-step tick s e h = serves (tick-ready s e)
+accepted-step (report client) s e h =
+    passes (event (report client) (reported client s .answer))
+    (record { no-tick = refl; none-asked = λ t. refl; none-served = refl; none-dropped = refl })
+accepted-step (chart output) s e h =
+    passes (event (chart output) (charted s .answer))
+    (record { no-tick = refl; none-asked = λ t. refl; none-served = refl; none-dropped = refl })
+
+pub step : (c : Call) (s : State) → isOpened (eventOf c s) ≡ false → Step s (eventOf c s) (outcomeOf c s .after)
+step c s = go (outcome-decided c s)
+  where
+    go : {o : Outcome} → Decided (refusalsOf c s) s (acceptedOf c s) o → isOpened (event c (o .answer)) ≡ false
+        → Step s (event c (o .answer)) (o .after)
+    go (accepts e) h = accepted-step c s e h
+    go (refuses n) h = passes (event c (Refused (firstMatch (refusalsOf c s)))) (refused-passing c (firstMatch (refusalsOf c s)))
+
+pub traced-step : (s : State) (e : Event) (t : State) (es : List Event) → Step s e t → Traced es s → Traced (e ∷ es) t
+traced-step s e t es (submits client deadline r) T = traced-submit client deadline s es r T
+traced-step s e t es (serves r) T = traced-tick s es r T
+traced-step s e t es (passes x p) T = traced-same x es p s T
+
+-- ---- the whole list: what every step keeps holds after it
+module _ (P : List Event → State → Type 0)
+    (keep : (s : State) (e : Event) (t : State) (es : List Event) → Step s e t → Traced es s → P es s → P (e ∷ es) t) (s : State) where
+  pub along : (cs : List Call) → exists isOpened (history s cs) ≡ false → Traced [] s → P [] s
+      → Traced (history s cs) (run s cs) × P (history s cs) (run s cs)
+  unfolding history run exists
+  along [] h T p = (T, p)
+  along (c ∷ cs) h T p =
+      go (or-none (isOpened (eventOf c (run s cs))) (exists isOpened (history s cs)) h)
+      (λ g. along cs g T p)
+    where
+      go : (isOpened (eventOf c (run s cs)) ≡ false) × (exists isOpened (history s cs) ≡ false)
+          → (exists isOpened (history s cs) ≡ false → Traced (history s cs) (run s cs) × P (history s cs) (run s cs))
+          → Traced (eventOf c (run s cs) ∷ history s cs) (outcomeOf c (run s cs) .after)
+          × P (eventOf c (run s cs) ∷ history s cs) (outcomeOf c (run s cs) .after)
+      go q r =
+          let k : Step (run s cs) (eventOf c (run s cs)) (outcomeOf c (run s cs) .after) = step c (run s cs) (q .0) in
+          let b : Traced (history s cs) (run s cs) × P (history s cs) (run s cs) = r (q .1) in (
+            traced-step (run s cs) (eventOf c (run s cs)) (outcomeOf c (run s cs) .after) (history s cs) k (b .0),
+            keep (run s cs) (eventOf c (run s cs)) (outcomeOf c (run s cs) .after) (history s cs) k (b .0) (b .1),
+          )
+
+-- ---- from an accepted open on
+-- what holds of the outcome where open is accepted
+pub accepted-open : (P : Outcome → Type 0) (clients period : ℕ) (s : State) → isRefused (openOf clients period s .answer) ≡ false
+    → (OpenReady clients period s → P (opened clients period s)) → P (openOf clients period s)
+unfolding outcomeOf
+accepted-open P clients period s a f =
+    subst P (sym (accepted-same (opening clients period) s a))
+    (f (open-ready clients period s (accepted-none (opening clients period) s a)))
+
+pub traced : (clients period : ℕ) (s : State) (cs : List Call) → isRefused (openOf clients period s .answer) ≡ false
+    → exists isOpened (history (openOf clients period s .after) cs) ≡ false
+    → Traced (history (openOf clients period s .after) cs) (run (openOf clients period s .after) cs)
+traced clients period s cs a h =
+    along (λ (es : List Event) (t : State). Unit {0}) (λ s e t es k T p. tt) (openOf clients period s .after) cs h
+    (accepted-open (λ (o : Outcome). Traced [] (o .after)) clients period s a (traced-open clients period s)) tt .0
