@@ -10,6 +10,7 @@ pub mod Fair
 pub mod Latest
 pub mod Trace
 pub mod Counts
+pub mod Largest
 pub mod Computed
 pub mod Cases
 pub mod Sessions
