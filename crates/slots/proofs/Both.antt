@@ -6,16 +6,16 @@ use mathlib.Core.List.{List, _++_}
 use native.Mathlib.Omega.{arith}
 use lib.ListN.{length, length-append}
 use Rattle.slots.specs.Plan.{Slot, at, planned, size}
-use Rattle.slots.proofs.Tests.{le, gt, order}
-use Rattle.slots.proofs.Sums.{All, all-imp, all-append, total, total-append, total-one}
+use Rattle.slots.proofs.Laws.Tests.{le, gt, order}
+use Rattle.slots.proofs.Laws.Sums.{All, all-imp, all-append, total, total-append, total-one}
 use Rattle.slots.proofs.Queue.{opens, Entry, Booking, Queue, empty, arrival, asking, ticked, Joined, Swapped, is, Placed}
-use Rattle.slots.proofs.Count.{size-total}
-use Rattle.slots.proofs.Sorted.{Sorted, due, upto}
+use Rattle.slots.proofs.Laws.Count.{size-total}
+use Rattle.slots.proofs.Laws.Sorted.{Sorted, due, upto}
 use Rattle.slots.proofs.Upper.{Inv, inv-empty, inv-kept, inv-dropped, inv-ticked, upper}
-use Rattle.slots.proofs.Chart.{chart, plan}
-use Rattle.slots.proofs.Book.{who, Known, book-total, Good, book-fits}
-use Rattle.slots.proofs.Seat.{sits, chart-length, chart-who, seated, rank-heads, rank-none}
-use Rattle.slots.proofs.Own.{Served, Waits, Own, own-empty, own-kept, own-dropped, own-ticked, log-none, none-due, roomy}
+use Rattle.slots.proofs.Reached.Chart.{chart, plan}
+use Rattle.slots.proofs.Reached.Book.{who, Known, book-total, Good, book-fits}
+use Rattle.slots.proofs.Reached.Seat.{sits, chart-length, chart-who, seated, rank-heads, rank-none}
+use Rattle.slots.proofs.Reached.Own.{Served, Waits, Own, own-empty, own-kept, own-dropped, own-ticked, log-none, none-due, roomy}
 
 module _ (heads : ℕ → ℕ) where
   pub record Both (q : Queue) : Type 0 where

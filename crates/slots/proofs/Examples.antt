@@ -5,7 +5,7 @@ use mathlib.Core.List.{List, [], _∷_}
 use Rattle.slots.specs.Room.{capacity}
 use Rattle.slots.specs.Plan.{none, at}
 use Rattle.slots.proofs.Queue.{opens, Entry, Queue, empty, arrival, asking, ticked}
-use Rattle.slots.proofs.Chart.{plan}
+use Rattle.slots.proofs.Reached.Chart.{plan}
 use Rattle.slots.proofs.Plain.{own}
 
 -- requests 1, 2 and 3, where request 1 was dropped for request 2

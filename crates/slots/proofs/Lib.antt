@@ -1,15 +1,8 @@
-pub mod Tests
-pub mod Sums
+pub mod Laws
 pub mod Queue
-pub mod Count
-pub mod Sorted
 pub mod Upper
-pub mod Chart
-pub mod Book
-pub mod Seat
-pub mod Own
+pub mod Reached
 pub mod Both
-pub mod Agree
 pub mod Room
 pub mod Placing
 pub mod Plain

@@ -5,13 +5,13 @@ use mathlib.Core.List.{List, [], _∷_, map}
 use native.Mathlib.Omega.{arith}
 use lib.ListN.{length}
 use Rattle.slots.specs.Plan.{since, Slot, none, at, Fits, planned, size}
-use Rattle.slots.proofs.Sums.{total, total-map, total-one}
+use Rattle.slots.proofs.Laws.Sums.{total, total-map, total-one}
 use Rattle.slots.proofs.Queue.{opens, Entry, Booking, is, Placed}
-use Rattle.slots.proofs.Count.{size-total, before, below, pigeon}
-use Rattle.slots.proofs.Sorted.{Sorted, sorted-low, dueBy}
+use Rattle.slots.proofs.Laws.Count.{size-total, before, below, pigeon}
+use Rattle.slots.proofs.Laws.Sorted.{Sorted, sorted-low, dueBy}
 use Rattle.slots.proofs.Upper.{Feasible}
-use Rattle.slots.proofs.Chart.{chart}
-use Rattle.slots.proofs.Seat.{slotted, Roomy, chart-length, chart-fits, rank-heads}
+use Rattle.slots.proofs.Reached.Chart.{chart}
+use Rattle.slots.proofs.Reached.Seat.{slotted, Roomy, chart-length, chart-fits, rank-heads}
 
 -- ---- where all have a slot, those due by D have theirs before D
 module _ (t : ℕ) where

@@ -9,18 +9,18 @@ use lib.Dec.{leb, eqb}
 use lib.ListN.{length}
 use Rattle.slots.specs.Room.{capacity, room}
 use Rattle.slots.specs.Plan.{since, Window, Slot, none, at, Fits, IsFree, Distinct, Plan, size}
-use Rattle.slots.proofs.Tests.{Test, holds, fails, test, Same, same-yes, same-no, same, le, gt, order}
-use Rattle.slots.proofs.Sums.{one, one-yes, one-no, All, total}
+use Rattle.slots.proofs.Laws.Tests.{Test, holds, fails, test, Same, same-yes, same-no, same, le, gt, order}
+use Rattle.slots.proofs.Laws.Sums.{one, one-yes, one-no, All, total}
 use Rattle.slots.proofs.Queue.{opens, Entry, Booking, Queue, arrival, asking, Joined, Swapped, is, Placed}
-use Rattle.slots.proofs.Count.{below-mono}
-use Rattle.slots.proofs.Sorted.{Sorted, dueBy, due, upto, upto-none}
+use Rattle.slots.proofs.Laws.Count.{below-mono}
+use Rattle.slots.proofs.Laws.Sorted.{Sorted, dueBy, due, upto, upto-none}
 use Rattle.slots.proofs.Upper.{Feasible}
-use Rattle.slots.proofs.Chart.{slotOf, ends, place, chart, book, plan}
-use Rattle.slots.proofs.Book.{who}
-use Rattle.slots.proofs.Seat.{slotted}
-use Rattle.slots.proofs.Own.{none-due}
+use Rattle.slots.proofs.Reached.Chart.{slotOf, ends, place, chart, book, plan}
+use Rattle.slots.proofs.Reached.Book.{who}
+use Rattle.slots.proofs.Reached.Seat.{slotted}
+use Rattle.slots.proofs.Reached.Own.{none-due}
 use Rattle.slots.proofs.Both.{Both, both-kept, both-dropped, bookings, once-all, plan-placed, plan-size, placed-size}
-use Rattle.slots.proofs.Agree.{Booked, InPlan, as-booked, as-planned}
+use Rattle.slots.proofs.Reached.Agree.{Booked, InPlan, as-booked, as-planned}
 use Rattle.slots.proofs.Room.{opens-capacity, room-back, fits-opens, opens-fits, over-opens}
 use Rattle.slots.proofs.Placing.{none-before, due-below, placed-feasible, feasible-placed, chart-size}
 

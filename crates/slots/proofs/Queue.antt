@@ -6,7 +6,7 @@ use mathlib.Core.Path.{_≡_}
 use mathlib.Core.List.{List, [], _∷_}
 use lib.ListN.{length, take, drop}
 use Rattle.slots.specs.Plan.{Window, Slot, none, at, Fits}
-use Rattle.slots.proofs.Sums.{one, All, total}
+use Rattle.slots.proofs.Laws.Sums.{one, All, total}
 
 -- how many requests the slots before D can take
 unfoldable pub opens : (ℕ → ℕ) → ℕ → ℕ

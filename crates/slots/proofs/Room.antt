@@ -5,7 +5,7 @@ use mathlib.Core.Path.{_≡_, refl}
 use native.Mathlib.Omega.{arith}
 use Rattle.slots.specs.Room.{capacity, room}
 use Rattle.slots.proofs.Queue.{opens}
-use Rattle.slots.proofs.Count.{opens-suc, opens-mono}
+use Rattle.slots.proofs.Laws.Count.{opens-suc, opens-mono}
 
 pub opens-capacity : (D : ℕ) → opens capacity D ≡ D
 unfolding opens

@@ -5,12 +5,12 @@ use mathlib.Core.List.{List, [], _∷_}
 use native.Mathlib.Omega.{arith}
 use lib.ListN.{length}
 use Rattle.slots.specs.Plan.{Window, Slot, none, at, Fits, planned, size}
-use Rattle.slots.proofs.Tests.{le, gt, order}
-use Rattle.slots.proofs.Sums.{total}
+use Rattle.slots.proofs.Laws.Tests.{le, gt, order}
+use Rattle.slots.proofs.Laws.Sums.{total}
 use Rattle.slots.proofs.Queue.{opens, Entry, Queue, empty, arrival, asking, ticked, Joined, Swapped, Placed}
-use Rattle.slots.proofs.Count.{length-log, length-joined, length-swapped, before, below, below-mono, below-suc}
-use Rattle.slots.proofs.Count.{opens-suc, opens-mono, pigeon}
-use Rattle.slots.proofs.Sorted.{Sorted, sorted-drop, due, upto, due-one, due-yes, due-no, upto-drop}
+use Rattle.slots.proofs.Laws.Count.{length-log, length-joined, length-swapped, before, below, below-mono, below-suc}
+use Rattle.slots.proofs.Laws.Count.{opens-suc, opens-mono, pigeon}
+use Rattle.slots.proofs.Laws.Sorted.{Sorted, sorted-drop, due, upto, due-one, due-yes, due-no, upto-drop}
 
 -- ---- the newest entry of a plan, and the plan without it
 record New (t d : ℕ) (x : Slot) : Type 0 where

@@ -4,8 +4,8 @@ use mathlib.Core.Path.{_≡_, refl, sym}
 use mathlib.Core.List.{List, [], _∷_, map}
 use native.Mathlib.Omega.{arith}
 use lib.ListN.{length, drop}
-use Rattle.slots.proofs.Tests.{le, gt, order}
-use Rattle.slots.proofs.Sums.{total, total-le, total-map}
+use Rattle.slots.proofs.Laws.Tests.{le, gt, order}
+use Rattle.slots.proofs.Laws.Sums.{total, total-le, total-map}
 use Rattle.slots.proofs.Queue.{Entry}
 
 -- the deadlines do not fall, and none is before lo

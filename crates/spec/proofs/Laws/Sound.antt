@@ -8,7 +8,7 @@ use native.Mathlib.Omega.{arith}
 use borrow.Author.Tests.{leb-true, ltb-true, ltb-false, eqb-true, eqb-false, le-leb, lt-ltb, le-ltb, eq-eqb, ne-eqb, not-true, not-false}
 use lib.Dec.{leb, ltb, eqb}
 use lib.ListN.{length, getD, take, drop, replicate, length-take, length-drop, take-append-drop}
-use Rattle.slots.proofs.Sums.{All, all-imp}
+use Rattle.slots.proofs.Laws.Sums.{All, all-imp}
 use Rattle.spec.specs.declared.types.Head.{Head}
 use Rattle.spec.specs.declared.types.Request.{Request}
 use Rattle.spec.specs.declared.types.Counts.{Counts}
@@ -18,9 +18,9 @@ use Rattle.spec.specs.Order.{isInOrder}
 use Rattle.spec.specs.Chart.{hasNoOverfull}
 use Rattle.spec.specs.Sound.{isHeadWithin, isAhead, isGiven, isClient, isZeroRequest, waitingOf, isBalanced, isSound}
 use Rattle.spec.specs.Refusals.{Refusal, firstMatch, isMisshapen, refusal4, refusal5, refusal6, refusal7, refusal8, refusal9, refusal10, refusal11, refusal12, refusal2, refusal3, refusal4Open, openRefusals, submitRefusals, tickRefusals, reportRefusals, chartRefusals}
-use Rattle.spec.proofs.Laws.{and-left, and-right, and-both, or-none, every-facts, every-test, everyFrom-facts, everyFrom-test}
-use Rattle.spec.proofs.Order.{InOrder, order-facts, order-test}
-use Rattle.spec.proofs.Feasible.{Feasible, feasible-facts, feasible-test}
+use Rattle.spec.proofs.Laws.Every.{and-left, and-right, and-both, or-none, every-facts, every-test, everyFrom-facts, everyFrom-test}
+use Rattle.spec.proofs.Laws.Order.{InOrder, order-facts, order-test}
+use Rattle.spec.proofs.Laws.Feasible.{Feasible, feasible-facts, feasible-test}
 
 -- ---- numbers within bounds
 pub within-facts : (lo hi x : ℕ) → isWithin lo hi x ≡ true → (lo ≤ x) × (x ≤ hi)

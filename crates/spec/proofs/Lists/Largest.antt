@@ -9,11 +9,11 @@ use lib.Dec.{eqb}
 use lib.ListN.{length, take, drop, length-map}
 use Rattle.slots.specs.Room.{capacity, room}
 use Rattle.slots.specs.Plan.{Window, Slot, at, Plan, size}
-use Rattle.slots.proofs.Tests.{le, gt, order}
-use Rattle.slots.proofs.Sums.{All, all-each, all-imp, all-map, total, total-map, total-one}
+use Rattle.slots.proofs.Laws.Tests.{le, gt, order}
+use Rattle.slots.proofs.Laws.Sums.{All, all-each, all-imp, all-map, total, total-map, total-one}
 use Rattle.slots.proofs.Queue.{Entry, Booking as Booked, Queue, arrival, asking, serve, ticked as tickedQueue, Joined, Swapped}
-use Rattle.slots.proofs.Sorted.{Sorted, due as dueEntry, due-yes as entry-yes, due-no as entry-no, upto}
-use Rattle.slots.proofs.Chart.{lookup, book}
+use Rattle.slots.proofs.Laws.Sorted.{Sorted, due as dueEntry, due-yes as entry-yes, due-no as entry-no, upto}
+use Rattle.slots.proofs.Reached.Chart.{lookup, book}
 use Rattle.slots.proofs.Both.{Both, both-empty, both-ticked}
 use Rattle.slots.proofs.Plain.{room-kept, room-dropped, end, slots, booked, own, own-booked, largest, reached}
 use Rattle.spec.specs.declared.types.Request.{Request}
@@ -24,13 +24,13 @@ use Rattle.spec.specs.Chart.{endOf, startsOf, dueBy, hasNoOverfull, Sear
 use Rattle.spec.specs.Victim.{isCandidate}
 use Rattle.spec.specs.Calls.{Outcome, opened, openOf, submitted, kept, droppedAt, withNew, newRequest, requestAt, victimPlace, countedIn, change, oneMoreDropped, oneMoreServed, countsAfter, ticked}
 use Rattle.spec.specs.Lists.{Call, submit, tick, run, Event, history, isRefused, isOpened, ticks, Asked, asked, Booking, bookings, victims, servedRequests, waitingRequests, windowOf, windows, charts, slotFor, ownPlan}
-use Rattle.spec.proofs.Laws.{total-remove, all-remove}
-use Rattle.spec.proofs.Order.{InOrder, Before, before-deadline, total-put, all-put, order-put, order-remove}
-use Rattle.spec.proofs.Feasible.{due, due-yes, due-no, dueBy-total, dueBy-put, dueBy-remove, Feasible, feasible-facts, feasible-test, Verdict, fine, over, verdict}
-use Rattle.spec.proofs.Facts.{Given}
-use Rattle.spec.proofs.Accepted.{Ready, OpenReady, SubmitReady, TickReady, waiting-length, next-waiting}
-use Rattle.spec.proofs.Victim.{victim-place}
-use Rattle.spec.proofs.Trace.{total-same, Numbered, event, requests, Traced, Submitted, keeps, drops, submitted-cases, traced-submit, traced-open, same-ticks, same-asked, same-bookings, Step, submits, serves, passes, along, accepted-open, traced, waiting-as-many, served-as-many}
+use Rattle.spec.proofs.Laws.Every.{total-remove, all-remove}
+use Rattle.spec.proofs.Laws.Order.{InOrder, Before, before-deadline, total-put, all-put, order-put, order-remove}
+use Rattle.spec.proofs.Laws.Feasible.{due, due-yes, due-no, dueBy-total, dueBy-put, dueBy-remove, Feasible, feasible-facts, feasible-test, Verdict, fine, over, verdict}
+use Rattle.spec.proofs.Laws.Sound.{Given}
+use Rattle.spec.proofs.Laws.Accepted.{Ready, OpenReady, SubmitReady, TickReady, waiting-length, next-waiting}
+use Rattle.spec.proofs.Calls.Victim.{victim-place}
+use Rattle.spec.proofs.Lists.Trace.{total-same, Numbered, event, requests, Traced, Submitted, keeps, drops, submitted-cases, traced-submit, traced-open, same-ticks, same-asked, same-bookings, Step, submits, serves, passes, along, accepted-open, traced, waiting-as-many, served-as-many}
 
 -- ---- the tables as a queue of crate slots
 abbrev pub entryOf : Request → Entry

@@ -10,8 +10,8 @@ use native.Mathlib.Omega.{arith}
 use borrow.Author.Tests.{eq-eqb, ne-eqb, not-false}
 use lib.Dec.{eqb}
 use lib.ListN.{length, getD}
-use Rattle.slots.proofs.Tests.{Same, same-yes, same-no, same}
-use Rattle.slots.proofs.Sums.{one, one-yes, one-no, one-most, All, all-each, all-imp, total, total-le, total-zero, total-map, total-one, total-cons}
+use Rattle.slots.proofs.Laws.Tests.{Same, same-yes, same-no, same}
+use Rattle.slots.proofs.Laws.Sums.{one, one-yes, one-no, one-most, All, all-each, all-imp, total, total-le, total-zero, total-map, total-one, total-cons}
 use Rattle.spec.specs.declared.types.Request.{Request}
 use Rattle.spec.specs.declared.types.Answer.{Answer}
 use Rattle.spec.specs.declared.types.Answer.the-variants.{Refused}
@@ -22,13 +22,13 @@ use Rattle.spec.specs.Chart.{hasNoOverfull}
 use Rattle.spec.specs.Refusals.{Refusal, firstMatch, openRefusals, submitRefusals, tickRefusals, reportRefusals, chartRefusals}
 use Rattle.spec.specs.Calls.{Outcome, opened, openOf, submitOf, submitted, kept, droppedAt, withNew, newRequest, requestAt, victimPlace, countedIn, change, oneMoreDropped, oneMoreServed, countsAfter, tickOf, ticked, reportOf, reported, chartOf, charted, unlessRefused}
 use Rattle.spec.specs.Lists.{Call, opening, submit, tick, report, chart, outcomeOf, run, Event, history, isRefused, isOpened, isTick, ticks, Asked, askedBy, asked, Booking, servedIn, bookings, Victim, victimBy, victims, isServed, isVictim, servedRequests, waitingRequests}
-use Rattle.spec.proofs.Laws.{or-none, Value, is-true, is-false, value, cond-true, cond-false, total-remove}
-use Rattle.spec.proofs.Order.{total-put, all-put}
-use Rattle.spec.proofs.Facts.{Given}
-use Rattle.spec.proofs.Accepted.{Ready, OpenReady, SubmitReady, TickReady, open-ready, submit-ready, tick-ready, Decided, accepts, refuses, decided, next-waiting}
-use Rattle.spec.proofs.Refused.{refusalsOf, acceptedOf, outcome-decided, accepted-none, accepted-same}
-use Rattle.spec.proofs.Keeps.{open-keeps, submit-keeps, tick-keeps}
-use Rattle.spec.proofs.Victim.{all-at, victim-place}
+use Rattle.spec.proofs.Laws.Every.{or-none, Value, is-true, is-false, value, cond-true, cond-false, total-remove}
+use Rattle.spec.proofs.Laws.Order.{total-put, all-put}
+use Rattle.spec.proofs.Laws.Sound.{Given}
+use Rattle.spec.proofs.Laws.Accepted.{Ready, OpenReady, SubmitReady, TickReady, open-ready, submit-ready, tick-ready, Decided, accepts, refuses, decided, next-waiting}
+use Rattle.spec.proofs.Calls.Refused.{refusalsOf, acceptedOf, outcome-decided, accepted-none, accepted-same}
+use Rattle.spec.proofs.Calls.Keeps.{open-keeps, submit-keeps, tick-keeps}
+use Rattle.spec.proofs.Calls.Victim.{all-at, victim-place}
 
 -- ---- for Laws
 module _ {A : Type 0} where

@@ -8,10 +8,10 @@ use native.Mathlib.Omega.{arith}
 use lib.Dec.{eqb}
 use lib.ListN.{length, getD}
 use Rattle.slots.specs.Plan.{Window, Slot, none, at, EndedBy, Fits}
-use Rattle.slots.proofs.Tests.{Same, same-yes, same-no, same}
-use Rattle.slots.proofs.Sums.{one, one-yes, one-no, All, all-imp, total, total-zero}
+use Rattle.slots.proofs.Laws.Tests.{Same, same-yes, same-no, same}
+use Rattle.slots.proofs.Laws.Sums.{one, one-yes, one-no, All, all-imp, total, total-zero}
 use Rattle.slots.proofs.Queue.{Entry, Booking, serve}
-use Rattle.slots.proofs.Chart.{lookup, book}
+use Rattle.slots.proofs.Reached.Chart.{lookup, book}
 
 pub all-serve : (p : Entry → Type 0) (q : Booking → Type 0) (t : ℕ) (ws : List Entry) (bs : List Booking)
     → ((w : Entry) → p w → q (record { number = w .number; slot = t })) → All p ws → All q bs → All q (serve t ws bs)

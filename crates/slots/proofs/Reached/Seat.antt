@@ -8,13 +8,13 @@ use native.Mathlib.Omega.{arith}
 use lib.Dec.{leb, eqb}
 use lib.ListN.{length}
 use Rattle.slots.specs.Plan.{since, Window, Slot, at, Fits}
-use Rattle.slots.proofs.Tests.{Test, holds, fails, test, Same, same-yes, same-no, same, le, gt, order}
-use Rattle.slots.proofs.Sums.{one, one-yes, one-no, All, total}
+use Rattle.slots.proofs.Laws.Tests.{Test, holds, fails, test, Same, same-yes, same-no, same, le, gt, order}
+use Rattle.slots.proofs.Laws.Sums.{one, one-yes, one-no, All, total}
 use Rattle.slots.proofs.Queue.{opens, Entry, Booking}
-use Rattle.slots.proofs.Count.{opens-suc, opens-mono}
-use Rattle.slots.proofs.Sorted.{Sorted, due-yes, upto}
-use Rattle.slots.proofs.Chart.{slotOf, ends, place, chart}
-use Rattle.slots.proofs.Book.{who, whose}
+use Rattle.slots.proofs.Laws.Count.{opens-suc, opens-mono}
+use Rattle.slots.proofs.Laws.Sorted.{Sorted, due-yes, upto}
+use Rattle.slots.proofs.Reached.Chart.{slotOf, ends, place, chart}
+use Rattle.slots.proofs.Reached.Book.{who, whose}
 
 -- 1 where the booking is in the slot x
 abbrev pub sits : ℕ → Booking → ℕ

@@ -9,15 +9,15 @@ use lib.Dec.{eqb}
 use lib.ListN.{drop}
 use Rattle.slots.specs.Room.{room}
 use Rattle.slots.specs.Plan.{EndedBy}
-use Rattle.slots.proofs.Tests.{Same, same-yes, same-no, same}
-use Rattle.slots.proofs.Sums.{All, all-imp}
+use Rattle.slots.proofs.Laws.Tests.{Same, same-yes, same-no, same}
+use Rattle.slots.proofs.Laws.Sums.{All, all-imp}
 use Rattle.spec.specs.declared.types.Request.{Request}
 use Rattle.spec.specs.Tables.{State, waiting}
 use Rattle.spec.specs.Chart.{startBefore, startsOf, Segment, joinLeft, segmentsOf, dueBy}
-use Rattle.spec.proofs.Order.{before-deadline, InOrder}
-use Rattle.spec.proofs.Feasible.{due-yes, dueBy-cons, Feasible}
-use Rattle.spec.proofs.Accepted.{Ready}
-use Rattle.spec.proofs.Victim.{Ascending}
+use Rattle.spec.proofs.Laws.Order.{before-deadline, InOrder}
+use Rattle.spec.proofs.Laws.Feasible.{due-yes, dueBy-cons, Feasible}
+use Rattle.spec.proofs.Laws.Accepted.{Ready}
+use Rattle.spec.proofs.Calls.Victim.{Ascending}
 
 -- what holds of each element of one list and the element of another at the same place; the lists are of one length
 abbrev pub Pairs : {A B : Type 0} → (A → B → Type 0) → List A → List B → Type 0

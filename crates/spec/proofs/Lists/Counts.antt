@@ -9,8 +9,8 @@ use native.Mathlib.Omega.{arith}
 use lib.Dec.{eqb}
 use lib.ListN.{length, getD, set, length-set, replicate, getD-replicate, length-replicate}
 use lib.Seq.{getD-set-same, getD-set-other}
-use Rattle.slots.proofs.Tests.{Same, same-yes, same-no, same}
-use Rattle.slots.proofs.Sums.{total, total-map}
+use Rattle.slots.proofs.Laws.Tests.{Same, same-yes, same-no, same}
+use Rattle.slots.proofs.Laws.Sums.{total, total-map}
 use Rattle.spec.specs.declared.types.Request.{Request}
 use Rattle.spec.specs.declared.types.Counts.{Counts}
 use Rattle.spec.specs.declared.types.Answer.{Answer}
@@ -21,10 +21,10 @@ use Rattle.spec.specs.Sound.{waitingOf}
 use Rattle.spec.specs.Calls.{Outcome, openOf, opened, change, oneMoreSubmitted, oneMoreServed, oneMoreDropped, isPeriodStart, restarted, countsAfter, oneLater, kept, droppedAt, submitted, submitOf, ticked, tickOf, reported, reportOf, reportAnswer, charted, chartOf, victimPlace, requestAt}
 use Rattle.spec.specs.Lists.{Call, opening, submit, tick, report, chart, outcomeOf, run, history, Event, isRefused, isOpened, isTick, ticks, Asked, Victim, waitingRequests, waitingBy, submitters, servedClients, victimClients, startsPeriod, sinceStart, countsSince}
 use Rattle.spec.specs.Refusals.{firstMatch, openRefusals, submitRefusals, tickRefusals, reportRefusals, chartRefusals}
-use Rattle.spec.proofs.Laws.{count-total, length-mapFrom, getD-mapFrom}
-use Rattle.spec.proofs.Accepted.{next-waiting, ReportReady, report-ready}
-use Rattle.spec.proofs.Refused.{accepted-none, accepted-same}
-use Rattle.spec.proofs.Trace.{Traced, event, requests, Submitted, keeps, drops, submitted-cases, Step, submits, serves, passes, traced-open, traced-step, along, accepted-open}
+use Rattle.spec.proofs.Laws.Every.{count-total, length-mapFrom, getD-mapFrom}
+use Rattle.spec.proofs.Laws.Accepted.{next-waiting, ReportReady, report-ready}
+use Rattle.spec.proofs.Calls.Refused.{accepted-none, accepted-same}
+use Rattle.spec.proofs.Lists.Trace.{Traced, event, requests, Submitted, keeps, drops, submitted-cases, Step, submits, serves, passes, traced-open, traced-step, along, accepted-open}
 
 -- ---- a client's counts, changed or not
 counts-path : (a b : Counts) → a .submitted ≡ b .submitted → a .served ≡ b .served → a .dropped ≡ b .dropped → a ≡ b

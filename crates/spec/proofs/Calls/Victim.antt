@@ -10,8 +10,8 @@ use borrow.Author.Tests.{ltb-false, le-ltb}
 use lib.Dec.{ltb, eqb}
 use lib.ListN.{length, getD}
 use lib.Seq.{getD-set-same, getD-set-other}
-use Rattle.slots.proofs.Tests.{Test, holds, fails, test, Same, same-yes, same-no, same}
-use Rattle.slots.proofs.Sums.{All, all-imp}
+use Rattle.slots.proofs.Laws.Tests.{Test, holds, fails, test, Same, same-yes, same-no, same}
+use Rattle.slots.proofs.Laws.Sums.{All, all-imp}
 use Rattle.spec.specs.declared.types.Request.{Request}
 use Rattle.spec.specs.declared.types.Counts.{Counts}
 use Rattle.spec.specs.Every.{toNumber, countIf}
@@ -20,10 +20,10 @@ use Rattle.spec.specs.Order.{placeOf}
 use Rattle.spec.specs.Sound.{waitingOf}
 use Rattle.spec.specs.Victim.{isCandidate, keepIf, candidatesFrom, candidates, hasSmallerRatio, countsAt, smallestOf, victimOf}
 use Rattle.spec.specs.Calls.{change, oneMoreSubmitted, newRequest, countedIn, withNew, victimPlace}
-use Rattle.spec.proofs.Order.{all-put, length-put, place-most, remove-put}
-use Rattle.spec.proofs.Feasible.{feasible-test}
-use Rattle.spec.proofs.Facts.{Owned}
-use Rattle.spec.proofs.Accepted.{SubmitReady}
+use Rattle.spec.proofs.Laws.Order.{all-put, length-put, place-most, remove-put}
+use Rattle.spec.proofs.Laws.Feasible.{feasible-test}
+use Rattle.spec.proofs.Laws.Sound.{Owned}
+use Rattle.spec.proofs.Laws.Accepted.{SubmitReady}
 
 -- for Laws
 pub all-at : {A : Type 0} (p : A → Type 0) (xs : List A) (k : ℕ) (d : A) → k < length xs → All p xs → p (getD xs k d)

@@ -9,14 +9,14 @@ use lib.Dec.{leb, ltb}
 use lib.ListN.{length, getD}
 use Rattle.slots.specs.Room.{room}
 use Rattle.slots.proofs.Room.{room-mono}
-use Rattle.slots.proofs.Tests.{Test, holds, fails, test, le, gt, order}
-use Rattle.slots.proofs.Sums.{All, all-each, all-imp, total, total-le}
+use Rattle.slots.proofs.Laws.Tests.{Test, holds, fails, test, le, gt, order}
+use Rattle.slots.proofs.Laws.Sums.{All, all-each, all-imp, total, total-le}
 use Rattle.spec.specs.declared.types.Request.{Request}
 use Rattle.spec.specs.Every.{toNumber, every, countIf}
 use Rattle.spec.specs.Order.{putInOrder, removeAt}
 use Rattle.spec.specs.Chart.{dueBy, isOverfull, hasNoOverfull, Search, nothing, found, searchOverfull, firstOverfull}
-use Rattle.spec.proofs.Laws.{every-facts, every-test, count-total, to-number-most, total-remove}
-use Rattle.spec.proofs.Order.{InOrder, Before, before-deadline, total-put}
+use Rattle.spec.proofs.Laws.Every.{every-facts, every-test, count-total, to-number-most, total-remove}
+use Rattle.spec.proofs.Laws.Order.{InOrder, Before, before-deadline, total-put}
 
 -- ---- one request due by D, counted
 unfoldable pub due : ℕ → Request → ℕ

@@ -6,11 +6,11 @@ use mathlib.Core.List.{List, [], _∷_}
 use native.Mathlib.Omega.{arith}
 use lib.Dec.{leb, ltb, eqb}
 use lib.ListN.{length, getD}
-use Rattle.slots.proofs.Tests.{Test, holds, fails, test, Same, same-yes, same-no, same}
-use Rattle.slots.proofs.Sums.{All, all-imp, total}
+use Rattle.slots.proofs.Laws.Tests.{Test, holds, fails, test, Same, same-yes, same-no, same}
+use Rattle.slots.proofs.Laws.Sums.{All, all-imp, total}
 use Rattle.spec.specs.declared.types.Request.{Request}
 use Rattle.spec.specs.Order.{comesBefore, isInOrder, placeOf, insertAt, putInOrder, removeAt}
-use Rattle.spec.proofs.Laws.{and-left, and-right, and-both, total-insert, all-insert, all-remove, length-insert, getD-insert, remove-insert}
+use Rattle.spec.proofs.Laws.Every.{and-left, and-right, and-both, total-insert, all-insert, all-remove, length-insert, getD-insert, remove-insert}
 
 -- ---- one request before another
 pub data Before (a b : Request) : Type 0 where

@@ -11,11 +11,11 @@ use lib.Dec.{eqb}
 use lib.ListN.{length, getD, length-map}
 use Rattle.slots.specs.Room.{room}
 use Rattle.slots.specs.Plan.{since, Plan, size, CanAllFinish}
-use Rattle.slots.proofs.Tests.{le, gt, order}
-use Rattle.slots.proofs.Sums.{All, all-each, all-imp, total, total-le, total-map}
+use Rattle.slots.proofs.Laws.Tests.{le, gt, order}
+use Rattle.slots.proofs.Laws.Sums.{All, all-each, all-imp, total, total-le, total-map}
 use Rattle.slots.proofs.Queue.{Entry}
-use Rattle.slots.proofs.Sorted.{Sorted, dueBy as dueOf, upto, upto-deadlines}
-use Rattle.slots.proofs.Seat.{slotted}
+use Rattle.slots.proofs.Laws.Sorted.{Sorted, dueBy as dueOf, upto, upto-deadlines}
+use Rattle.slots.proofs.Reached.Seat.{slotted}
 use Rattle.slots.proofs.Plain.{slots, placing-room, room-placing}
 use Rattle.spec.specs.declared.types.Request.{Request}
 use Rattle.spec.specs.declared.types.Counts.{Counts}
@@ -28,12 +28,12 @@ use Rattle.spec.specs.Sound.{isAhead}
 use Rattle.spec.specs.Refusals.{Refusal, firstMatch, submitRefusals, tickRefusals, refusal4, refusal5, refusal6, refusal7, refusal8, refusal9, refusal10, refusal11}
 use Rattle.spec.specs.Calls.{Outcome, unlessRefused, newRequest, countedIn, withNew, requestAt, kept, droppedAt, victimPlace, submitted, submitOf, ticked, tickOf, change, oneMoreServed, countsAfter}
 use Rattle.spec.specs.Lists.{isRefused}
-use Rattle.spec.proofs.Laws.{is-true, is-false, value, cond-true, cond-false}
-use Rattle.spec.proofs.Order.{Before, before-deadline, InOrder, order-remove, order-put}
-use Rattle.spec.proofs.Feasible.{due, due-yes, due-no, due-most, dueBy-total, dueBy-put, dueBy-remove, Feasible, feasible-facts, feasible-test, overfull-test, roomy-test, Verdict, fine, over, verdict}
-use Rattle.spec.proofs.Facts.{within-test, sound-test, Given}
-use Rattle.spec.proofs.Accepted.{Decided, accepts, refuses, decided, Ready, SubmitReady, submit-ready, TickReady, tick-ready, next-waiting}
-use Rattle.spec.proofs.Victim.{victim-place, victim-least, victim-last, counted-some}
+use Rattle.spec.proofs.Laws.Every.{is-true, is-false, value, cond-true, cond-false}
+use Rattle.spec.proofs.Laws.Order.{Before, before-deadline, InOrder, order-remove, order-put}
+use Rattle.spec.proofs.Laws.Feasible.{due, due-yes, due-no, due-most, dueBy-total, dueBy-put, dueBy-remove, Feasible, feasible-facts, feasible-test, overfull-test, roomy-test, Verdict, fine, over, verdict}
+use Rattle.spec.proofs.Laws.Sound.{within-test, sound-test, Given}
+use Rattle.spec.proofs.Laws.Accepted.{Decided, accepts, refuses, decided, Ready, SubmitReady, submit-ready, TickReady, tick-ready, next-waiting}
+use Rattle.spec.proofs.Calls.Victim.{victim-place, victim-least, victim-last, counted-some}
 
 -- ---- all can finish just where there is room for all that are due by any D
 abbrev pub deadlinesOf : List Request → List ℕ

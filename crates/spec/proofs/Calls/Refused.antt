@@ -8,8 +8,8 @@ use native.Mathlib.Omega.{arith}
 use lib.Dec.{eqb}
 use lib.ListN.{length, take, drop, length-append, length-drop}
 use lib.Seq.{take-append-seam, drop-append-seam}
-use Rattle.slots.proofs.Tests.{Same, same-yes, same-no, same}
-use Rattle.slots.proofs.Sums.{All}
+use Rattle.slots.proofs.Laws.Tests.{Same, same-yes, same-no, same}
+use Rattle.slots.proofs.Laws.Sums.{All}
 use Rattle.spec.specs.declared.types.Request.{Request}
 use Rattle.spec.specs.declared.types.Answer.the-variants.{Refused}
 use Rattle.spec.specs.Tables.{State, waiting}
@@ -17,7 +17,7 @@ use Rattle.spec.specs.Chart.{startsOf, hasNoOverfull}
 use Rattle.spec.specs.Refusals.{Refusal, firstMatch, openRefusals, submitRefusals, tickRefusals, reportRefusals, chartRefusals}
 use Rattle.spec.specs.Calls.{Outcome, unlessRefused, opened, openOf, kept, droppedAt, victimPlace, withNew, submitted, submitOf, ticked, tickOf, reported, reportOf, charted, chartOf, chartOutput}
 use Rattle.spec.specs.Lists.{Call, opening, submit, tick, report, chart, outcomeOf, isRefused}
-use Rattle.spec.proofs.Accepted.{Decided, accepts, refuses, decided, chart-ready, waiting-length}
+use Rattle.spec.proofs.Laws.Accepted.{Decided, accepts, refuses, decided, chart-ready, waiting-length}
 
 -- ---- each call is its refusals and what it does where none holds
 -- the call's refusals, in the paper's order

@@ -9,7 +9,7 @@ use borrow.Author.Tests.{ltb-true, ltb-false, eqb-true, eqb-false, not-false}
 use lib.Dec.{leb, ltb, eqb}
 use lib.ListN.{length, getD, take, drop, replicate, length-take, length-drop, length-append, length-replicate, take-append-drop}
 use lib.Seq.{take-append-seam, drop-append-seam}
-use Rattle.slots.proofs.Tests.{Same, same-yes, same-no, same}
+use Rattle.slots.proofs.Laws.Tests.{Same, same-yes, same-no, same}
 use Rattle.spec.specs.declared.types.Counts.{Counts}
 use Rattle.spec.specs.declared.types.Request.{Request}
 use Rattle.spec.specs.declared.types.Answer.the-variants.{Refused}
@@ -18,8 +18,8 @@ use Rattle.spec.specs.Tables.{mostClients, mostRecords, mostCounted, clo
 use Rattle.spec.specs.Sound.{isAhead, isClient, isSound}
 use Rattle.spec.specs.Refusals.{Refusal, firstMatch, isMisshapen, refusal2, refusal3, refusal4Open, refusal4, refusal5, refusal6, refusal7, refusal8, refusal9, refusal10, refusal11, refusal12, openRefusals, submitRefusals, tickRefusals, reportRefusals, chartRefusals}
 use Rattle.spec.specs.Calls.{Outcome, unlessRefused}
-use Rattle.spec.proofs.Laws.{or-none}
-use Rattle.spec.proofs.Facts.{within-facts, Shaped, Sound, sound-facts}
+use Rattle.spec.proofs.Laws.Every.{or-none}
+use Rattle.spec.proofs.Laws.Sound.{within-facts, Shaped, Sound, sound-facts}
 
 -- ---- accepted, or refused with the first number that matches
 pub data Decided (rs : List Refusal) (s : State) (o : Outcome) : Outcome → Type 0 where

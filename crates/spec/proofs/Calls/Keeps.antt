@@ -10,8 +10,8 @@ use lib.Dec.{eqb}
 use lib.ListN.{length, getD, set, replicate, length-set, length-replicate, getD-replicate}
 use lib.Seq.{getD-set-same, getD-set-other}
 use Rattle.slots.proofs.Room.{room-back, room-step, room-split}
-use Rattle.slots.proofs.Tests.{Same, same-yes, same-no, same, le, gt, order}
-use Rattle.slots.proofs.Sums.{All, all-imp, total, total-nil}
+use Rattle.slots.proofs.Laws.Tests.{Same, same-yes, same-no, same, le, gt, order}
+use Rattle.slots.proofs.Laws.Sums.{All, all-imp, total, total-nil}
 use Rattle.spec.specs.declared.types.Request.{Request}
 use Rattle.spec.specs.declared.types.Counts.{Counts}
 use Rattle.spec.specs.Every.{toNumber, mapFrom}
@@ -23,13 +23,13 @@ use Rattle.spec.specs.Sound.{waitingOf, isSound}
 use Rattle.spec.specs.Refusals.{firstMatch, refusal4}
 use Rattle.spec.specs.Calls.{change, oneMoreSubmitted, oneMoreServed, oneMoreDropped, opened, newRequest, countedIn, withNew, kept, requestAt, droppedAt, victimPlace, submitted, isPeriodStart, restarted, countsAfter, oneLater, ticked, reported, charted}
 use Rattle.spec.specs.Lists.{Call, opening, submit, tick, report, chart, outcomeOf, isRefused}
-use Rattle.spec.proofs.Laws.{Value, is-true, is-false, value, count-total, length-mapFrom, getD-mapFrom, total-remove, all-remove, length-remove}
-use Rattle.spec.proofs.Order.{InOrder, Before, before-deadline, order-put, order-remove, total-put, all-put, length-put}
-use Rattle.spec.proofs.Feasible.{Feasible, feasible-facts, due-yes, dueBy-cons, dueBy-none, dueBy-self}
-use Rattle.spec.proofs.Facts.{within-test, Shaped, Ahead, Given, Owned, Balanced, sound-test}
-use Rattle.spec.proofs.Accepted.{Ready, OpenReady, open-ready, SubmitReady, submit-ready, TickReady, tick-ready, report-ready, chart-ready, waiting-length, next-waiting, next-behind, next-length}
-use Rattle.spec.proofs.Victim.{victim-place}
-use Rattle.spec.proofs.Refused.{refusalsOf, acceptedOf, accepted-none, accepted-same}
+use Rattle.spec.proofs.Laws.Every.{Value, is-true, is-false, value, count-total, length-mapFrom, getD-mapFrom, total-remove, all-remove, length-remove}
+use Rattle.spec.proofs.Laws.Order.{InOrder, Before, before-deadline, order-put, order-remove, total-put, all-put, length-put}
+use Rattle.spec.proofs.Laws.Feasible.{Feasible, feasible-facts, due-yes, dueBy-cons, dueBy-none, dueBy-self}
+use Rattle.spec.proofs.Laws.Sound.{within-test, Shaped, Ahead, Given, Owned, Balanced, sound-test}
+use Rattle.spec.proofs.Laws.Accepted.{Ready, OpenReady, open-ready, SubmitReady, submit-ready, TickReady, tick-ready, report-ready, chart-ready, waiting-length, next-waiting, next-behind, next-length}
+use Rattle.spec.proofs.Calls.Victim.{victim-place}
+use Rattle.spec.proofs.Calls.Refused.{refusalsOf, acceptedOf, accepted-none, accepted-same}
 
 -- for Laws
 pub all-two : {A : Type 0} (p q r : A → Type 0) (xs : List A) → ((x : A) → p x → q x → r x) → All p xs → All q xs → All r xs

@@ -7,15 +7,15 @@ use native.Mathlib.Omega.{arith}
 use lib.Dec.{eqb}
 use lib.ListN.{length, take, length-take}
 use Rattle.slots.specs.Plan.{Window}
-use Rattle.slots.proofs.Tests.{Same, same-yes, same-no, same, le, gt, order}
-use Rattle.slots.proofs.Sums.{one, one-yes, one-no, one-most, All, all-each, all-imp, all-take, all-drop}
-use Rattle.slots.proofs.Sums.{total, total-split, total-zero, total-one}
+use Rattle.slots.proofs.Laws.Tests.{Same, same-yes, same-no, same, le, gt, order}
+use Rattle.slots.proofs.Laws.Sums.{one, one-yes, one-no, one-most, All, all-each, all-imp, all-take, all-drop}
+use Rattle.slots.proofs.Laws.Sums.{total, total-split, total-zero, total-one}
 use Rattle.slots.proofs.Queue.{Entry, Booking, Queue, empty, arrival, asking, serve, ticked, Joined, Swapped}
-use Rattle.slots.proofs.Count.{total-serve}
-use Rattle.slots.proofs.Sorted.{Sorted, sorted-low}
+use Rattle.slots.proofs.Laws.Count.{total-serve}
+use Rattle.slots.proofs.Laws.Sorted.{Sorted, sorted-low}
 use Rattle.slots.proofs.Upper.{Inv}
-use Rattle.slots.proofs.Book.{all-serve, who, whose, Known, none-above, req, req-new, req-old, Good}
-use Rattle.slots.proofs.Seat.{sits, Roomy}
+use Rattle.slots.proofs.Reached.Book.{all-serve, who, whose, Known, none-above, req, req-new, req-old, Good}
+use Rattle.slots.proofs.Reached.Seat.{sits, Roomy}
 
 -- a request that was served: in a slot that it can have, before the clock
 pub record Served (t : ℕ) (R : List Window) (b : Booking) : Type 0 where

@@ -5,8 +5,8 @@ use mathlib.Core.List.{List, [], _∷_}
 use native.Mathlib.Omega.{arith}
 use lib.ListN.{length, take, drop}
 use Rattle.slots.specs.Plan.{Slot, none, at, planned, size}
-use Rattle.slots.proofs.Tests.{le, gt, order}
-use Rattle.slots.proofs.Sums.{one, total, total-le, total-one}
+use Rattle.slots.proofs.Laws.Tests.{le, gt, order}
+use Rattle.slots.proofs.Laws.Sums.{one, total, total-le, total-one}
 use Rattle.slots.proofs.Queue.{opens, Entry, Booking, serve, Joined, Swapped, is}
 
 -- ---- the requests that a step leaves

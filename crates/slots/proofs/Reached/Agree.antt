@@ -6,10 +6,10 @@ use mathlib.Core.Logic.{_≢_}
 use native.Mathlib.Omega.{arith}
 use lib.ListN.{length, getD}
 use Rattle.slots.specs.Plan.{none, at}
-use Rattle.slots.proofs.Sums.{one-yes, All, total}
+use Rattle.slots.proofs.Laws.Sums.{one-yes, All, total}
 use Rattle.slots.proofs.Queue.{Booking, Queue}
-use Rattle.slots.proofs.Chart.{lookup, book}
-use Rattle.slots.proofs.Book.{who, Known, lookup-yes, lookup-no, book-at}
+use Rattle.slots.proofs.Reached.Chart.{lookup, book}
+use Rattle.slots.proofs.Reached.Book.{who, Known, lookup-yes, lookup-no, book-at}
 use Rattle.slots.proofs.Both.{Both, bookings, once-all, known-all}
 
 -- the number's slot is the booking's

@@ -1,0 +1,5 @@
+-- Tests, sums and counts.
+pub mod Tests
+pub mod Sums
+pub mod Count
+pub mod Sorted

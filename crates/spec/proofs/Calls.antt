@@ -1,0 +1,6 @@
+-- What each call does: refusals, soundness, the victim, the chart.
+pub mod Refused
+pub mod Victim
+pub mod Keeps
+pub mod Fair
+pub mod Latest

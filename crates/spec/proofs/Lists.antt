@@ -1,0 +1,4 @@
+-- What a list of calls comes to.
+pub mod Trace
+pub mod Counts
+pub mod Largest

@@ -1,0 +1,4 @@
+-- Document 01's worked reads and sessions, computed.
+pub mod Computed
+pub mod Cases
+pub mod Sessions
