@@ -2,5 +2,7 @@
 pub mod Every
 pub mod Order
 pub mod Feasible
+pub mod Entries
+pub mod Clients
 pub mod Sound
 pub mod Accepted

@@ -189,9 +189,11 @@ unfoldable pub slotFor : List Booking → ℕ → Slot
 slotFor [] n = none
 slotFor (b ∷ bs) n = cond (eqb n (b .number)) (at (b .slot)) (slotFor bs n)
 
+abbrev pub ownBookings : List Event → State → List Booking
+ownBookings es s = bookings es ++ charts (waiting s) (startsOf (waiting s))
+
 unfoldable pub ownPlan : List Event → State → List Slot
-ownPlan es s =
-    map (λ a. slotFor (bookings es ++ charts (waiting s) (startsOf (waiting s))) (a .request .number)) (asked es)
+ownPlan es s = map (λ a. slotFor (ownBookings es s) (a .request .number)) (asked es)
 
 -- ---- counts: what the calls and answers since the last period start say of a client
 -- the clients that an event names: of an accepted submit, of a served request, of a victim

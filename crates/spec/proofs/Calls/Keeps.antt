@@ -23,6 +23,8 @@ use Rattle.spec.specs.Sound.{waitingOf, isSound}
 use Rattle.spec.specs.Refusals.{firstMatch, refusal4}
 use Rattle.spec.specs.Calls.{change, oneMoreSubmitted, oneMoreServed, oneMoreDropped, opened, newRequest, countedIn, withNew, kept, requestAt, droppedAt, victimPlace, submitted, isPeriodStart, restarted, countsAfter, oneLater, ticked, reported, charted}
 use Rattle.spec.specs.Lists.{Call, opening, submit, tick, report, chart, outcomeOf, isRefused}
+use Rattle.spec.proofs.Laws.Clients.{of, of-yes, of-no, waitingOf-total, waitingOf-none, waitingOf-put, waitingOf-remove, waiting-self, Changed, changes, stays, changed, length-change, getD-change, counts-path}
+use Rattle.spec.proofs.Laws.Every.{all-at, all-two}
 use Rattle.spec.proofs.Laws.Every.{Value, is-true, is-false, value, count-total, length-mapFrom, getD-mapFrom, total-remove, all-remove, length-remove}
 use Rattle.spec.proofs.Laws.Order.{InOrder, Before, before-deadline, order-put, order-remove, total-put, all-put, length-put}
 use Rattle.spec.proofs.Laws.Feasible.{Feasible, feasible-facts, due-yes, dueBy-cons, dueBy-none, dueBy-self}
@@ -30,67 +32,6 @@ use Rattle.spec.proofs.Laws.Sound.{within-test, Shaped, Ahead, Given, O
 use Rattle.spec.proofs.Laws.Accepted.{Ready, OpenReady, open-ready, SubmitReady, submit-ready, TickReady, tick-ready, report-ready, chart-ready, waiting-length, next-waiting, next-behind, next-length}
 use Rattle.spec.proofs.Calls.Victim.{victim-place}
 use Rattle.spec.proofs.Calls.Refused.{refusalsOf, acceptedOf, accepted-none, accepted-same}
-
--- for Laws
-pub all-two : {A : Type 0} (p q r : A → Type 0) (xs : List A) → ((x : A) → p x → q x → r x) → All p xs → All q xs → All r xs
-all-two p q r [] f a b = tt
-all-two p q r (x ∷ xs) f a b = (f x (a .0) (b .0), all-two p q r xs f (a .1) (b .1))
-
--- ---- one request of a client, counted
-unfoldable pub of : ℕ → Request → ℕ
-of client w = toNumber (eqb (w .client) client)
-
-pub of-yes : (client : ℕ) (w : Request) → client ≡ w .client → of client w ≡ 1
-unfolding of
-of-yes client w h = go (eqb (w .client) client) (same (w .client) client)
-  where
-    go : (x : Bool) → Same (w .client) client x → toNumber x ≡ 1
-    go true (same-yes e) = refl
-    go false (same-no e) = absurd (e (sym h))
-
-pub of-no : (client : ℕ) (w : Request) → client ≢ w .client → of client w ≡ 0
-unfolding of
-of-no client w h = go (eqb (w .client) client) (same (w .client) client)
-  where
-    go : (x : Bool) → Same (w .client) client x → toNumber x ≡ 0
-    go true (same-yes e) = absurd (h (sym e))
-    go false (same-no e) = refl
-
-pub waitingOf-total : (client : ℕ) (ws : List Request) → waitingOf client ws ≡ total (of client) ws
-unfolding waitingOf of
-waitingOf-total client ws = count-total (λ w. eqb (w .client) client) ws
-
-pub waitingOf-none : (client : ℕ) → waitingOf client [] ≡ 0
-waitingOf-none client = omega (arith, waitingOf-total client [], total-nil (of client))
-
-pub waitingOf-put : (client : ℕ) (r : Request) (ws : List Request)
-    → waitingOf client (putInOrder r ws) ≡ of client r + waitingOf client ws
-waitingOf-put client r ws =
-    omega (arith, waitingOf-total client (putInOrder r ws), waitingOf-total client ws, total-put (of client) r ws)
-
-pub waitingOf-remove : (client k : ℕ) (z : Request) (ws : List Request) → k < length ws
-    → waitingOf client ws ≡ of client (getD ws k z) + waitingOf client (removeAt k ws)
-waitingOf-remove client k z ws h =
-    omega (arith, waitingOf-total client (removeAt k ws), waitingOf-total client ws, total-remove (of client) k z ws h)
-
--- ---- a client's counts after a change of one client's
-pub data Changed (f : Counts → Counts) (client : ℕ) (cs : List Counts) (c : ℕ) : Counts → Type 0 where
-  changes : c ≡ client → Changed f client cs c (f (getD cs c zeroCounts))
-  stays : c ≢ client → Changed f client cs c (getD cs c zeroCounts)
-
-pub changed : (f : Counts → Counts) (client : ℕ) (cs : List Counts) (c : ℕ) → c < length cs
-    → Changed f client cs c (getD (change f client cs) c zeroCounts)
-unfolding change
-changed f client cs c h = go (eqb c client) (same c client)
-  where
-    go : (x : Bool) → Same c client x → Changed f client cs c (getD (set cs client (f (getD cs client zeroCounts))) c zeroCounts)
-    go true (same-yes e) =
-        rw (← e, getD-set-same cs c (f (getD cs c zeroCounts)) zeroCounts h) (changes refl)
-    go false (same-no e) = rw (getD-set-other cs client c (f (getD cs client zeroCounts)) zeroCounts e) (stays e)
-
-pub length-change : (f : Counts → Counts) (client : ℕ) (cs : List Counts) → length (change f client cs) ≡ length cs
-unfolding change
-length-change f client cs = length-set cs client (f (getD cs client zeroCounts))
 
 -- ---- the clauses of sound tables on requests and counts, without the one on overfull deadlines; clients have one record each
 pub record Tidy (clock last clients : ℕ) (ws : List Request) (cs : List Counts) : Type 0 where
@@ -399,7 +340,7 @@ accepted-keeps (report client) s e = report-ready client s e .ready
 accepted-keeps (chart output) s e = chart-ready output s e .ready
 
 -- tables of the right lengths do not meet refusal 4
-shaped-test : (s : State) → Shaped s → refusal4 s .holds ≡ false
+pub shaped-test : (s : State) → Shaped s → refusal4 s .holds ≡ false
 shaped-test s f =
     rw (
       within-test 1 mostRecords (length (s .waitingTable)) (f .some-records) (f .most-records),
@@ -407,13 +348,6 @@ shaped-test s f =
       le-ltb (length (s .waitingTable)) (s .head .waiting) (f .waits),
     )
 
--- "Every accepted call leaves sound tables.": as facts, and in the definitions' own words. The tables keep their right lengths
--- too, so refusals 4 and 5 do not hold of them
+-- "Every accepted call leaves sound tables.", as facts
 pub keeps : (c : Call) (s : State) → isRefused (outcomeOf c s .answer) ≡ false → Ready (outcomeOf c s .after)
 keeps c s h = rw (accepted-same c s h) (accepted-keeps c s (accepted-none c s h))
-
-pub leaves-sound : (c : Call) (s : State) → isRefused (outcomeOf c s .answer) ≡ false
-    → (isSound (outcomeOf c s .after) ≡ true) × (refusal4 (outcomeOf c s .after) .holds ≡ false)
-leaves-sound c s h =
-    let r = keeps c s h in
-    (sound-test (outcomeOf c s .after) (r .sound), shaped-test (outcomeOf c s .after) (r .shape))

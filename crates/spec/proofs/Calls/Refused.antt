@@ -71,7 +71,7 @@ pub data FirstHolds : List Refusal → ℕ → Type 0 where
   here : {r : Refusal} {rs : List Refusal} → r .holds ≡ true → FirstHolds (r ∷ rs) (r .number)
   further : {r : Refusal} {rs : List Refusal} {n : ℕ} → r .holds ≡ false → FirstHolds rs n → FirstHolds (r ∷ rs) n
 
-first-holds : (rs : List Refusal) → firstMatch rs ≢ 0 → FirstHolds rs (firstMatch rs)
+pub first-holds : (rs : List Refusal) → firstMatch rs ≢ 0 → FirstHolds rs (firstMatch rs)
 unfolding firstMatch
 first-holds [] n = absurd (n refl)
 first-holds (r ∷ rs) n = go (r .holds) refl n (first-holds rs)
@@ -81,19 +81,19 @@ first-holds (r ∷ rs) n = go (r .holds) refl n (first-holds rs)
     go true e n f = here e
     go false e n f = further e (f n)
 
-first-match : {rs : List Refusal} {n : ℕ} → FirstHolds rs n → firstMatch rs ≡ n
+pub first-match : {rs : List Refusal} {n : ℕ} → FirstHolds rs n → firstMatch rs ≡ n
 unfolding firstMatch
 first-match (here e) = rw e
 first-match (further e f) = rw e (first-match f)
 
-abbrev Numbered : Refusal → Type 0
+abbrev pub Numbered : Refusal → Type 0
 Numbered r = r .number ≢ 0
 
-first-number : {rs : List Refusal} {n : ℕ} → FirstHolds rs n → All Numbered rs → n ≢ 0
+pub first-number : {rs : List Refusal} {n : ℕ} → FirstHolds rs n → All Numbered rs → n ≢ 0
 first-number (here e) a = a .0
 first-number (further e f) a = first-number f (a .1)
 
-numbered : (c : Call) (s : State) → All Numbered (refusalsOf c s)
+pub numbered : (c : Call) (s : State) → All Numbered (refusalsOf c s)
 unfolding openRefusals submitRefusals tickRefusals reportRefusals chartRefusals
 numbered (opening clients period) s = (omega arith, (omega arith, (omega arith, tt)))
 numbered (submit client deadline) s =
@@ -101,28 +101,6 @@ numbered (submit client deadline) s =
 numbered tick s = (omega arith, (omega arith, (omega arith, tt)))
 numbered (report client) s = (omega arith, (omega arith, (omega arith, tt)))
 numbered (chart output) s = (omega arith, (omega arith, (omega arith, tt)))
-
--- "Refusals, first match wins": a call is refused with n exactly where refusal n's condition holds and no earlier one does
-pub refused-exactly : (c : Call) (s : State) (n : ℕ) → (outcomeOf c s .answer ≡ Refused n) ↔ FirstHolds (refusalsOf c s) n
-refused-exactly c s n = (to (outcome-decided c s), (λ f. from f (outcome-decided c s)))
-  where
-    to : {o : Outcome} → Decided (refusalsOf c s) s (acceptedOf c s) o → o .answer ≡ Refused n → FirstHolds (refusalsOf c s) n
-    to (accepts e) p = absurd (true≢false (sym (ap isRefused p) ∙ accepted-answer c s))
-    to (refuses e) p =
-        let q : firstMatch (refusalsOf c s) ≡ n = cc in
-        rw q at (first-holds (refusalsOf c s) e)
-
-    from : {o : Outcome} → FirstHolds (refusalsOf c s) n → Decided (refusalsOf c s) s (acceptedOf c s) o → o .answer ≡ Refused n
-    from f (accepts e) = absurd (first-number f (numbered c s) (sym (first-match f) ∙ e))
-    from f (refuses e) = ap Refused (first-match f)
-
--- "head, tables and output stay unchanged.": head and tables
-pub refused-same : (c : Call) (s : State) → isRefused (outcomeOf c s .answer) ≡ true → outcomeOf c s .after ≡ s
-refused-same c s = go (outcome-decided c s)
-  where
-    go : {o : Outcome} → Decided (refusalsOf c s) s (acceptedOf c s) o → isRefused (o .answer) ≡ true → o .after ≡ s
-    go (accepts e) p = absurd (true≢false (sym p ∙ accepted-answer c s))
-    go (refuses e) p = refl
 
 -- a call that is not refused meets none of its refusals, and comes to what an accepted call does
 pub accepted-none : (c : Call) (s : State) → isRefused (outcomeOf c s .answer) ≡ false → firstMatch (refusalsOf c s) ≡ 0
@@ -148,13 +126,13 @@ length-starts [] = refl
 length-starts (w ∷ ws) = ap suc (length-starts ws)
 
 -- the output is written where no refusal matches, and only there
-data Written (output : List ℕ) (s : State) : List ℕ → Type 0 where
+pub data Written (output : List ℕ) (s : State) : List ℕ → Type 0 where
   untouched : firstMatch (chartRefusals output s) ≢ 0 → Written output s output
   written :
       firstMatch (chartRefusals output s) ≡ 0
       → Written output s (startsOf (waiting s) ++ drop (length (startsOf (waiting s))) output)
 
-output-written : (output : List ℕ) (s : State) → Written output s (chartOutput output s)
+pub output-written : (output : List ℕ) (s : State) → Written output s (chartOutput output s)
 unfolding chartOutput
 output-written output s = go (eqb (firstMatch (chartRefusals output s)) 0) (same (firstMatch (chartRefusals output s)) 0)
   where
@@ -162,43 +140,3 @@ output-written output s = go (eqb (firstMatch (chartRefusals output s)) 0) (same
         → Written output s (cond x (startsOf (waiting s) ++ drop (length (startsOf (waiting s))) output) output)
     go true (same-yes e) = written e
     go false (same-no e) = untouched e
-
--- "head, tables and output stay unchanged.": the output
-pub chart-refused-same : (output : List ℕ) (s : State) → isRefused (chartOf output s .answer) ≡ true
-    → chartOutput output s ≡ output
-unfolding chartOf
-chart-refused-same output s = go (decided (chartRefusals output s) s (charted s)) (output-written output s)
-  where
-    go : {o : Outcome} {l : List ℕ} → Decided (chartRefusals output s) s (charted s) o → Written output s l
-        → isRefused (o .answer) ≡ true → l ≡ output
-    go (accepts e) w p = absurd (true≢false (sym p ∙ accepted-answer (chart output) s))
-    go (refuses e) (untouched f) p = refl
-    go (refuses e) (written f) p = absurd (e f)
-
--- "Chart writes one start slot a waiting record, in chart order, into a lent output table .. entries beyond are untouched."
-pub record Charts (output : List ℕ) (s : State) (l : List ℕ) : Type 0 where
-  pub same-length : length l ≡ length output
-  pub starts : take (length (startsOf (waiting s))) l ≡ startsOf (waiting s)
-  pub beyond : drop (length (startsOf (waiting s))) l ≡ drop (length (startsOf (waiting s))) output
-
-pub chart-beyond : (output : List ℕ) (s : State) → isRefused (chartOf output s .answer) ≡ false
-    → Charts output s (chartOutput output s)
-unfolding chartOf
-chart-beyond output s = go (decided (chartRefusals output s) s (charted s)) (output-written output s)
-  where
-    go : {o : Outcome} {l : List ℕ} → Decided (chartRefusals output s) s (charted s) o → Written output s l
-        → isRefused (o .answer) ≡ false → Charts output s l
-    go (accepts e) (untouched f) p = absurd (f e)
-    go (accepts e) (written f) p =
-        let r = chart-ready output s e in
-        let waits = waiting-length s (r .ready .shape) in
-        let starts = startsOf (waiting s) in
-        let rest = drop (length starts) output in
-        let parts = length-append starts rest in
-        record {
-          same-length =
-              omega (arith, parts, length-drop (length starts) output, length-starts (waiting s), waits, r .long);
-          starts = take-append-seam starts rest;
-          beyond = drop-append-seam starts rest;
-        }
-    go (refuses e) w p = absurd (true≢false p)

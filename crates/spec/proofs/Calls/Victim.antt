@@ -20,16 +20,12 @@ use Rattle.spec.specs.Order.{placeOf}
 use Rattle.spec.specs.Sound.{waitingOf}
 use Rattle.spec.specs.Victim.{isCandidate, keepIf, candidatesFrom, candidates, hasSmallerRatio, countsAt, smallestOf, victimOf}
 use Rattle.spec.specs.Calls.{change, oneMoreSubmitted, newRequest, countedIn, withNew, victimPlace}
+use Rattle.spec.proofs.Laws.Clients.{of, of-yes, of-no, waitingOf-total, waitingOf-none, waitingOf-put, waitingOf-remove, waiting-self, Changed, changes, stays, changed, length-change, getD-change, counts-path}
+use Rattle.spec.proofs.Laws.Every.{all-at, all-two}
 use Rattle.spec.proofs.Laws.Order.{all-put, length-put, place-most, remove-put}
 use Rattle.spec.proofs.Laws.Feasible.{feasible-test}
 use Rattle.spec.proofs.Laws.Sound.{Owned}
 use Rattle.spec.proofs.Laws.Accepted.{SubmitReady}
-
--- for Laws
-pub all-at : {A : Type 0} (p : A → Type 0) (xs : List A) (k : ℕ) (d : A) → k < length xs → All p xs → p (getD xs k d)
-all-at p [] k d h a = absurd (omega arith)
-all-at p (x ∷ xs) zero d h a = a .0
-all-at p (x ∷ xs) (suc k) d h a = all-at p xs k d (omega arith) (a .1)
 
 -- each number is smaller than all behind it
 abbrev pub Ascending : List ℕ → Type 0
@@ -255,20 +251,6 @@ victim-place client deadline s r =
     (placeOf (newRequest client deadline s) (waiting s)) (new-inside client deadline s) (new-candidate client deadline s r)
     (λ (j : ℕ). (j < length (withNew client deadline s)) × (isCandidate (s .head .clock) (withNew client deadline s) j ≡ true))
     (λ j h e. (h, e))
-
--- each request is one of its client's
-waiting-self : (ws : List Request) → All (λ (w : Request). 1 ≤ waitingOf (w .client) ws) ws
-unfolding waitingOf countIf
-waiting-self [] = tt
-waiting-self (w ∷ ws) = (
-  go (eqb (w .client) (w .client)) (same (w .client) (w .client)),
-  all-imp (λ (v : Request). 1 ≤ waitingOf (v .client) ws) (λ (v : Request). 1 ≤ waitingOf (v .client) (w ∷ ws)) ws
-      (λ v h. omega arith) (waiting-self ws),
-)
-  where
-    go : (x : Bool) → Same (w .client) (w .client) x → 1 ≤ toNumber x + waitingOf (w .client) ws
-    go true (same-yes e) = omega arith
-    go false (same-no e) = absurd (e refl)
 
 -- "the new request already counted in submitted": no ratio has the divisor 0
 pub counted-some : (client deadline : ℕ) (s : State) → SubmitReady client deadline s

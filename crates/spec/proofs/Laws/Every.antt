@@ -1,6 +1,6 @@
 -- Laws of the tests over lists, and of records put in and taken out. Assumes nothing.
 use Prim.Native.Nat.{ℕ, zero, suc, _+_, _-_, _≤_, _<_}
-use mathlib.Core.Path.{_≡_, refl, sym, ap, _∙_}
+use mathlib.Core.Path.{_≡_, refl, sym, ap, _∙_, fun-ext}
 use mathlib.Core.Bool.{Bool, true, false, cond, not, _&&_, _||_, and-eq-true-iff, true≢false, false≢true}
 use mathlib.Core.List.{List, [], _∷_, _++_}
 use native.Mathlib.Nat.{zero-add}
@@ -40,6 +40,17 @@ cond-true b x y e = rw e
 
 pub cond-false : {A : Type 0} (b : Bool) (x y : A) → b ≡ false → cond b x y ≡ y
 cond-false b x y e = rw e
+
+-- ---- what holds of each
+module _ {A : Type 0} where
+  pub all-at : (p : A → Type 0) (xs : List A) (k : ℕ) (d : A) → k < length xs → All p xs → p (getD xs k d)
+  all-at p [] k d h a = absurd (omega arith)
+  all-at p (x ∷ xs) zero d h a = a .0
+  all-at p (x ∷ xs) (suc k) d h a = all-at p xs k d (omega arith) (a .1)
+
+  pub all-two : (p q r : A → Type 0) (xs : List A) → ((x : A) → p x → q x → r x) → All p xs → All q xs → All r xs
+  all-two p q r [] f a b = tt
+  all-two p q r (x ∷ xs) f a b = (f x (a .0) (b .0), all-two p q r xs f (a .1) (b .1))
 
 -- ---- tests over lists
 module _ {A : Type 0} where
@@ -91,6 +102,32 @@ module _ {A : Type 0} where
   unfolding countIf total
   count-total test [] = refl
   count-total test (x ∷ xs) = ap (λ (n : ℕ). toNumber (test x) + n) (count-total test xs)
+
+  -- a sum by parts
+  pub total-same : (f g : A → ℕ) (xs : List A) → ((x : A) → f x ≡ g x) → total f xs ≡ total g xs
+  total-same f g xs h = ap (λ (k : A → ℕ). total k xs) (fun-ext h)
+
+  pub total-add : (f g : A → ℕ) (xs : List A) → total (λ (x : A). f x + g x) xs ≡ total f xs + total g xs
+  unfolding total
+  total-add f g [] = refl
+  total-add f g (x ∷ xs) = omega (arith, total-add f g xs)
+
+  pub total-select : (f : A → ℕ) (test : A → Bool) (xs : List A)
+      → total f (select test xs) ≡ total (λ (x : A). cond (test x) (f x) 0) xs
+  unfolding total select
+  total-select f test [] = refl
+  total-select f test (x ∷ xs) = go (test x) (total-select f test xs)
+    where
+      go : (b : Bool) → total f (select test xs) ≡ total (λ (x : A). cond (test x) (f x) 0) xs
+          → total f (cond b (x ∷ select test xs) (select test xs)) ≡ cond b (f x) 0 + total (λ (x : A). cond (test x) (f x) 0) xs
+      go true e = omega arith
+      go false e = omega arith
+
+  -- none of them passes
+  pub exists-none : (test : A → Bool) (xs : List A) → All (λ (x : A). test x ≡ false) xs → exists test xs ≡ false
+  unfolding exists
+  exists-none test [] a = refl
+  exists-none test (x ∷ xs) a = rw (a .0, exists-none test xs (a .1))
 
 module _ {A B : Type 0} where
   pub length-mapFrom : (f : ℕ → A → B) (i : ℕ) (xs : List A) → length (mapFrom f i xs) ≡ length xs

@@ -69,6 +69,10 @@ pub before-deadline : (a b : Request) → Before a b → a .deadline ≤ b .dead
 before-deadline a b (earlier h) = omega arith
 before-deadline a b (alike e n) = omega arith
 
+-- the first in chart order has the earliest deadline
+pub first-earliest : (w : Request) (ws : List Request) → All (Before w) ws → All (λ (v : Request). w .deadline ≤ v .deadline) ws
+first-earliest w ws a = all-imp (Before w) (λ (v : Request). w .deadline ≤ v .deadline) ws (before-deadline w) a
+
 -- ---- a list in order
 abbrev pub InOrder : List Request → Type 0
 InOrder [] = Unit {0}

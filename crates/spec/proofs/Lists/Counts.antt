@@ -21,28 +21,12 @@ use Rattle.spec.specs.Sound.{waitingOf}
 use Rattle.spec.specs.Calls.{Outcome, openOf, opened, change, oneMoreSubmitted, oneMoreServed, oneMoreDropped, isPeriodStart, restarted, countsAfter, oneLater, kept, droppedAt, submitted, submitOf, ticked, tickOf, reported, reportOf, reportAnswer, charted, chartOf, victimPlace, requestAt}
 use Rattle.spec.specs.Lists.{Call, opening, submit, tick, report, chart, outcomeOf, run, history, Event, isRefused, isOpened, isTick, ticks, Asked, Victim, waitingRequests, waitingBy, submitters, servedClients, victimClients, startsPeriod, sinceStart, countsSince}
 use Rattle.spec.specs.Refusals.{firstMatch, openRefusals, submitRefusals, tickRefusals, reportRefusals, chartRefusals}
+use Rattle.spec.proofs.Laws.Clients.{of, of-yes, of-no, waitingOf-total, waitingOf-none, waitingOf-put, waitingOf-remove, waiting-self, Changed, changes, stays, changed, length-change, getD-change, counts-path}
+use Rattle.spec.proofs.Laws.Every.{all-at, all-two}
 use Rattle.spec.proofs.Laws.Every.{count-total, length-mapFrom, getD-mapFrom}
 use Rattle.spec.proofs.Laws.Accepted.{next-waiting, ReportReady, report-ready}
 use Rattle.spec.proofs.Calls.Refused.{accepted-none, accepted-same}
 use Rattle.spec.proofs.Lists.Trace.{Traced, event, requests, Submitted, keeps, drops, submitted-cases, Step, submits, serves, passes, traced-open, traced-step, along, accepted-open}
-
--- ---- a client's counts, changed or not
-counts-path : (a b : Counts) → a .submitted ≡ b .submitted → a .served ≡ b .served → a .dropped ≡ b .dropped → a ≡ b
-counts-path a b p q r = λ i. record { submitted = p i; served = q i; dropped = r i }
-
-pub length-change : (f : Counts → Counts) (client : ℕ) (cs : List Counts) → length (change f client cs) ≡ length cs
-unfolding change
-length-change f client cs = length-set cs client (f (getD cs client zeroCounts))
-
-pub getD-change : (f : Counts → Counts) (client : ℕ) (cs : List Counts) (c : ℕ) → c < length cs
-    → getD (change f client cs) c zeroCounts ≡ cond (eqb c client) (f (getD cs c zeroCounts)) (getD cs c zeroCounts)
-unfolding change
-getD-change f client cs c h = go (eqb c client) (same c client)
-  where
-    go : (x : Bool) → Same c client x
-        → getD (set cs client (f (getD cs client zeroCounts))) c zeroCounts ≡ cond x (f (getD cs c zeroCounts)) (getD cs c zeroCounts)
-    go true (same-yes e) = rw e (getD-set-same cs client (f (getD cs client zeroCounts)) zeroCounts (omega arith))
-    go false (same-no n) = getD-set-other cs client c (f (getD cs client zeroCounts)) zeroCounts n
 
 -- ---- what one event adds
 abbrev adding : ℕ → ℕ → ℕ → Counts → Counts

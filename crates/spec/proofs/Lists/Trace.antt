@@ -1,15 +1,14 @@
 -- What ties the tables to what is read off the calls and answers of a list that an accepted open began, kept by every call that
 -- is no accepted open: clock, last number, and that the waiting table holds just the list's requests that no answer names.
 -- Assumes nothing.
-use Prim.Native.Nat.{ℕ, zero, suc, _+_, _≤_, _<_}
+use Prim.Native.Nat.{ℕ, suc, _+_, _≤_, _<_}
 use mathlib.Core.Path.{_≡_, refl, sym, ap, _∙_, fun-ext, subst}
-use mathlib.Core.Logic.{_≢_}
-use mathlib.Core.Bool.{Bool, true, false, not, cond, _&&_, _||_, true≢false, false≢true}
+use mathlib.Core.Bool.{Bool, true, false, not, cond, _||_, true≢false}
 use mathlib.Core.List.{List, [], _∷_, _++_, map}
 use native.Mathlib.Omega.{arith}
-use borrow.Author.Tests.{eq-eqb, ne-eqb, not-false}
+use borrow.Author.Tests.{eq-eqb, ne-eqb}
 use lib.Dec.{eqb}
-use lib.ListN.{length, getD}
+use lib.ListN.{length, getD, drop}
 use Rattle.slots.proofs.Laws.Tests.{Same, same-yes, same-no, same}
 use Rattle.slots.proofs.Laws.Sums.{one, one-yes, one-no, one-most, All, all-each, all-imp, total, total-le, total-zero, total-map, total-one, total-cons}
 use Rattle.spec.specs.declared.types.Request.{Request}
@@ -17,45 +16,18 @@ use Rattle.spec.specs.declared.types.Answer.{Answer}
 use Rattle.spec.specs.declared.types.Answer.the-variants.{Refused}
 use Rattle.spec.specs.Every.{exists, countIf, select}
 use Rattle.spec.specs.Tables.{zeroRequest, State, waiting, nextState}
-use Rattle.spec.specs.Order.{putInOrder, removeAt}
+use Rattle.spec.specs.Order.{removeAt}
 use Rattle.spec.specs.Chart.{hasNoOverfull}
-use Rattle.spec.specs.Refusals.{Refusal, firstMatch, openRefusals, submitRefusals, tickRefusals, reportRefusals, chartRefusals}
-use Rattle.spec.specs.Calls.{Outcome, opened, openOf, submitOf, submitted, kept, droppedAt, withNew, newRequest, requestAt, victimPlace, countedIn, change, oneMoreDropped, oneMoreServed, countsAfter, tickOf, ticked, reportOf, reported, chartOf, charted, unlessRefused}
-use Rattle.spec.specs.Lists.{Call, opening, submit, tick, report, chart, outcomeOf, run, Event, history, isRefused, isOpened, isTick, ticks, Asked, askedBy, asked, Booking, servedIn, bookings, Victim, victimBy, victims, isServed, isVictim, servedRequests, waitingRequests}
-use Rattle.spec.proofs.Laws.Every.{or-none, Value, is-true, is-false, value, cond-true, cond-false, total-remove}
+use Rattle.spec.specs.Refusals.{firstMatch}
+use Rattle.spec.specs.Calls.{Outcome, opened, openOf, submitted, kept, droppedAt, withNew, newRequest, requestAt, victimPlace, countedIn, change, oneMoreDropped, oneMoreServed, countsAfter, ticked, reported, charted}
+use Rattle.spec.specs.Lists.{Call, opening, submit, tick, report, chart, outcomeOf, run, Event, history, isRefused, isOpened, isTick, ticks, Asked, askedBy, asked, Booking, servedIn, bookings, Victim, victimBy, victims, servedRequests, waitingRequests}
+use Rattle.spec.proofs.Laws.Every.{total-same, total-add, total-select, exists-none, or-none, all-at, Value, is-true, is-false, value, cond-true, cond-false, total-remove}
 use Rattle.spec.proofs.Laws.Order.{total-put, all-put}
 use Rattle.spec.proofs.Laws.Sound.{Given}
-use Rattle.spec.proofs.Laws.Accepted.{Ready, OpenReady, SubmitReady, TickReady, open-ready, submit-ready, tick-ready, Decided, accepts, refuses, decided, next-waiting}
+use Rattle.spec.proofs.Laws.Accepted.{Ready, OpenReady, SubmitReady, TickReady, open-ready, submit-ready, tick-ready, Decided, accepts, refuses, next-waiting}
 use Rattle.spec.proofs.Calls.Refused.{refusalsOf, acceptedOf, outcome-decided, accepted-none, accepted-same}
 use Rattle.spec.proofs.Calls.Keeps.{open-keeps, submit-keeps, tick-keeps}
-use Rattle.spec.proofs.Calls.Victim.{all-at, victim-place}
-
--- ---- for Laws
-module _ {A : Type 0} where
-  -- a sum by parts
-  pub total-same : (f g : A → ℕ) (xs : List A) → ((x : A) → f x ≡ g x) → total f xs ≡ total g xs
-  total-same f g xs h = ap (λ (k : A → ℕ). total k xs) (fun-ext h)
-
-  pub total-add : (f g : A → ℕ) (xs : List A) → total (λ (x : A). f x + g x) xs ≡ total f xs + total g xs
-  unfolding total
-  total-add f g [] = refl
-  total-add f g (x ∷ xs) = omega (arith, total-add f g xs)
-
-  pub total-select : (f : A → ℕ) (test : A → Bool) (xs : List A) → total f (select test xs) ≡ total (λ (x : A). cond (test x) (f x) 0) xs
-  unfolding total select
-  total-select f test [] = refl
-  total-select f test (x ∷ xs) = go (test x) (total-select f test xs)
-    where
-      go : (b : Bool) → total f (select test xs) ≡ total (λ (x : A). cond (test x) (f x) 0) xs
-          → total f (cond b (x ∷ select test xs) (select test xs)) ≡ cond b (f x) 0 + total (λ (x : A). cond (test x) (f x) 0) xs
-      go true e = omega arith
-      go false e = omega arith
-
-  -- none of them passes
-  pub exists-none : (test : A → Bool) (xs : List A) → All (λ (x : A). test x ≡ false) xs → exists test xs ≡ false
-  unfolding exists
-  exists-none test [] a = refl
-  exists-none test (x ∷ xs) a = rw (a .0, exists-none test xs (a .1))
+use Rattle.spec.proofs.Calls.Victim.{victim-place}
 
 or-assoc : (x y z : Bool) → (x || y) || z ≡ x || (y || z)
 or-assoc true y z = refl
@@ -129,34 +101,41 @@ failing test f a = cond (test (a .request .number)) 0 (f (a .request))
 -- ws holds just the requests that are not named: one of them is named now, at the place k
 module _ (named : ℕ → Bool) (rs : List Asked) (ws : List Request) (k : ℕ) (num : Numbered rs)
     (sums : (f : Request → ℕ) → total (failing named f) rs ≡ total f ws) (h : k < length ws) where
-  abbrev w : Request
-  w = getD ws k zeroRequest
+  abbrev it : Request
+  it = getD ws k zeroRequest
 
-  abbrev v : ℕ
-  v = w .number
+  abbrev its : ℕ
+  its = it .number
 
-  once : total (has v) ws ≤ 1
+  once : total (has its) ws ≤ 1
   once =
       omega (
         arith,
-        sums (has v),
-        numbered-once v rs num,
-        total-le (failing named (has v)) (λ (a : Asked). has v (a .request)) rs (λ a. go a (named (a .request .number))),
+        sums (has its),
+        numbered-once its rs num,
+        total-le (failing named (has its)) (λ (a : Asked). has its (a .request)) rs (λ a. go a (named (a .request .number))),
       )
     where
-      go : (a : Asked) (b : Bool) → cond b 0 (has v (a .request)) ≤ has v (a .request)
+      go : (a : Asked) (b : Bool) → cond b 0 (has its (a .request)) ≤ has its (a .request)
       go a true = omega arith
       go a false = omega arith
 
-  rest-none : total (has v) (removeAt k ws) ≡ 0
-  rest-none = omega (arith, once, total-remove (has v) k zeroRequest ws h, one-yes v v refl)
+  rest-none : total (has its) (removeAt k ws) ≡ 0
+  rest-none = omega (arith, once, total-remove (has its) k zeroRequest ws h, one-yes its its refl)
 
   -- those that are not named now stand in what is left
-  sums-left : (now : ℕ → Bool) → ((n : ℕ) → now n ≡ eqb v n || named n) → (f : Request → ℕ) → total (failing now f) rs ≡ total f (removeAt k ws)
+  sums-left : (now : ℕ → Bool) → ((n : ℕ) → now n ≡ eqb its n || named n) → (f : Request → ℕ)
+      → total (failing now f) rs ≡ total f (removeAt k ws)
   sums-left now e f =
-      total-same (failing now f) (failing named (without v f)) rs (λ a. go a (now (a .request .number)) (eqb v (a .request .number)) (named (a .request .number)) (e (a .request .number)))
-      ∙ sums (without v f)
-      ∙ omega (arith, total-remove (without v f) k zeroRequest ws h, cond-true (eqb v v) 0 (f w) (eq-eqb v v refl), without-none v f (removeAt k ws) rest-none)
+      total-same (failing now f) (failing named (without its f)) rs
+      (λ a. go a (now (a .request .number)) (eqb its (a .request .number)) (named (a .request .number)) (e (a .request .number)))
+      ∙ sums (without its f)
+      ∙ omega (
+        arith,
+        total-remove (without its f) k zeroRequest ws h,
+        cond-true (eqb its its) 0 (f it) (eq-eqb its its refl),
+        without-none its f (removeAt k ws) rest-none,
+      )
     where
       go : (a : Asked) (x y z : Bool) → x ≡ y || z → cond x 0 (f (a .request)) ≡ cond z 0 (cond y 0 (f (a .request)))
       go a x true true e = rw e
@@ -165,45 +144,51 @@ module _ (named : ℕ → Bool) (rs : List Asked) (ws : List Request) (k : ℕ) 
       go a x false false e = rw e
 
   -- it was not named before
-  fresh : named v ≡ false
-  fresh = go (value (named v))
+  fresh : named its ≡ false
+  fresh = go (value (named its))
     where
-      none-of : named v ≡ true → (a : Asked) → failing named (has v) a ≡ 0
-      none-of e a = at-number (eqb v (a .request .number)) (same v (a .request .number))
+      none-of : named its ≡ true → (a : Asked) → failing named (has its) a ≡ 0
+      none-of e a = at-number (eqb its (a .request .number)) (same its (a .request .number))
         where
-          at-number : (b : Bool) → Same v (a .request .number) b → failing named (has v) a ≡ 0
-          at-number true (same-yes g) = cond-true (named (a .request .number)) 0 (has v (a .request)) (rw g at e)
-          at-number false (same-no n) = small (named (a .request .number)) (one-no v (a .request .number) n)
+          at-number : (b : Bool) → Same its (a .request .number) b → failing named (has its) a ≡ 0
+          at-number true (same-yes g) = cond-true (named (a .request .number)) 0 (has its (a .request)) (rw g at e)
+          at-number false (same-no n) = small (named (a .request .number)) (one-no its (a .request .number) n)
             where
-              small : (c : Bool) → has v (a .request) ≡ 0 → cond c 0 (has v (a .request)) ≡ 0
+              small : (c : Bool) → has its (a .request) ≡ 0 → cond c 0 (has its (a .request)) ≡ 0
               small true z = refl
               small false z = z
 
-      go : Value (named v) → named v ≡ false
+      go : Value (named its) → named its ≡ false
       go (is-true e) =
-          absurd (omega (arith, sums (has v), total-zero (failing named (has v)) rs (all-each (λ (a : Asked). failing named (has v) a ≡ 0) rs (none-of e)), total-remove (has v) k zeroRequest ws h, one-yes v v refl))
+          absurd (omega (
+            arith,
+            sums (has its),
+            total-zero (failing named (has its)) rs (all-each (λ (a : Asked). failing named (has its) a ≡ 0) rs (none-of e)),
+            total-remove (has its) k zeroRequest ws h,
+            one-yes its its refl,
+          ))
       go (is-false e) = e
 
   -- a sum over those that pass a test rises by the request that passes it now
-  sums-passing : (before now : ℕ → Bool) → before v ≡ false → ((n : ℕ) → now n ≡ eqb v n || before n) → (f : Request → ℕ)
-      → total (passing now f) rs ≡ f w + total (passing before f) rs
+  sums-passing : (before now : ℕ → Bool) → before its ≡ false → ((n : ℕ) → now n ≡ eqb its n || before n) → (f : Request → ℕ)
+      → total (passing now f) rs ≡ f it + total (passing before f) rs
   sums-passing before now b e f =
-      total-same (passing now f) (λ (a : Asked). failing named (only v f) a + passing before f a) rs split
-      ∙ total-add (failing named (only v f)) (passing before f) rs
-      ∙ omega (arith, sums (only v f), only-one)
+      total-same (passing now f) (λ (a : Asked). failing named (only its f) a + passing before f a) rs split
+      ∙ total-add (failing named (only its f)) (passing before f) rs
+      ∙ omega (arith, sums (only its f), only-one)
     where
-      only-one : total (only v f) ws ≡ f w
+      only-one : total (only its f) ws ≡ f it
       only-one =
           omega (
             arith,
-            total-remove (only v f) k zeroRequest ws h,
-            cond-true (eqb v v) (f w) 0 (eq-eqb v v refl),
-            only-without v f (removeAt k ws),
-            without-none v f (removeAt k ws) rest-none,
+            total-remove (only its f) k zeroRequest ws h,
+            cond-true (eqb its its) (f it) 0 (eq-eqb its its refl),
+            only-without its f (removeAt k ws),
+            without-none its f (removeAt k ws) rest-none,
           )
 
-      split : (a : Asked) → passing now f a ≡ failing named (only v f) a + passing before f a
-      split a = rw (e (a .request .number)) (go (eqb v (a .request .number)) (same v (a .request .number)))
+      split : (a : Asked) → passing now f a ≡ failing named (only its f) a + passing before f a
+      split a = rw (e (a .request .number)) (go (eqb its (a .request .number)) (same its (a .request .number)))
         where
           n : ℕ
           n = a .request .number
@@ -212,7 +197,7 @@ module _ (named : ℕ → Bool) (rs : List Asked) (ws : List Request) (k : ℕ) 
           other true z = omega arith
           other false z = omega arith
 
-          go : (y : Bool) → Same v n y → cond (y || before n) (f (a .request)) 0
+          go : (y : Bool) → Same its n y → cond (y || before n) (f (a .request)) 0
               ≡ cond (named n) 0 (cond y (f (a .request)) 0) + cond (before n) (f (a .request)) 0
           go true (same-yes g) =
               let p : named n ≡ false = rw g at fresh in
@@ -234,19 +219,23 @@ isNamed es n = isVictimNumber es n || isServedNumber es n
 abbrev pub requests : List Asked → List Request
 requests rs = map (λ (a : Asked). a .request) rs
 
-waiting-total : (f : Request → ℕ) (es : List Event) → total f (requests (waitingRequests es)) ≡ total (failing (isNamed es) f) (asked es)
+waiting-total : (f : Request → ℕ) (es : List Event)
+    → total f (requests (waitingRequests es)) ≡ total (failing (isNamed es) f) (asked es)
 unfolding waitingRequests
 waiting-total f es =
     total-map f (λ (a : Asked). a .request) (waitingRequests es)
     ∙ total-select (λ (a : Asked). f (a .request)) (λ (a : Asked). not (isNamed es (a .request .number))) (asked es)
-    ∙ total-same (λ (a : Asked). cond (not (isNamed es (a .request .number))) (f (a .request)) 0) (failing (isNamed es) f) (asked es)
-    (λ a. go a (isNamed es (a .request .number)))
+    ∙ total-same staying (failing (isNamed es) f) (asked es) (λ a. go a (isNamed es (a .request .number)))
   where
+    staying : Asked → ℕ
+    staying a = cond (not (isNamed es (a .request .number))) (f (a .request)) 0
+
     go : (a : Asked) (b : Bool) → cond (not b) (f (a .request)) 0 ≡ cond b 0 (f (a .request))
     go a true = refl
     go a false = refl
 
-served-total : (f : Request → ℕ) (es : List Event) → total f (requests (servedRequests es)) ≡ total (passing (isServedNumber es) f) (asked es)
+served-total : (f : Request → ℕ) (es : List Event)
+    → total f (requests (servedRequests es)) ≡ total (passing (isServedNumber es) f) (asked es)
 unfolding servedRequests
 served-total f es =
     total-map f (λ (a : Asked). a .request) (servedRequests es)
@@ -306,6 +295,34 @@ module _ (es : List Event) (s : State) (T : Traced es s) (n : ℕ) (h : length (
           (all-imp (λ (v : Victim). v .number ≤ length (asked es)) (λ (v : Victim). eqb (v .number) n ≡ false) (victims es)
           (λ v g. ne-eqb (v .number) n (omega arith)) (T .victims-given))
 
+-- ---- one call more
+abbrev pub event : Call → Answer → Event
+event c a = record { call = c; answer = a }
+
+-- p holds of the list with the call and its answer, and of the state after it
+abbrev pub Then : (List Event → State → Type 0) → Call → Outcome → List Event → Type 0
+Then p c o es = p (event c (o .answer) ∷ es) (o .after)
+
+-- what waits then
+pub kept-waiting : (client deadline : ℕ) (s : State) → waiting (kept client deadline s .after) ≡ withNew client deadline s
+unfolding kept
+kept-waiting client deadline s =
+    next-waiting (s .head .clock) (suc (s .head .last)) (withNew client deadline s) (countedIn client s) s
+
+pub dropped-waiting : (k client deadline : ℕ) (s : State)
+    → waiting (droppedAt k client deadline s .after) ≡ removeAt k (withNew client deadline s)
+unfolding droppedAt
+dropped-waiting k client deadline s =
+    next-waiting (s .head .clock) (suc (s .head .last)) (removeAt k (withNew client deadline s))
+    (change oneMoreDropped (requestAt k client deadline s .client) (countedIn client s)) s
+
+pub ticked-waiting : (ws : List Request) (s : State) → waiting (ticked ws s .after) ≡ drop 1 ws
+unfolding ticked nextState
+ticked-waiting [] s = refl
+ticked-waiting (w ∷ ws) s =
+    next-waiting (suc (s .head .clock)) (s .head .last) ws
+    (countsAfter (s .head .period) (suc (s .head .clock)) ws (change oneMoreServed (w .client) (s .clientTable))) s
+
 -- ---- open
 pub traced-open : (clients period : ℕ) (s : State) → OpenReady clients period s → Traced [] (opened clients period s .after)
 unfolding opened ticks countIf asked bookings victims waitingRequests servedRequests select total
@@ -335,14 +352,14 @@ pub submitted-cases : (client deadline : ℕ) (s : State) → Submitted client d
 unfolding submitted
 submitted-cases client deadline s = go (hasNoOverfull (s .head .clock) (withNew client deadline s)) refl
   where
-    go : (x : Bool) → hasNoOverfull (s .head .clock) (withNew client deadline s) ≡ x
-        → Submitted client deadline s (cond x (kept client deadline s) (droppedAt (victimPlace client deadline s) client deadline s))
+    go : (x : Bool) → hasNoOverfull (s .head .clock) (withNew client deadline s) ≡ x → Submitted client deadline s
+        (cond x (kept client deadline s) (droppedAt (victimPlace client deadline s) client deadline s))
     go true e = keeps e
     go false e = drops e
 
--- a call and its answer
-abbrev pub event : Call → Answer → Event
-event c a = record { call = c; answer = a }
+-- with one number more
+given-on : {A : Type 0} (f : A → ℕ) (n : ℕ) (xs : List A) → All (λ (x : A). f x ≤ n) xs → All (λ (x : A). f x ≤ suc n) xs
+given-on {A} f n xs a = all-imp (λ (x : A). f x ≤ n) (λ (x : A). f x ≤ suc n) xs (λ x h. omega arith) a
 
 module _ (client deadline : ℕ) (s : State) (es : List Event) (T : Traced es s) where
   abbrev new : Asked
@@ -372,18 +389,7 @@ module _ (client deadline : ℕ) (s : State) (es : List Event) (T : Traced es s)
         served-total f es,
       )
 
-  bookings-on : All (λ (b : Booking). b .number ≤ suc (length (asked es))) (bookings es)
-  bookings-on =
-      all-imp (λ (b : Booking). b .number ≤ length (asked es)) (λ (b : Booking). b .number ≤ suc (length (asked es))) (bookings es)
-      (λ b h. omega arith) (T .bookings-given)
-
-  victims-on : All (λ (v : Victim). v .number ≤ suc (length (asked es))) (victims es)
-  victims-on =
-      all-imp (λ (v : Victim). v .number ≤ length (asked es)) (λ (v : Victim). v .number ≤ suc (length (asked es))) (victims es)
-      (λ v h. omega arith) (T .victims-given)
-
-  traced-kept : Ready (kept client deadline s .after)
-      → Traced (event (submit client deadline) (kept client deadline s .answer) ∷ es) (kept client deadline s .after)
+  traced-kept : Ready (kept client deadline s .after) → Then Traced (submit client deadline) (kept client deadline s) es
   unfolding kept nextState ticks countIf asked bookings victims
   traced-kept r =
       record {
@@ -391,15 +397,14 @@ module _ (client deadline : ℕ) (s : State) (es : List Event) (T : Traced es s)
         clock = omega (arith, T .clock);
         last = ap suc (T .last);
         numbered = (ap suc (T .last), T .numbered);
-        bookings-given = bookings-on;
-        victims-given = victims-on;
-        sums =
-            λ f. waiting-total f (event (submit client deadline) (kept client deadline s .answer) ∷ es) ∙ new-sums f
-            ∙ ap (total f) (sym (next-waiting (s .head .clock) (suc (s .head .last)) (withNew client deadline s) (countedIn client s) s));
-        served =
-            λ f. served-total (known f) (event (submit client deadline) (kept client deadline s .answer) ∷ es)
-            ∙ new-served (known f) ∙ T .served f;
+        bookings-given = given-on (λ (b : Booking). b .number) (length (asked es)) (bookings es) (T .bookings-given);
+        victims-given = given-on (λ (v : Victim). v .number) (length (asked es)) (victims es) (T .victims-given);
+        sums = λ f. waiting-total f now ∙ new-sums f ∙ ap (total f) (sym (kept-waiting client deadline s));
+        served = λ f. served-total (known f) now ∙ new-served (known f) ∙ T .served f;
       }
+    where
+      now : List Event
+      now = event (submit client deadline) (kept client deadline s .answer) ∷ es
 
   -- the record at the place k is dropped
   module _ (k : ℕ) (h : k < length (withNew client deadline s)) where
@@ -412,7 +417,7 @@ module _ (client deadline : ℕ) (s : State) (es : List Event) (T : Traced es s)
         (λ r g. omega (arith, T .last)) (T .ready .sound .given)))
 
     traced-dropped : Ready (droppedAt k client deadline s .after)
-        → Traced (event (submit client deadline) (droppedAt k client deadline s .answer) ∷ es) (droppedAt k client deadline s .after)
+        → Then Traced (submit client deadline) (droppedAt k client deadline s) es
     unfolding droppedAt nextState ticks countIf asked bookings victims exists
     traced-dropped r =
         record {
@@ -420,13 +425,13 @@ module _ (client deadline : ℕ) (s : State) (es : List Event) (T : Traced es s)
           clock = omega (arith, T .clock);
           last = ap suc (T .last);
           numbered = (ap suc (T .last), T .numbered);
-          bookings-given = bookings-on;
-          victims-given = (victim-given, victims-on);
+          bookings-given = given-on (λ (b : Booking). b .number) (length (asked es)) (bookings es) (T .bookings-given);
+          victims-given = (victim-given, given-on (λ (v : Victim). v .number) (length (asked es)) (victims es) (T .victims-given));
           sums =
               λ f. waiting-total f now
-              ∙ sums-left (isNamed es) (new ∷ asked es) (withNew client deadline s) k (ap suc (T .last), T .numbered) new-sums h (isNamed now) named-now f
-              ∙ ap (total f)
-              (sym (next-waiting (s .head .clock) (suc (s .head .last)) (removeAt k (withNew client deadline s)) (change oneMoreDropped (requestAt k client deadline s .client) (countedIn client s)) s));
+              ∙ sums-left (isNamed es) (new ∷ asked es) (withNew client deadline s) k (ap suc (T .last), T .numbered) new-sums h
+              (isNamed now) named-now f
+              ∙ ap (total f) (sym (dropped-waiting k client deadline s));
           served = λ f. served-total (known f) now ∙ new-served (known f) ∙ T .served f;
         }
       where
@@ -437,18 +442,17 @@ module _ (client deadline : ℕ) (s : State) (es : List Event) (T : Traced es s)
         named-now n = or-assoc (eqb (requestAt k client deadline s .number) n) (isVictimNumber es n) (isServedNumber es n)
 
 pub traced-submit : (client deadline : ℕ) (s : State) (es : List Event) → SubmitReady client deadline s → Traced es s
-    → Traced (event (submit client deadline) (submitted client deadline s .answer) ∷ es) (submitted client deadline s .after)
+    → Then Traced (submit client deadline) (submitted client deadline s) es
 traced-submit client deadline s es r T = go (submitted-cases client deadline s) (submit-keeps client deadline s r)
   where
-    go : {o : Outcome} → Submitted client deadline s o → Ready (o .after) → Traced (event (submit client deadline) (o .answer) ∷ es) (o .after)
+    go : {o : Outcome} → Submitted client deadline s o → Ready (o .after) → Then Traced (submit client deadline) o es
     go (keeps e) q = traced-kept client deadline s es T q
     go (drops e) q =
         traced-dropped client deadline s es T (victimPlace client deadline s) (victim-place client deadline s r .0) q
 
 -- ---- tick
 module _ (s : State) (es : List Event) (T : Traced es s) where
-  traced-ticked : (ws : List Request) → waiting s ≡ ws → Ready (ticked ws s .after)
-      → Traced (event tick (ticked ws s .answer) ∷ es) (ticked ws s .after)
+  traced-ticked : (ws : List Request) → waiting s ≡ ws → Ready (ticked ws s .after) → Then Traced tick (ticked ws s) es
   unfolding ticked nextState ticks countIf asked bookings victims exists total removeAt
   traced-ticked [] e r =
       record {
@@ -475,12 +479,11 @@ module _ (s : State) (es : List Event) (T : Traced es s) where
         sums =
             λ f. waiting-total f now
             ∙ sums-left (isNamed es) (asked es) (w ∷ ws) 0 (T .numbered) old (omega arith) (isNamed now) named-now f
-            ∙ ap (total f) (sym (next-waiting (suc (s .head .clock)) (s .head .last) ws
-            (countsAfter (s .head .period) (suc (s .head .clock)) ws (change oneMoreServed (w .client) (s .clientTable))) s));
+            ∙ ap (total f) (sym (ticked-waiting (w ∷ ws) s));
         served =
             λ f. served-total (known f) now
-            ∙ sums-passing (isNamed es) (asked es) (w ∷ ws) 0 (T .numbered) old (omega arith) (isServedNumber es) (isServedNumber now)
-            (or-none (isVictimNumber es (w .number)) (isServedNumber es (w .number)) (fresh (isNamed es) (asked es) (w ∷ ws) 0 (T .numbered) old (omega arith)) .1) (λ n. refl) (known f)
+            ∙ sums-passing (isNamed es) (asked es) (w ∷ ws) 0 (T .numbered) old (omega arith) (isServedNumber es)
+            (isServedNumber now) not-served (λ n. refl) (known f)
             ∙ ap (λ (n : ℕ). f (w .number) (w .client) + n) (sym (served-total (known f) es) ∙ T .served f);
       }
     where
@@ -493,13 +496,17 @@ module _ (s : State) (es : List Event) (T : Traced es s) where
       named-now : (n : ℕ) → isNamed now n ≡ eqb (w .number) n || isNamed es n
       named-now n = or-swap (eqb (w .number) n) (isVictimNumber es n) (isServedNumber es n)
 
+      not-served : isServedNumber es (w .number) ≡ false
+      not-served =
+          or-none (isVictimNumber es (w .number)) (isServedNumber es (w .number))
+          (fresh (isNamed es) (asked es) (w ∷ ws) 0 (T .numbered) old (omega arith)) .1
+
       first-given : w .number ≤ length (asked es)
       first-given =
           let g : All (Given (s .head .last)) (w ∷ ws) = subst (All (Given (s .head .last))) e (T .ready .sound .given) in
           omega (arith, g .0, T .last)
 
-pub traced-tick : (s : State) (es : List Event) → TickReady s → Traced es s
-    → Traced (event tick (ticked (waiting s) s .answer) ∷ es) (ticked (waiting s) s .after)
+pub traced-tick : (s : State) (es : List Event) → TickReady s → Traced es s → Then Traced tick (ticked (waiting s) s) es
 traced-tick s es r T = traced-ticked s es T (waiting s) refl (tick-keeps s r)
 
 -- ---- events that leave the state: refused calls, reports and charts
@@ -510,8 +517,10 @@ pub record Passing (e : Event) : Type 0 where
   pub none-dropped : victimBy (e .answer) ≡ []
 
 pub refused-passing : (c : Call) (n : ℕ) → Passing (event c (Refused n))
-refused-passing (opening clients period) n = record { no-tick = refl; none-asked = λ t. refl; none-served = refl; none-dropped = refl }
-refused-passing (submit client deadline) n = record { no-tick = refl; none-asked = λ t. refl; none-served = refl; none-dropped = refl }
+refused-passing (opening clients period) n =
+    record { no-tick = refl; none-asked = λ t. refl; none-served = refl; none-dropped = refl }
+refused-passing (submit client deadline) n =
+    record { no-tick = refl; none-asked = λ t. refl; none-served = refl; none-dropped = refl }
 refused-passing tick n = record { no-tick = refl; none-asked = λ t. refl; none-served = refl; none-dropped = refl }
 refused-passing (report client) n = record { no-tick = refl; none-asked = λ t. refl; none-served = refl; none-dropped = refl }
 refused-passing (chart output) n = record { no-tick = refl; none-asked = λ t. refl; none-served = refl; none-dropped = refl }
@@ -539,7 +548,8 @@ module _ (e : Event) (es : List Event) (p : Passing e) where
 
   pub same-served : servedRequests (e ∷ es) ≡ servedRequests es
   unfolding servedRequests
-  same-served = λ i. select (λ (a : Asked). exists (λ (b : Booking). eqb (b .number) (a .request .number)) (same-bookings i)) (same-asked i)
+  same-served =
+      λ i. select (λ (a : Asked). exists (λ (b : Booking). eqb (b .number) (a .request .number)) (same-bookings i)) (same-asked i)
 
   pub traced-same : (s : State) → Traced es s → Traced (e ∷ es) s
   traced-same s T =
@@ -556,7 +566,8 @@ module _ (e : Event) (es : List Event) (p : Passing e) where
 
 -- ---- a call that is no accepted open
 pub data Step (s : State) : Event → State → Type 0 where
-  submits : (client deadline : ℕ) → SubmitReady client deadline s
+  submits :
+      (client deadline : ℕ) → SubmitReady client deadline s
       → Step s (event (submit client deadline) (submitted client deadline s .answer)) (submitted client deadline s .after)
   serves : TickReady s → Step s (event tick (ticked (waiting s) s .answer)) (ticked (waiting s) s .after)
   passes : (e : Event) → Passing e → Step s e s
@@ -592,7 +603,8 @@ traced-step s e t es (passes x p) T = traced-same x es p s T
 
 -- ---- the whole list: what every step keeps holds after it
 module _ (P : List Event → State → Type 0)
-    (keep : (s : State) (e : Event) (t : State) (es : List Event) → Step s e t → Traced es s → P es s → P (e ∷ es) t) (s : State) where
+    (keep : (s : State) (e : Event) (t : State) (es : List Event) → Step s e t → Traced es s → P es s → P (e ∷ es) t)
+    (s : State) where
   pub along : (cs : List Call) → exists isOpened (history s cs) ≡ false → Traced [] s → P [] s
       → Traced (history s cs) (run s cs) × P (history s cs) (run s cs)
   unfolding history run exists

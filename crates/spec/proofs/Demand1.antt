@@ -1,0 +1,146 @@
+-- Demand 1, of the definitions: "After every call and for all input, damaged tables included, the lent tables hold exactly what
+-- document 01 says. A refused call gives its number and changes nothing." The calls' definitions say what the tables hold; here is
+-- what follows from them. Statements, each under its sentence; the proofs stand in Calls/ and Lists/. Assumes nothing.
+use Prim.Native.Nat.{ℕ, _≤_, _<_}
+use mathlib.Core.Path.{_≡_, refl, sym, ap, _∙_}
+use mathlib.Core.Logic.{_↔_}
+use mathlib.Core.Bool.{true, false, true≢false}
+use mathlib.Core.List.{List, [], _∷_}
+use native.Mathlib.Omega.{arith}
+use lib.ListN.{length, getD, take, drop, length-append, length-drop}
+use lib.Seq.{take-append-seam, drop-append-seam}
+use Rattle.slots.proofs.Laws.Sums.{All}
+use Rattle.spec.specs.declared.types.Answer.the-variants.{Refused}
+use Rattle.spec.specs.Every.{exists}
+use Rattle.spec.specs.Tables.{zeroCounts, State, waiting}
+use Rattle.spec.specs.Chart.{startsOf, segmentsOf, Segment}
+use Rattle.spec.specs.Sound.{isSound}
+use Rattle.spec.specs.Refusals.{firstMatch, refusal4, chartRefusals}
+use Rattle.spec.specs.Calls.{Outcome, openOf, reportOf, reportAnswer, charted, chartOf, chartOutput}
+use Rattle.spec.specs.Lists.{Call, chart, outcomeOf, run, Event, history, isRefused, isOpened, waitingBy, countsSince}
+use Rattle.spec.proofs.Laws.Sound.{sound-test}
+use Rattle.spec.proofs.Laws.Accepted.{Decided, accepts, refuses, decided, chart-ready, waiting-length}
+use Rattle.spec.proofs.Calls.Refused.{FirstHolds, refusalsOf, acceptedOf, outcome-decided, accepted-answer, accepted-none, first-holds, first-match, first-number, numbered, length-starts, Written, untouched, written, output-written}
+use Rattle.spec.proofs.Calls.Keeps.{keeps, shaped-test}
+use Rattle.spec.proofs.Calls.Victim.{Ascending}
+use Rattle.spec.proofs.Calls.Latest.{Pairs, Finish, ChartFits, ready-chart, starts-latest, starts-drop, slotsOfAll, Apart, segments-slots, segments-apart}
+use Rattle.spec.proofs.Lists.Trace.{traced}
+use Rattle.spec.proofs.Lists.Counts.{counted, reported-counts}
+
+-- ---- refused calls
+-- "Each is given whenever its condition holds and no earlier one does, and only then."
+pub refused-exactly : (c : Call) (s : State) (n : ℕ) → (outcomeOf c s .answer ≡ Refused n) ↔ FirstHolds (refusalsOf c s) n
+refused-exactly c s n = (to (outcome-decided c s), (λ f. from f (outcome-decided c s)))
+  where
+    to : {o : Outcome} → Decided (refusalsOf c s) s (acceptedOf c s) o → o .answer ≡ Refused n → FirstHolds (refusalsOf c s) n
+    to (accepts e) p = absurd (true≢false (sym (ap isRefused p) ∙ accepted-answer c s))
+    to (refuses e) p =
+        let q : firstMatch (refusalsOf c s) ≡ n = cc in
+        rw q at (first-holds (refusalsOf c s) e)
+
+    from : {o : Outcome} → FirstHolds (refusalsOf c s) n → Decided (refusalsOf c s) s (acceptedOf c s) o → o .answer ≡ Refused n
+    from f (accepts e) = absurd (first-number f (numbered c s) (sym (first-match f) ∙ e))
+    from f (refuses e) = ap Refused (first-match f)
+
+-- "head, tables and output stay unchanged.": head and tables
+pub refused-same : (c : Call) (s : State) → isRefused (outcomeOf c s .answer) ≡ true → outcomeOf c s .after ≡ s
+refused-same c s = go (outcome-decided c s)
+  where
+    go : {o : Outcome} → Decided (refusalsOf c s) s (acceptedOf c s) o → isRefused (o .answer) ≡ true → o .after ≡ s
+    go (accepts e) p = absurd (true≢false (sym p ∙ accepted-answer c s))
+    go (refuses e) p = refl
+
+-- "head, tables and output stay unchanged.": the output
+pub chart-refused-same : (output : List ℕ) (s : State) → isRefused (chartOf output s .answer) ≡ true
+    → chartOutput output s ≡ output
+unfolding chartOf
+chart-refused-same output s = go (decided (chartRefusals output s) s (charted s)) (output-written output s)
+  where
+    go : {o : Outcome} {l : List ℕ} → Decided (chartRefusals output s) s (charted s) o → Written output s l
+        → isRefused (o .answer) ≡ true → l ≡ output
+    go (accepts e) w p = absurd (true≢false (sym p ∙ accepted-answer (chart output) s))
+    go (refuses e) (untouched f) p = refl
+    go (refuses e) (written f) p = absurd (e f)
+
+-- ---- accepted calls
+-- "Every accepted call leaves sound tables." They keep their right lengths too: refusals 4 and 5 do not hold of them
+pub leaves-sound : (c : Call) (s : State) → isRefused (outcomeOf c s .answer) ≡ false
+    → (isSound (outcomeOf c s .after) ≡ true) × (refusal4 (outcomeOf c s .after) .holds ≡ false)
+leaves-sound c s h =
+    let r = keeps c s h in
+    (sound-test (outcomeOf c s .after) (r .sound), shaped-test (outcomeOf c s .after) (r .shape))
+
+-- ---- counts
+-- To be shut out: "counts in a report that the calls since open do not give". What holds after a list of calls
+pub record CountsGiven (period : ℕ) (es : List Event) (s : State) : Type 0 where
+  -- each client's counts are what the calls and answers since the last period start say
+  pub counts : (c : ℕ) → c < s .head .clients → getD (s .clientTable) c zeroCounts ≡ countsSince period c es
+  -- "Report gives a client's three counts and its waiting count."
+  pub reports : (c : ℕ) → isRefused (reportOf c s .answer) ≡ false
+      → reportOf c s .answer ≡ reportAnswer c (countsSince period c es) (waitingBy c es)
+
+-- the list is one of demand 3: from an accepted open on, with no other accepted open in it
+pub counts-given : (clients period : ℕ) (s : State) (cs : List Call) → isRefused (openOf clients period s .answer) ≡ false
+    → exists isOpened (history (openOf clients period s .after) cs) ≡ false
+    → CountsGiven period (history (openOf clients period s .after) cs) (run (openOf clients period s .after) cs)
+counts-given clients period s cs a h =
+    let C = counted clients period s cs a h in
+    let T = traced clients period s cs a h in
+    let es = history (openOf clients period s .after) cs in
+    let t = run (openOf clients period s .after) cs in
+    record {
+      counts = λ c l. C .counts-are c (omega (arith, T .ready .shape .clients));
+      reports = λ c e. reported-counts period c es t T C e;
+    }
+
+-- ---- the chart
+-- "Chart writes one start slot a waiting record, in chart order, into a lent output table .. entries beyond are untouched."
+pub record Charts (output : List ℕ) (s : State) (l : List ℕ) : Type 0 where
+  pub same-length : length l ≡ length output
+  pub starts : take (length (startsOf (waiting s))) l ≡ startsOf (waiting s)
+  pub beyond : drop (length (startsOf (waiting s))) l ≡ drop (length (startsOf (waiting s))) output
+
+pub chart-beyond : (output : List ℕ) (s : State) → isRefused (chartOf output s .answer) ≡ false
+    → Charts output s (chartOutput output s)
+unfolding chartOf
+chart-beyond output s = go (decided (chartRefusals output s) s (charted s)) (output-written output s)
+  where
+    go : {o : Outcome} {l : List ℕ} → Decided (chartRefusals output s) s (charted s) o → Written output s l
+        → isRefused (o .answer) ≡ false → Charts output s l
+    go (accepts e) (untouched f) p = absurd (f e)
+    go (accepts e) (written f) p =
+        let r = chart-ready output s e in
+        let waits = waiting-length s (r .ready .shape) in
+        let starts = startsOf (waiting s) in
+        let rest = drop (length starts) output in
+        let parts = length-append starts rest in
+        record {
+          same-length =
+              omega (arith, parts, length-drop (length starts) output, length-starts (waiting s), waits, r .long);
+          starts = take-append-seam starts rest;
+          beyond = drop-append-seam starts rest;
+        }
+    go (refuses e) w p = absurd (true≢false p)
+
+-- "From the last record to the first, a request ends at the smaller of its deadline and the start of the record behind it, and starts
+-- one slot earlier."
+pub record Latest (s : State) : Type 0 where
+  -- the start slots ascend from the clock on, each ended by its request's deadline
+  pub fits : ChartFits (s .head .clock) (waiting s) (startsOf (waiting s))
+  -- each is the latest at which the request at k and all later ones finish in chart order
+  pub latest : (k : ℕ) (slots : List ℕ) → Ascending slots → Finish (drop k (waiting s)) slots
+      → Pairs (λ slot start. slot ≤ start) slots (drop k (startsOf (waiting s)))
+  -- "Segments are the longest runs of touching intervals": from the left their slots are the start slots, and no two touch
+  pub slots : slotsOfAll (segmentsOf (startsOf (waiting s))) ≡ startsOf (waiting s)
+  pub apart : Apart (segmentsOf (startsOf (waiting s)))
+
+pub chart-latest : (output : List ℕ) (s : State) → isRefused (chartOf output s .answer) ≡ false → Latest s
+unfolding outcomeOf
+chart-latest output s e =
+    let c = ready-chart s (chart-ready output s (accepted-none (chart output) s e) .ready) in
+    record {
+      fits = c;
+      latest = λ k slots a f. rw (starts-drop k (waiting s)) at (starts-latest (drop k (waiting s)) slots a f);
+      slots = segments-slots (startsOf (waiting s));
+      apart = segments-apart (startsOf (waiting s)) (c .ascending);
+    }

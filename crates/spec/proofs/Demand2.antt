@@ -1,0 +1,147 @@
+-- Demand 2, of the definitions: "Serving and dropping follow Fair-EDF in whole slots: earliest deadline first; exactly one dropped
+-- exactly when not all can finish; the victim's client has the smallest miss ratio of all whose removal helps." Said by plans
+-- (`CanAllFinish` of crate slots), not by overfull deadlines. Statements, each under its sentence; the proofs stand in Calls/.
+-- Assumes nothing.
+use Prim.Native.Nat.{ℕ, suc, _≤_, _<_}
+use mathlib.Core.Path.{_≡_, refl, ap, _∙_}
+use mathlib.Core.Logic.{_↔_}
+use mathlib.Core.Bool.{true, false}
+use mathlib.Core.List.{List, [], _∷_, map}
+use native.Mathlib.Omega.{arith}
+use lib.ListN.{length, drop}
+use Rattle.slots.specs.Plan.{EndedBy, CanAllFinish}
+use Rattle.slots.proofs.Laws.Sums.{All}
+use Rattle.spec.specs.declared.types.Request.{Request}
+use Rattle.spec.specs.declared.types.Counts.{Counts}
+use Rattle.spec.specs.declared.types.Answer.the-variants.{Served, Idle}
+use Rattle.spec.specs.Tables.{zeroRequest, State, waiting}
+use Rattle.spec.specs.Order.{removeAt}
+use Rattle.spec.specs.Chart.{isOverfull, Search, nothing, found, firstOverfull, startsOf}
+use Rattle.spec.specs.Victim.{hasSmallerRatio, countsAt}
+use Rattle.spec.specs.Calls.{Outcome, countedIn, withNew, requestAt, kept, droppedAt, victimPlace, submitted, submitOf, change, oneMoreServed, countsAfter, ticked, tickOf}
+use Rattle.spec.specs.Lists.{submit, tick, outcomeOf, isRefused}
+use Rattle.spec.proofs.Laws.Order.{InOrder, first-earliest}
+use Rattle.spec.proofs.Laws.Feasible.{Feasible, overfull-test, roomy-test, Verdict, fine, over, verdict}
+use Rattle.spec.proofs.Laws.Accepted.{SubmitReady, submit-ready, TickReady, tick-ready, next-waiting}
+use Rattle.spec.proofs.Calls.Refused.{accepted-none, accepted-same}
+use Rattle.spec.proofs.Calls.Victim.{victim-place, victim-least, victim-last, counted-some}
+use Rattle.spec.proofs.Calls.Fair.{deadlinesOf, finish-feasible, feasible-finish, finish-candidate, new-ordered, finish-kept, unfinished-dropped, victim-helps, helps-exactly}
+
+-- ---- submit. Among the waiting requests and the new one, in chart order, a request is named by its place j
+-- "every request can still finish"
+abbrev pub AllFinish : ℕ → ℕ → State → Type 0
+AllFinish client deadline s = CanAllFinish (s .head .clock) (deadlinesOf (withNew client deadline s))
+
+-- all but the one at j can finish: its removal helps
+abbrev pub OthersFinish : ℕ → ℕ → ℕ → State → Type 0
+OthersFinish j client deadline s = CanAllFinish (s .head .clock) (deadlinesOf (removeAt j (withNew client deadline s)))
+
+-- the counts of its client, "the new request already counted in submitted"
+abbrev pub countsOf : ℕ → ℕ → ℕ → State → Counts
+countsOf j client deadline s = countsAt (countedIn client s) (withNew client deadline s) j
+
+pub record FairSubmit (client deadline : ℕ) (s : State) : Type 0 where
+  -- "If every request can still finish, the answer is kept, .."
+  pub keeps : AllFinish client deadline s → submitOf client deadline s ≡ kept client deadline s
+  -- "Otherwise one record is taken out, .."
+  pub drops : (AllFinish client deadline s → ⊥)
+      → submitOf client deadline s ≡ droppedAt (victimPlace client deadline s) client deadline s
+  -- it is one of the waiting requests or the new one
+  pub place : victimPlace client deadline s < length (withNew client deadline s)
+  -- and the others can finish
+  pub helps : OthersFinish (victimPlace client deadline s) client deadline s
+  -- "The miss ratio is dropped divided by submitted": the divisor is not 0
+  pub counted : (j : ℕ) → j < length (withNew client deadline s) → 1 ≤ countsOf j client deadline s .submitted
+  -- "The smallest wins;": no request whose removal helps has a smaller ratio
+  pub fair : (j : ℕ) → j < length (withNew client deadline s) → OthersFinish j client deadline s
+      → hasSmallerRatio (countsOf j client deadline s) (countsOf (victimPlace client deadline s) client deadline s) ≡ false
+  -- "among equals, the last in chart order.": one of those with the same ratio stands there or before
+  pub last : (j : ℕ) → j < length (withNew client deadline s) → OthersFinish j client deadline s
+      → hasSmallerRatio (countsOf (victimPlace client deadline s) client deadline s) (countsOf j client deadline s) ≡ false
+      → j ≤ victimPlace client deadline s
+
+accepted-submit : (client deadline : ℕ) (s : State) → isRefused (submitOf client deadline s .answer) ≡ false
+    → SubmitReady client deadline s × (submitOf client deadline s ≡ submitted client deadline s)
+unfolding outcomeOf
+accepted-submit client deadline s e = (
+  submit-ready client deadline s (accepted-none (submit client deadline) s e),
+  accepted-same (submit client deadline) s e,
+)
+
+pub fair-submit : (client deadline : ℕ) (s : State) → isRefused (submitOf client deadline s .answer) ≡ false
+    → FairSubmit client deadline s
+fair-submit client deadline s e =
+    let p = accepted-submit client deadline s e in
+    let r : SubmitReady client deadline s = p .0 in
+    let some = counted-some client deadline s r in
+    record {
+      keeps = λ f. p .1 ∙ finish-kept client deadline s r f;
+      drops = λ f. p .1 ∙ unfinished-dropped client deadline s r f;
+      place = victim-place client deadline s r .0;
+      helps = victim-helps client deadline s r;
+      counted = some;
+      fair =
+          λ j h f. victim-least (s .head .clock) (countedIn client s) (withNew client deadline s) j h
+          (finish-candidate (s .head .clock) (withNew client deadline s) j f) some;
+      last =
+          λ j h f. victim-last (s .head .clock) (countedIn client s) (withNew client deadline s) j h
+          (finish-candidate (s .head .clock) (withNew client deadline s) j f) some;
+    }
+
+-- "These are exactly those with deadlines up to the smallest overfull one; later ones in the same segment do not help."
+pub record Candidates (client deadline D : ℕ) (s : State) : Type 0 where
+  pub overfull : isOverfull (s .head .clock) (withNew client deadline s) D ≡ true
+  pub smallest : (x : ℕ) → x < D → isOverfull (s .head .clock) (withNew client deadline s) x ≡ false
+  pub exactly : (j : ℕ) → j < length (withNew client deadline s)
+      → OthersFinish j client deadline s ↔ (requestAt j client deadline s .deadline ≤ D)
+
+-- "The search for an overfull deadline ends at the first one found and yields it.": nothing, and all can finish; or D
+abbrev pub Searched : ℕ → ℕ → State → Search → Type 0
+Searched client deadline s nothing = AllFinish client deadline s
+Searched client deadline s (found D) = (AllFinish client deadline s → ⊥) × Candidates client deadline D s
+
+pub searched : (client deadline : ℕ) (s : State) → isRefused (submitOf client deadline s .answer) ≡ false
+    → Searched client deadline s (firstOverfull (s .head .clock) (withNew client deadline s))
+searched client deadline s e = go (verdict (s .head .clock) (withNew client deadline s) (new-ordered client deadline s r))
+  where
+    r : SubmitReady client deadline s
+    r = accepted-submit client deadline s e .0
+
+    go : {f : Search} → Verdict (s .head .clock) (withNew client deadline s) f → Searched client deadline s f
+    go (fine f) = feasible-finish (s .head .clock) (withNew client deadline s) (new-ordered client deadline s r) f
+    go (over D h g) = (
+      (λ f. absurd (omega (arith, finish-feasible (s .head .clock) (withNew client deadline s) f D))),
+      record {
+        overfull = overfull-test (s .head .clock) (withNew client deadline s) D h;
+        smallest = λ x l. roomy-test (s .head .clock) (withNew client deadline s) x (g x l);
+        exactly = helps-exactly client deadline s r D h g;
+      },
+    )
+
+-- ---- tick
+-- "Tick serves the first waiting record in the slot that starts at the clock, takes it out, ..; with none waiting it answers idle.":
+-- the one served has the earliest deadline of all that wait
+abbrev pub Serves : State → List Request → Type 0
+Serves s [] = tickOf s .answer ≡ Idle (s .head .clock)
+Serves s (w ∷ ws) =
+    (tickOf s .answer ≡ Served (s .head .clock) (w .number) (w .client))
+    × (waiting (tickOf s .after) ≡ ws)
+    × All (λ (v : Request). w .deadline ≤ v .deadline) ws
+
+pub earliest-served : (s : State) → isRefused (tickOf s .answer) ≡ false → Serves s (waiting s)
+unfolding outcomeOf
+earliest-served s e = go (waiting s) (accepted-same tick s e) (tick-ready s (accepted-none tick s e) .ready .sound .ordered)
+  where
+    go : (ws : List Request) → tickOf s ≡ ticked ws s → InOrder ws → Serves s ws
+    go [] same o = ap (λ (r : Outcome). r .answer) same ∙ unfold ticked in refl
+    go (w ∷ ws) same o = (
+      ap (λ (r : Outcome). r .answer) same ∙ unfold ticked in refl,
+      ap (λ (r : Outcome). waiting (r .after)) same ∙ leaves,
+      first-earliest w ws (o .0),
+    )
+      where
+        leaves : waiting (ticked (w ∷ ws) s .after) ≡ ws
+        leaves =
+            unfold ticked in
+            next-waiting (suc (s .head .clock)) (s .head .last) ws
+            (countsAfter (s .head .period) (suc (s .head .clock)) ws (change oneMoreServed (w .client) (s .clientTable))) s

@@ -1,0 +1,59 @@
+-- Demand 3, of the definitions: "For every list of calls from open on, served plus waiting is as many as the largest plan has, even
+-- one made by somebody who knew the whole list beforehand." Statements, each under its sentence of "Lists and plans"; the proofs stand
+-- in Lists/, and why they hold in crate slots. Assumes nothing.
+use Prim.Native.Nat.{ℕ, _+_, _≤_}
+use mathlib.Core.Path.{_≡_, sym, ap, _∙_, subst}
+use mathlib.Core.Bool.{true, false}
+use mathlib.Core.List.{List, []}
+use native.Mathlib.Omega.{arith}
+use lib.ListN.{length}
+use Rattle.slots.specs.Plan.{Slot, at, Plan, size}
+use Rattle.slots.proofs.Laws.Sums.{All}
+use Rattle.slots.proofs.Plain.{largest, reached}
+use Rattle.spec.specs.Every.{exists}
+use Rattle.spec.specs.Tables.{State}
+use Rattle.spec.specs.Calls.{Outcome, openOf}
+use Rattle.spec.specs.Lists.{Call, run, Event, history, isRefused, isOpened, ticks, Booking, bookings, servedRequests, waitingRequests, windows, slotFor, ownBookings, ownPlan}
+use Rattle.spec.proofs.Laws.Accepted.{waiting-length}
+use Rattle.spec.proofs.Lists.Trace.{Traced, traced-open, waiting-as-many, served-as-many, along, accepted-open}
+use Rattle.spec.proofs.Lists.Largest.{Follows, queueOf, follows-open, follows-step, own-plan, as-many-both, slots-booked}
+
+-- what holds after a list of calls, of its calls and answers and the state that it leaves
+pub record Largest (es : List Event) (s : State) : Type 0 where
+  -- "The clock at a submission is the number of ticks before it in the list that were not refused": the head's clock is theirs
+  pub clock : s .head .clock ≡ ticks es
+  -- "The waiting count in the head after the list is their number."
+  pub counted : s .head .waiting ≡ length (waitingRequests es)
+  -- "Served since open are the requests that the answers to the list's ticks name as served.": each answer names another
+  pub served-once : length (servedRequests es) ≡ length (bookings es)
+  -- a plan with that many requests: the served ones in their slots and the waiting ones at the start slots that chart writes
+  pub reached : Plan (windows es) (ownPlan es s)
+  pub as-many : size (ownPlan es s) ≡ length (servedRequests es) + length (waitingRequests es)
+  -- and for each of these the plan has the slot of its booking
+  pub in-place : All (λ (b : Booking). slotFor (ownBookings es s) (b .number) ≡ at (b .slot)) (ownBookings es s)
+  -- ".. and is not bound by what the queue served or dropped.": no plan of the list's requests has more
+  pub largest : (P : List Slot) → Plan (windows es) P → size P ≤ length (servedRequests es) + length (waitingRequests es)
+
+largest-of : (es : List Event) (s : State) → Traced es s → Follows es s → Largest es s
+largest-of es s T B =
+    record {
+      clock = T .clock;
+      counted = omega (arith, waiting-length s (T .ready .shape), waiting-as-many es s T);
+      served-once = served-as-many es s T;
+      reached = subst (Plan (windows es)) (own-plan es s (T .numbered)) (reached (queueOf es s) B .0);
+      as-many = ap size (sym (own-plan es s (T .numbered))) ∙ reached (queueOf es s) B .1 ∙ as-many-both es s T B;
+      in-place = slots-booked es s T B;
+      largest = λ P p. omega (arith, largest (queueOf es s) B P p, as-many-both es s T B);
+    }
+
+-- "The list starts from the head and tables that an accepted open left, whatever its arguments and whatever lengths of table it took."
+-- Arguments in the list are free, refused calls of every kind are in it, and it may be empty. "A later accepted open begins another
+-- list", so no open in it is accepted
+pub largest-plan : (clients period : ℕ) (s : State) (cs : List Call) → isRefused (openOf clients period s .answer) ≡ false
+    → exists isOpened (history (openOf clients period s .after) cs) ≡ false
+    → Largest (history (openOf clients period s .after) cs) (run (openOf clients period s .after) cs)
+largest-plan clients period s cs a h =
+    let b = along Follows follows-step (openOf clients period s .after) cs h
+    (accepted-open (λ (o : Outcome). Traced [] (o .after)) clients period s a (traced-open clients period s))
+    (accepted-open (λ (o : Outcome). Follows [] (o .after)) clients period s a (λ r. follows-open clients period s)) in
+    largest-of (history (openOf clients period s .after) cs) (run (openOf clients period s .after) cs) (b .0) (b .1)
