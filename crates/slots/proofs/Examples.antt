@@ -1,10 +1,10 @@
 -- Small queues, computed: the definitions say what is meant with one head, with two, and where a slot is closed. Assumes nothing.
 use Prim.Native.Nat.{ℕ, zero, suc}
 use mathlib.Core.Path.{_≡_, refl}
-use mathlib.Core.List.{List, [], _∷_}
+use mathlib.Core.List.{[], _∷_}
 use Rattle.slots.specs.Room.{capacity}
 use Rattle.slots.specs.Plan.{none, at}
-use Rattle.slots.proofs.Queue.{opens, Entry, Queue, empty, arrival, asking, ticked}
+use Rattle.slots.proofs.Queue.{opens, Queue, empty, arrival, asking, ticked}
 use Rattle.slots.proofs.Reached.Chart.{plan}
 use Rattle.slots.proofs.Plain.{own}
 

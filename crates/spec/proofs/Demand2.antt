@@ -6,23 +6,23 @@ use Prim.Native.Nat.{ℕ, suc, _≤_, _<_}
 use mathlib.Core.Path.{_≡_, refl, ap, _∙_}
 use mathlib.Core.Logic.{_↔_}
 use mathlib.Core.Bool.{true, false}
-use mathlib.Core.List.{List, [], _∷_, map}
+use mathlib.Core.List.{List, [], _∷_}
 use native.Mathlib.Omega.{arith}
-use lib.ListN.{length, drop}
-use Rattle.slots.specs.Plan.{EndedBy, CanAllFinish}
+use lib.ListN.{length}
+use Rattle.slots.specs.Plan.{CanAllFinish}
 use Rattle.slots.proofs.Laws.Sums.{All}
 use Rattle.spec.specs.declared.types.Request.{Request}
 use Rattle.spec.specs.declared.types.Counts.{Counts}
 use Rattle.spec.specs.declared.types.Answer.the-variants.{Served, Idle}
-use Rattle.spec.specs.Tables.{zeroRequest, State, waiting}
+use Rattle.spec.specs.Tables.{State, waiting}
 use Rattle.spec.specs.Order.{removeAt}
-use Rattle.spec.specs.Chart.{isOverfull, Search, nothing, found, firstOverfull, startsOf}
+use Rattle.spec.specs.Chart.{isOverfull, Search, nothing, found, firstOverfull}
 use Rattle.spec.specs.Victim.{hasSmallerRatio, countsAt}
 use Rattle.spec.specs.Calls.{Outcome, countedIn, withNew, requestAt, kept, droppedAt, victimPlace, submitted, submitOf, change, oneMoreServed, countsAfter, ticked, tickOf}
 use Rattle.spec.specs.Lists.{submit, tick, outcomeOf, isRefused}
 use Rattle.spec.proofs.Laws.Order.{InOrder, first-earliest}
-use Rattle.spec.proofs.Laws.Feasible.{Feasible, overfull-test, roomy-test, Verdict, fine, over, verdict}
-use Rattle.spec.proofs.Laws.Accepted.{SubmitReady, submit-ready, TickReady, tick-ready, next-waiting}
+use Rattle.spec.proofs.Laws.Feasible.{overfull-test, roomy-test, Verdict, fine, over, verdict}
+use Rattle.spec.proofs.Laws.Accepted.{SubmitReady, submit-ready, tick-ready, next-waiting}
 use Rattle.spec.proofs.Calls.Refused.{accepted-none, accepted-same}
 use Rattle.spec.proofs.Calls.Victim.{victim-place, victim-least, victim-last, counted-some}
 use Rattle.spec.proofs.Calls.Fair.{deadlinesOf, finish-feasible, feasible-finish, finish-candidate, new-ordered, finish-kept, unfinished-dropped, victim-helps, helps-exactly}

@@ -1,6 +1,6 @@
 -- The session, a function from the input's bytes to the output's: document 01, "Session lines". Assumes nothing.
 use Prim.Native.Nat.{ℕ}
-use mathlib.Core.Bool.{Bool, true, false, cond}
+use mathlib.Core.Bool.{cond}
 use mathlib.Core.List.{List, [], _∷_, _++_}
 use lib.Dec.{eqb}
 use lib.ListN.{length, take, replicate}
@@ -9,7 +9,7 @@ use Rattle.spec.specs.declared.types.Answer.the-variants.{Opened, Kept, 
 use Rattle.spec.specs.declared.types.Frame.{Frame}
 use Rattle.spec.specs.declared.types.Frame.the-variants.{Open, Submit, Tick, Report, Chart, Bad}
 use Rattle.spec.specs.Tables.{mostRecords, zeroRequest, zeroCounts, State}
-use Rattle.spec.specs.Chart.{Segment, segmentsOf}
+use Rattle.spec.specs.Chart.{segmentsOf}
 use Rattle.spec.specs.Calls.{Outcome, openOf, submitOf, tickOf, reportOf, chartOf, chartOutput}
 use Rattle.spec.specs.Lists.{isRefused}
 use Rattle.spec.specs.Frames.{lineFeed, frameOf, answerLine, segmentLines}

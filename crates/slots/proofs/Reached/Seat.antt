@@ -7,7 +7,7 @@ use mathlib.Core.List.{List, [], _∷_, map}
 use native.Mathlib.Omega.{arith}
 use lib.Dec.{leb, eqb}
 use lib.ListN.{length}
-use Rattle.slots.specs.Plan.{since, Window, Slot, at, Fits}
+use Rattle.slots.specs.Plan.{since, Slot, at, Fits}
 use Rattle.slots.proofs.Laws.Tests.{Test, holds, fails, test, Same, same-yes, same-no, same, le, gt, order}
 use Rattle.slots.proofs.Laws.Sums.{one, one-yes, one-no, All, total}
 use Rattle.slots.proofs.Queue.{opens, Entry, Booking}

@@ -1,17 +1,17 @@
 -- An accepted submit and an accepted tick, said by plans and not by overfull deadlines: what demand 2 rests on. Document 01, "Calls"
 -- and "Chart and victim". Assumes nothing.
-use Prim.Native.Nat.{ℕ, suc, _+_, _≤_, _<_}
-use mathlib.Core.Path.{_≡_, refl, sym, ap, _∙_, subst}
+use Prim.Native.Nat.{ℕ, suc, _≤_, _<_}
+use mathlib.Core.Path.{_≡_, sym, ap, _∙_, subst}
 use mathlib.Core.Logic.{_↔_}
-use mathlib.Core.Bool.{true, false}
-use mathlib.Core.List.{List, [], _∷_, map, map-map}
+use mathlib.Core.Bool.{true}
+use mathlib.Core.List.{List, map, map-map}
 use native.Mathlib.Omega.{arith}
 use lib.ListN.{length, getD, length-map}
 use Rattle.slots.specs.Room.{room}
 use Rattle.slots.specs.Plan.{since, Plan, size, CanAllFinish}
 use Rattle.slots.proofs.Laws.Tests.{le, gt, order}
-use Rattle.slots.proofs.Laws.Sums.{All, all-imp, total, total-map}
-use Rattle.slots.proofs.Laws.Sorted.{dueBy as dueOf, upto, upto-deadlines}
+use Rattle.slots.proofs.Laws.Sums.{all-imp, total}
+use Rattle.slots.proofs.Laws.Sorted.{dueBy as dueOf, upto-deadlines}
 use Rattle.slots.proofs.Queue.{Entry}
 use Rattle.slots.proofs.Reached.Seat.{slotted}
 use Rattle.slots.proofs.Plain.{slots, placing-room, room-placing}
@@ -23,7 +23,7 @@ use Rattle.spec.specs.Victim.{isCandidate}
 use Rattle.spec.specs.Calls.{newRequest, withNew, kept, droppedAt, victimPlace, submitted}
 use Rattle.spec.proofs.Laws.Every.{is-true, is-false, value, cond-true, cond-false}
 use Rattle.spec.proofs.Laws.Order.{InOrder, order-remove, order-put}
-use Rattle.spec.proofs.Laws.Feasible.{due, due-yes, due-no, due-most, dueBy-put, dueBy-remove, Feasible, feasible-facts, feasible-test}
+use Rattle.spec.proofs.Laws.Feasible.{due-yes, due-no, due-most, dueBy-put, dueBy-remove, Feasible, feasible-facts, feasible-test}
 use Rattle.spec.proofs.Laws.Entries.{entryOf, upto-entries, sorted-entries}
 use Rattle.spec.proofs.Laws.Sound.{Given}
 use Rattle.spec.proofs.Laws.Accepted.{SubmitReady}

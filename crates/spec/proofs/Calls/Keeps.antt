@@ -1,34 +1,30 @@
 -- Accepted calls leave sound tables: document 01, "Tables and bounds". Assumes nothing.
 use Prim.Native.Nat.{ℕ, suc, _+_, _≤_, _<_}
-use mathlib.Core.Path.{_≡_, refl, sym, _∙_}
+use mathlib.Core.Path.{_≡_, refl, _∙_}
 use mathlib.Core.Logic.{_≢_}
 use mathlib.Core.Bool.{Bool, true, false, cond}
 use mathlib.Core.List.{List, [], _∷_}
 use native.Mathlib.Omega.{arith}
 use borrow.Author.Tests.{le-ltb, eq-eqb}
-use lib.Dec.{eqb}
-use lib.ListN.{length, getD, set, replicate, length-set, length-replicate, getD-replicate}
-use lib.Seq.{getD-set-same, getD-set-other}
+use lib.ListN.{length, getD, replicate, length-replicate, getD-replicate}
 use Rattle.slots.proofs.Room.{room-back, room-step, room-split}
-use Rattle.slots.proofs.Laws.Tests.{Same, same-yes, same-no, same, le, gt, order}
-use Rattle.slots.proofs.Laws.Sums.{All, all-imp, total, total-nil}
+use Rattle.slots.proofs.Laws.Tests.{le, gt, order}
+use Rattle.slots.proofs.Laws.Sums.{All, all-imp}
 use Rattle.spec.specs.declared.types.Request.{Request}
 use Rattle.spec.specs.declared.types.Counts.{Counts}
-use Rattle.spec.specs.Every.{toNumber, mapFrom}
+use Rattle.spec.specs.Every.{mapFrom}
 use Rattle.spec.specs.Tables.{mostRecords, mostCounted, clockEnd, numberEnd, zeroRequest, zeroCounts, State, waiting, nextState}
-use Rattle.spec.specs.Order.{putInOrder, removeAt}
+use Rattle.spec.specs.Order.{removeAt}
 use Rattle.spec.specs.Chart.{dueBy, hasNoOverfull}
 use Rattle.spec.specs.Victim.{isCandidate}
-use Rattle.spec.specs.Sound.{waitingOf, isSound}
 use Rattle.spec.specs.Refusals.{firstMatch, refusal4}
 use Rattle.spec.specs.Calls.{change, oneMoreSubmitted, oneMoreServed, oneMoreDropped, opened, newRequest, countedIn, withNew, kept, requestAt, droppedAt, victimPlace, submitted, isPeriodStart, restarted, countsAfter, oneLater, ticked, reported, charted}
 use Rattle.spec.specs.Lists.{Call, opening, submit, tick, report, chart, outcomeOf, isRefused}
-use Rattle.spec.proofs.Laws.Clients.{of, of-yes, of-no, waitingOf-total, waitingOf-none, waitingOf-put, waitingOf-remove, waiting-self, Changed, changes, stays, changed, length-change, getD-change, counts-path}
-use Rattle.spec.proofs.Laws.Every.{all-at, all-two}
-use Rattle.spec.proofs.Laws.Every.{Value, is-true, is-false, value, count-total, length-mapFrom, getD-mapFrom, total-remove, all-remove, length-remove}
-use Rattle.spec.proofs.Laws.Order.{InOrder, Before, before-deadline, order-put, order-remove, total-put, all-put, length-put}
+use Rattle.spec.proofs.Laws.Clients.{of-yes, of-no, waitingOf-none, waitingOf-put, waitingOf-remove, Changed, changes, stays, changed, length-change}
+use Rattle.spec.proofs.Laws.Every.{all-two, Value, is-true, is-false, value, length-mapFrom, getD-mapFrom, all-remove, length-remove}
+use Rattle.spec.proofs.Laws.Order.{InOrder, Before, before-deadline, order-put, order-remove, all-put, length-put}
 use Rattle.spec.proofs.Laws.Feasible.{Feasible, feasible-facts, due-yes, dueBy-cons, dueBy-none, dueBy-self}
-use Rattle.spec.proofs.Laws.Sound.{within-test, Shaped, Ahead, Given, Owned, Balanced, sound-test}
+use Rattle.spec.proofs.Laws.Sound.{within-test, Shaped, Ahead, Given, Owned, Balanced}
 use Rattle.spec.proofs.Laws.Accepted.{Ready, OpenReady, open-ready, SubmitReady, submit-ready, TickReady, tick-ready, report-ready, chart-ready, waiting-length, next-waiting, next-behind, next-length}
 use Rattle.spec.proofs.Calls.Victim.{victim-place}
 use Rattle.spec.proofs.Calls.Refused.{refusalsOf, acceptedOf, accepted-none, accepted-same}

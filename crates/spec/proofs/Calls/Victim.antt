@@ -11,17 +11,17 @@ use lib.Dec.{ltb, eqb}
 use lib.ListN.{length, getD}
 use lib.Seq.{getD-set-same, getD-set-other}
 use Rattle.slots.proofs.Laws.Tests.{Test, holds, fails, test, Same, same-yes, same-no, same}
-use Rattle.slots.proofs.Laws.Sums.{All, all-imp}
+use Rattle.slots.proofs.Laws.Sums.{All}
 use Rattle.spec.specs.declared.types.Request.{Request}
 use Rattle.spec.specs.declared.types.Counts.{Counts}
-use Rattle.spec.specs.Every.{toNumber, countIf}
+use Rattle.spec.specs.Every.{toNumber}
 use Rattle.spec.specs.Tables.{State, waiting, zeroRequest, zeroCounts}
 use Rattle.spec.specs.Order.{placeOf}
 use Rattle.spec.specs.Sound.{waitingOf}
 use Rattle.spec.specs.Victim.{isCandidate, keepIf, candidatesFrom, candidates, hasSmallerRatio, countsAt, smallestOf, victimOf}
 use Rattle.spec.specs.Calls.{change, oneMoreSubmitted, newRequest, countedIn, withNew, victimPlace}
-use Rattle.spec.proofs.Laws.Clients.{of, of-yes, of-no, waitingOf-total, waitingOf-none, waitingOf-put, waitingOf-remove, waiting-self, Changed, changes, stays, changed, length-change, getD-change, counts-path}
-use Rattle.spec.proofs.Laws.Every.{all-at, all-two}
+use Rattle.spec.proofs.Laws.Clients.{waiting-self}
+use Rattle.spec.proofs.Laws.Every.{all-at}
 use Rattle.spec.proofs.Laws.Order.{all-put, length-put, place-most, remove-put}
 use Rattle.spec.proofs.Laws.Feasible.{feasible-test}
 use Rattle.spec.proofs.Laws.Sound.{Owned}

@@ -1,18 +1,18 @@
 -- Overfull deadlines as counts: no deadline of the requests is overfull where no number at all is. Assumes nothing.
-use Prim.Native.Nat.{ℕ, zero, suc, _+_, _-_, _≤_, _<_, min}
-use mathlib.Core.Path.{_≡_, refl, sym, ap, _∙_}
-use mathlib.Core.Bool.{Bool, true, false, not, cond, true≢false, false≢true}
+use Prim.Native.Nat.{ℕ, _+_, _≤_, _<_}
+use mathlib.Core.Path.{_≡_, refl, ap}
+use mathlib.Core.Bool.{Bool, true, false, not, cond}
 use mathlib.Core.List.{List, [], _∷_}
 use native.Mathlib.Omega.{arith}
 use borrow.Author.Tests.{ltb-true, ltb-false, le-ltb, lt-ltb, not-true}
-use lib.Dec.{leb, ltb}
+use lib.Dec.{leb}
 use lib.ListN.{length, getD}
 use Rattle.slots.specs.Room.{room}
 use Rattle.slots.proofs.Room.{room-mono}
 use Rattle.slots.proofs.Laws.Tests.{Test, holds, fails, test, le, gt, order}
 use Rattle.slots.proofs.Laws.Sums.{All, all-each, all-imp, total, total-le}
 use Rattle.spec.specs.declared.types.Request.{Request}
-use Rattle.spec.specs.Every.{toNumber, every, countIf}
+use Rattle.spec.specs.Every.{toNumber, countIf}
 use Rattle.spec.specs.Order.{putInOrder, removeAt}
 use Rattle.spec.specs.Chart.{dueBy, isOverfull, hasNoOverfull, Search, nothing, found, searchOverfull, firstOverfull}
 use Rattle.spec.proofs.Laws.Every.{every-facts, every-test, count-total, to-number-most, total-remove}

@@ -2,31 +2,27 @@
 -- say. Assumes nothing.
 use Prim.Native.Nat.{ℕ, suc, _+_, _<_}
 use mathlib.Core.Path.{_≡_, refl, sym, ap, _∙_}
-use mathlib.Core.Bool.{Bool, true, false, cond, not, _&&_, true≢false}
+use mathlib.Core.Bool.{Bool, true, false, cond}
 use mathlib.Core.List.{List, [], _∷_, map}
 use native.Mathlib.Nat.{zero-add}
 use native.Mathlib.Omega.{arith}
 use lib.Dec.{eqb}
-use lib.ListN.{length, getD, set, length-set, replicate, getD-replicate, length-replicate}
-use lib.Seq.{getD-set-same, getD-set-other}
-use Rattle.slots.proofs.Laws.Tests.{Same, same-yes, same-no, same}
-use Rattle.slots.proofs.Laws.Sums.{total, total-map}
+use lib.ListN.{length, getD, getD-replicate, length-replicate}
+use Rattle.slots.proofs.Laws.Sums.{total-map}
 use Rattle.spec.specs.declared.types.Request.{Request}
 use Rattle.spec.specs.declared.types.Counts.{Counts}
 use Rattle.spec.specs.declared.types.Answer.{Answer}
-use Rattle.spec.specs.declared.types.Answer.the-variants.{Kept, Dropped, Served, Idle, Reported, Charted, Refused}
+use Rattle.spec.specs.declared.types.Answer.the-variants.{Served, Idle}
 use Rattle.spec.specs.Every.{toNumber, exists, countIf, mapFrom}
 use Rattle.spec.specs.Tables.{zeroCounts, State, waiting, nextState}
 use Rattle.spec.specs.Sound.{waitingOf}
-use Rattle.spec.specs.Calls.{Outcome, openOf, opened, change, oneMoreSubmitted, oneMoreServed, oneMoreDropped, isPeriodStart, restarted, countsAfter, oneLater, kept, droppedAt, submitted, submitOf, ticked, tickOf, reported, reportOf, reportAnswer, charted, chartOf, victimPlace, requestAt}
-use Rattle.spec.specs.Lists.{Call, opening, submit, tick, report, chart, outcomeOf, run, history, Event, isRefused, isOpened, isTick, ticks, Asked, Victim, waitingRequests, waitingBy, submitters, servedClients, victimClients, startsPeriod, sinceStart, countsSince}
-use Rattle.spec.specs.Refusals.{firstMatch, openRefusals, submitRefusals, tickRefusals, reportRefusals, chartRefusals}
-use Rattle.spec.proofs.Laws.Clients.{of, of-yes, of-no, waitingOf-total, waitingOf-none, waitingOf-put, waitingOf-remove, waiting-self, Changed, changes, stays, changed, length-change, getD-change, counts-path}
-use Rattle.spec.proofs.Laws.Every.{all-at, all-two}
+use Rattle.spec.specs.Calls.{Outcome, openOf, opened, change, oneMoreSubmitted, oneMoreServed, oneMoreDropped, isPeriodStart, restarted, countsAfter, oneLater, kept, droppedAt, submitted, ticked, reported, reportOf, reportAnswer, victimPlace, requestAt}
+use Rattle.spec.specs.Lists.{Call, submit, tick, report, outcomeOf, run, history, Event, isRefused, isOpened, isTick, ticks, Asked, Victim, waitingRequests, waitingBy, submitters, servedClients, victimClients, startsPeriod, sinceStart, countsSince}
+use Rattle.spec.proofs.Laws.Clients.{length-change, getD-change, counts-path}
 use Rattle.spec.proofs.Laws.Every.{count-total, length-mapFrom, getD-mapFrom}
 use Rattle.spec.proofs.Laws.Accepted.{next-waiting, ReportReady, report-ready}
 use Rattle.spec.proofs.Calls.Refused.{accepted-none, accepted-same}
-use Rattle.spec.proofs.Lists.Trace.{Traced, event, requests, Submitted, keeps, drops, submitted-cases, Step, submits, serves, passes, traced-open, traced-step, along, accepted-open}
+use Rattle.spec.proofs.Lists.Trace.{Traced, event, Submitted, keeps, drops, submitted-cases, Step, submits, serves, passes, traced-open, traced-step, along, accepted-open}
 
 -- ---- what one event adds
 abbrev adding : ℕ → ℕ → ℕ → Counts → Counts

@@ -8,31 +8,31 @@ use native.Mathlib.Omega.{arith}
 use lib.Dec.{eqb}
 use lib.ListN.{length, take, drop, length-map}
 use Rattle.slots.specs.Room.{capacity, room}
-use Rattle.slots.specs.Plan.{Slot, at, Plan, size}
+use Rattle.slots.specs.Plan.{Slot, at}
 use Rattle.slots.proofs.Laws.Tests.{le, gt, order}
-use Rattle.slots.proofs.Laws.Sums.{All, all-each, all-imp, all-map, total, total-map}
+use Rattle.slots.proofs.Laws.Sums.{All, all-imp, all-map, total, total-map}
 use Rattle.slots.proofs.Queue.{Entry, Booking as Booked, Queue, arrival, asking, serve, ticked as tickedQueue, Joined, Swapped}
-use Rattle.slots.proofs.Laws.Sorted.{Sorted, due as dueEntry, due-yes as entry-yes, due-no as entry-no, upto}
+use Rattle.slots.proofs.Laws.Sorted.{due as dueEntry, upto}
 use Rattle.slots.proofs.Reached.Chart.{lookup, book}
 use Rattle.slots.proofs.Both.{Both, both-empty, both-ticked}
 use Rattle.slots.proofs.Reached.Agree.{Booked as IsBooked}
-use Rattle.slots.proofs.Plain.{room-kept, room-dropped, end, slots, booked, own, own-booked, largest, reached}
+use Rattle.slots.proofs.Plain.{room-kept, room-dropped, end, slots, booked, own, own-booked}
 use Rattle.spec.specs.declared.types.Request.{Request}
-use Rattle.spec.specs.Every.{countIf, exists}
+use Rattle.spec.specs.Every.{countIf}
 use Rattle.spec.specs.Tables.{zeroRequest, State, waiting, nextState}
 use Rattle.spec.specs.Order.{removeAt}
 use Rattle.spec.specs.Chart.{endOf, startsOf, dueBy, hasNoOverfull, Search}
 use Rattle.spec.specs.Victim.{isCandidate}
-use Rattle.spec.specs.Calls.{Outcome, opened, openOf, submitted, kept, droppedAt, withNew, newRequest, requestAt, victimPlace, ticked}
-use Rattle.spec.specs.Lists.{Call, submit, tick, run, Event, history, isRefused, isOpened, ticks, Asked, asked, Booking, bookings, servedRequests, waitingRequests, windowOf, windows, charts, slotFor, ownBookings, ownPlan}
+use Rattle.spec.specs.Calls.{Outcome, opened, submitted, kept, droppedAt, withNew, newRequest, requestAt, victimPlace, ticked}
+use Rattle.spec.specs.Lists.{submit, tick, Event, ticks, Asked, asked, Booking, bookings, servedRequests, waitingRequests, windowOf, windows, charts, slotFor, ownBookings, ownPlan}
 use Rattle.spec.proofs.Laws.Entries.{entryOf, upto-entries, sorted-entries}
 use Rattle.spec.proofs.Laws.Every.{total-remove, all-remove}
-use Rattle.spec.proofs.Laws.Order.{InOrder, Before, before-deadline, total-put, all-put, order-remove}
-use Rattle.spec.proofs.Laws.Feasible.{due, due-yes, due-no, dueBy-total, dueBy-remove, Feasible, feasible-facts, feasible-test, Verdict, fine, over, verdict}
-use Rattle.spec.proofs.Laws.Accepted.{OpenReady, SubmitReady, waiting-length}
+use Rattle.spec.proofs.Laws.Order.{InOrder, total-put, all-put, order-remove}
+use Rattle.spec.proofs.Laws.Feasible.{due-no, dueBy-remove, Feasible, feasible-facts, feasible-test, Verdict, fine, over, verdict}
+use Rattle.spec.proofs.Laws.Accepted.{SubmitReady}
 use Rattle.spec.proofs.Calls.Victim.{victim-place}
 use Rattle.spec.proofs.Calls.Fair.{new-ordered}
-use Rattle.spec.proofs.Lists.Trace.{Numbered, event, Traced, Submitted, keeps, drops, submitted-cases, traced-open, same-ticks, same-asked, same-bookings, Step, submits, serves, passes, Then, kept-waiting, dropped-waiting, ticked-waiting, along, accepted-open, traced, waiting-as-many, served-as-many}
+use Rattle.spec.proofs.Lists.Trace.{Numbered, event, Traced, Submitted, keeps, drops, submitted-cases, same-ticks, same-asked, same-bookings, Step, submits, serves, passes, Then, kept-waiting, dropped-waiting, ticked-waiting, waiting-as-many, served-as-many}
 
 -- ---- the tables as a queue of crate slots
 abbrev pub bookedOf : Booking → Booked
