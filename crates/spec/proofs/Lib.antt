@@ -1,4 +1,4 @@
-pub mod Worked
+pub mod Acceptance
 pub mod Laws
 pub mod Calls
 pub mod Lists

@@ -7,7 +7,7 @@ use mathlib.Core.Path.{_≡_, refl}
 use mathlib.Core.List.{List, [], _∷_, map}
 use Rattle.spec.specs.Frames.{digitOf, characterOf, numberFrom, digits, frameWith, frameOf, kindOf, valuesOf, fieldDigits, lineOf, segmentLines}
 use Rattle.spec.specs.Session.{textOf, atStart, reply, replies, session}
-use Rattle.spec.proofs.Worked.Computed.{calls}
+use Rattle.spec.proofs.Acceptance.Computed.{calls}
 
 -- an input's lines, what stands behind its last line feed, and the lines of the output
 pub record Dialogue : Type 0 where

@@ -11,7 +11,7 @@ use Rattle.spec.specs.Tables.{State, waiting, holding, zeroRequest, zero
 use Rattle.spec.specs.Chart.{Segment, startsOf, segmentsOf}
 use Rattle.spec.specs.Calls.{openOf}
 use Rattle.spec.specs.Lists.{Call, submit, tick, outcomeOf, run, history, Event}
-use Rattle.spec.proofs.Worked.Computed.{calls}
+use Rattle.spec.proofs.Acceptance.Computed.{calls}
 
 -- a state to begin with, calls from the first to the last, and what they come to: the answers, and the chart at the end
 pub record Case : Type 0 where

@@ -2,3 +2,4 @@
 pub mod Computed
 pub mod Cases
 pub mod Sessions
+pub mod Damaged
