@@ -2,7 +2,7 @@
 -- exactly when not all can finish; the victim's client has the smallest miss ratio of all whose removal helps." Said by plans
 -- (`CanAllFinish` of crate slots), not by overfull deadlines. Statements, each under its sentence; the proofs stand in Calls/.
 -- Assumes nothing.
-use Prim.Native.Nat.{ℕ, suc, _≤_, _<_}
+use Prim.Native.Nat.{ℕ, _≤_, _<_}
 use mathlib.Core.Path.{_≡_, refl, ap, _∙_}
 use mathlib.Core.Logic.{_↔_}
 use mathlib.Core.Bool.{true, false}
@@ -14,15 +14,15 @@ use Rattle.slots.proofs.Laws.Sums.{All}
 use Rattle.spec.specs.declared.types.Request.{Request}
 use Rattle.spec.specs.declared.types.Counts.{Counts}
 use Rattle.spec.specs.declared.types.Answer.the-variants.{Served, Idle}
-use Rattle.spec.specs.Tables.{State, waiting}
-use Rattle.spec.specs.Order.{removeAt}
+use Rattle.spec.specs.Tables.{zeroRequest, State, waiting}
+use Rattle.spec.specs.Order.{isInOrder, placeOf, removeAt}
 use Rattle.spec.specs.Chart.{isOverfull, Search, nothing, found, firstOverfull}
 use Rattle.spec.specs.Victim.{hasSmallerRatio, countsAt}
-use Rattle.spec.specs.Calls.{Outcome, countedIn, withNew, requestAt, kept, droppedAt, victimPlace, submitted, submitOf, change, oneMoreServed, countsAfter, ticked, tickOf}
+use Rattle.spec.specs.Calls.{Outcome, newRequest, countedIn, withNew, requestAt, kept, droppedAt, victimPlace, submitted, submitOf, ticked, tickOf}
 use Rattle.spec.specs.Lists.{submit, tick, outcomeOf, isRefused}
-use Rattle.spec.proofs.Laws.Order.{InOrder, first-earliest}
+use Rattle.spec.proofs.Laws.Order.{getD-put, remove-put, order-test, InOrder, first-earliest}
 use Rattle.spec.proofs.Laws.Feasible.{overfull-test, roomy-test, Verdict, fine, over, verdict}
-use Rattle.spec.proofs.Laws.Accepted.{SubmitReady, submit-ready, tick-ready, next-waiting}
+use Rattle.spec.proofs.Laws.Accepted.{kept-waiting, dropped-waiting, ticked-waiting, SubmitReady, submit-ready, tick-ready}
 use Rattle.spec.proofs.Calls.Refused.{accepted-none, accepted-same}
 use Rattle.spec.proofs.Calls.Victim.{victim-place, victim-least, victim-last, counted-some}
 use Rattle.spec.proofs.Calls.Fair.{deadlinesOf, finish-feasible, feasible-finish, finish-candidate, new-ordered, finish-kept, unfinished-dropped, victim-helps, helps-exactly}
@@ -40,12 +40,23 @@ OthersFinish j client deadline s = CanAllFinish (s .head .clock) (deadlinesOf (r
 abbrev pub countsOf : ℕ → ℕ → ℕ → State → Counts
 countsOf j client deadline s = countsAt (countedIn client s) (withNew client deadline s) j
 
+-- the victim among them
+abbrev pub VictimOut : ℕ → ℕ → State → List Request
+VictimOut client deadline s = removeAt (victimPlace client deadline s) (withNew client deadline s)
+
 pub record FairSubmit (client deadline : ℕ) (s : State) : Type 0 where
-  -- "If every request can still finish, the answer is kept, .."
-  pub keeps : AllFinish client deadline s → submitOf client deadline s ≡ kept client deadline s
+  -- ".. and puts the record in chart order.": it stands at its place, the others are those that waited, and all are in order
+  pub placed : requestAt (placeOf (newRequest client deadline s) (waiting s)) client deadline s ≡ newRequest client deadline s
+  pub others : removeAt (placeOf (newRequest client deadline s) (waiting s)) (withNew client deadline s) ≡ waiting s
+  pub ordered : isInOrder (withNew client deadline s) ≡ true
+  -- "If every request can still finish, the answer is kept, with number and place (from 0)."
+  pub keeps : AllFinish client deadline s
+      → (submitOf client deadline s ≡ kept client deadline s)
+      × (waiting (submitOf client deadline s .after) ≡ withNew client deadline s)
   -- "Otherwise one record is taken out, .."
   pub drops : (AllFinish client deadline s → ⊥)
-      → submitOf client deadline s ≡ droppedAt (victimPlace client deadline s) client deadline s
+      → (submitOf client deadline s ≡ droppedAt (victimPlace client deadline s) client deadline s)
+      × (waiting (submitOf client deadline s .after) ≡ VictimOut client deadline s)
   -- it is one of the waiting requests or the new one
   pub place : victimPlace client deadline s < length (withNew client deadline s)
   -- and the others can finish
@@ -68,15 +79,31 @@ accepted-submit client deadline s e = (
   accepted-same (submit client deadline) s e,
 )
 
+-- with what waits after it
+with-kept : (client deadline : ℕ) (s : State) → submitOf client deadline s ≡ kept client deadline s
+    → (submitOf client deadline s ≡ kept client deadline s)
+    × (waiting (submitOf client deadline s .after) ≡ withNew client deadline s)
+with-kept client deadline s e = (e, ap (λ (o : Outcome). waiting (o .after)) e ∙ kept-waiting client deadline s)
+
+with-dropped : (k client deadline : ℕ) (s : State) → submitOf client deadline s ≡ droppedAt k client deadline s
+    → (submitOf client deadline s ≡ droppedAt k client deadline s)
+    × (waiting (submitOf client deadline s .after) ≡ removeAt k (withNew client deadline s))
+with-dropped k client deadline s e =
+    (e, ap (λ (o : Outcome). waiting (o .after)) e ∙ dropped-waiting k client deadline s)
+
 pub fair-submit : (client deadline : ℕ) (s : State) → isRefused (submitOf client deadline s .answer) ≡ false
     → FairSubmit client deadline s
 fair-submit client deadline s e =
     let p = accepted-submit client deadline s e in
     let r : SubmitReady client deadline s = p .0 in
     let some = counted-some client deadline s r in
+    let new = newRequest client deadline s in
     record {
-      keeps = λ f. p .1 ∙ finish-kept client deadline s r f;
-      drops = λ f. p .1 ∙ unfinished-dropped client deadline s r f;
+      placed = getD-put new zeroRequest (waiting s);
+      others = remove-put new (waiting s);
+      ordered = order-test (withNew client deadline s) (new-ordered client deadline s r);
+      keeps = λ f. with-kept client deadline s (p .1 ∙ finish-kept client deadline s r f);
+      drops = λ f. with-dropped (victimPlace client deadline s) client deadline s (p .1 ∙ unfinished-dropped client deadline s r f);
       place = victim-place client deadline s r .0;
       helps = victim-helps client deadline s r;
       counted = some;
@@ -136,12 +163,6 @@ earliest-served s e = go (waiting s) (accepted-same tick s e) (tick-ready s (acc
     go [] same o = ap (λ (r : Outcome). r .answer) same ∙ unfold ticked in refl
     go (w ∷ ws) same o = (
       ap (λ (r : Outcome). r .answer) same ∙ unfold ticked in refl,
-      ap (λ (r : Outcome). waiting (r .after)) same ∙ leaves,
+      ap (λ (r : Outcome). waiting (r .after)) same ∙ ticked-waiting (w ∷ ws) s,
       first-earliest w ws (o .0),
     )
-      where
-        leaves : waiting (ticked (w ∷ ws) s .after) ≡ ws
-        leaves =
-            unfold ticked in
-            next-waiting (suc (s .head .clock)) (s .head .last) ws
-            (countsAfter (s .head .period) (suc (s .head .clock)) ws (change oneMoreServed (w .client) (s .clientTable))) s

@@ -7,17 +7,18 @@ use mathlib.Core.List.{List, [], _∷_, _++_}
 use native.Mathlib.Omega.{arith}
 use borrow.Author.Tests.{ltb-true, ltb-false, eqb-true, eqb-false, not-false}
 use lib.Dec.{ltb, eqb}
-use lib.ListN.{length, getD, replicate, length-take, length-drop, length-append, length-replicate, take-append-drop}
+use lib.ListN.{drop, length, getD, replicate, length-take, length-drop, length-append, length-replicate, take-append-drop}
 use lib.Seq.{take-append-seam, drop-append-seam}
 use Rattle.slots.proofs.Laws.Tests.{Same, same-yes, same-no, same}
 use Rattle.spec.specs.declared.types.Counts.{Counts}
 use Rattle.spec.specs.declared.types.Request.{Request}
 use Rattle.spec.specs.declared.types.Answer.the-variants.{Refused}
+use Rattle.spec.specs.Order.{removeAt}
 use Rattle.spec.specs.Every.{isWithin}
 use Rattle.spec.specs.Tables.{mostClients, mostRecords, mostCounted, clockEnd, numberEnd, mostPeriod, mostAhead, zeroRequest, zeroCounts, State, waiting, behind, holding, nextState}
 use Rattle.spec.specs.Sound.{isClient, isSound}
 use Rattle.spec.specs.Refusals.{Refusal, firstMatch, isMisshapen, refusal2, refusal3, refusal4Open, refusal4, refusal5, refusal6, refusal7, refusal8, refusal9, refusal10, refusal11, refusal12, openRefusals, submitRefusals, tickRefusals, reportRefusals, chartRefusals}
-use Rattle.spec.specs.Calls.{Outcome, unlessRefused}
+use Rattle.spec.specs.Calls.{kept, droppedAt, ticked, withNew, countedIn, requestAt, change, oneMoreDropped, oneMoreServed, countsAfter, Outcome, unlessRefused}
 use Rattle.spec.proofs.Laws.Every.{or-none}
 use Rattle.spec.proofs.Laws.Sound.{within-facts, Shaped, Sound, sound-facts}
 
@@ -191,3 +192,23 @@ module _ (clock last : ℕ) (ws : List Request) (cs : List Counts) (s : State) w
   next-length h =
       omega
       (arith, length-append ws (replicate (length (s .waitingTable) - length ws) zeroRequest), length-replicate (length (s .waitingTable) - length ws) zeroRequest)
+
+-- what waits then
+pub kept-waiting : (client deadline : ℕ) (s : State) → waiting (kept client deadline s .after) ≡ withNew client deadline s
+unfolding kept
+kept-waiting client deadline s =
+    next-waiting (s .head .clock) (suc (s .head .last)) (withNew client deadline s) (countedIn client s) s
+
+pub dropped-waiting : (k client deadline : ℕ) (s : State)
+    → waiting (droppedAt k client deadline s .after) ≡ removeAt k (withNew client deadline s)
+unfolding droppedAt
+dropped-waiting k client deadline s =
+    next-waiting (s .head .clock) (suc (s .head .last)) (removeAt k (withNew client deadline s))
+    (change oneMoreDropped (requestAt k client deadline s .client) (countedIn client s)) s
+
+pub ticked-waiting : (ws : List Request) (s : State) → waiting (ticked ws s .after) ≡ drop 1 ws
+unfolding ticked nextState
+ticked-waiting [] s = refl
+ticked-waiting (w ∷ ws) s =
+    next-waiting (suc (s .head .clock)) (s .head .last) ws
+    (countsAfter (s .head .period) (suc (s .head .clock)) ws (change oneMoreServed (w .client) (s .clientTable))) s

@@ -29,10 +29,10 @@ use Rattle.spec.proofs.Laws.Entries.{entryOf, upto-entries, sorted-entr
 use Rattle.spec.proofs.Laws.Every.{total-remove, all-remove}
 use Rattle.spec.proofs.Laws.Order.{InOrder, total-put, all-put, order-remove}
 use Rattle.spec.proofs.Laws.Feasible.{due-no, dueBy-remove, Feasible, feasible-facts, feasible-test, Verdict, fine, over, verdict}
-use Rattle.spec.proofs.Laws.Accepted.{SubmitReady}
+use Rattle.spec.proofs.Laws.Accepted.{kept-waiting, dropped-waiting, ticked-waiting, SubmitReady}
 use Rattle.spec.proofs.Calls.Victim.{victim-place}
 use Rattle.spec.proofs.Calls.Fair.{new-ordered}
-use Rattle.spec.proofs.Lists.Trace.{Numbered, event, Traced, Submitted, keeps, drops, submitted-cases, same-ticks, same-asked, same-bookings, Step, submits, serves, passes, Then, kept-waiting, dropped-waiting, ticked-waiting, waiting-as-many, served-as-many}
+use Rattle.spec.proofs.Lists.Trace.{Numbered, event, Traced, Submitted, keeps, drops, submitted-cases, same-ticks, same-asked, same-bookings, Step, submits, serves, passes, Then, waiting-as-many, served-as-many}
 
 -- ---- the tables as a queue of crate slots
 abbrev pub bookedOf : Booking → Booked

@@ -8,7 +8,7 @@ use mathlib.Core.List.{List, [], _∷_, _++_, map}
 use native.Mathlib.Omega.{arith}
 use borrow.Author.Tests.{eq-eqb, ne-eqb}
 use lib.Dec.{eqb}
-use lib.ListN.{length, getD, drop}
+use lib.ListN.{length, getD}
 use Rattle.slots.proofs.Laws.Tests.{Same, same-yes, same-no, same}
 use Rattle.slots.proofs.Laws.Sums.{one, one-yes, one-no, one-most, All, all-each, all-imp, total, total-le, total-zero, total-map, total-one, total-cons}
 use Rattle.spec.specs.declared.types.Request.{Request}
@@ -19,12 +19,12 @@ use Rattle.spec.specs.Tables.{zeroRequest, State, waiting, nextState}
 use Rattle.spec.specs.Order.{removeAt}
 use Rattle.spec.specs.Chart.{hasNoOverfull}
 use Rattle.spec.specs.Refusals.{firstMatch}
-use Rattle.spec.specs.Calls.{Outcome, opened, openOf, submitted, kept, droppedAt, withNew, newRequest, requestAt, victimPlace, countedIn, change, oneMoreDropped, oneMoreServed, countsAfter, ticked, reported, charted}
+use Rattle.spec.specs.Calls.{Outcome, opened, openOf, submitted, kept, droppedAt, withNew, newRequest, requestAt, victimPlace, ticked, reported, charted}
 use Rattle.spec.specs.Lists.{Call, opening, submit, tick, report, chart, outcomeOf, run, Event, history, isRefused, isOpened, isTick, ticks, Asked, askedBy, asked, Booking, servedIn, bookings, Victim, victimBy, victims, servedRequests, waitingRequests}
 use Rattle.spec.proofs.Laws.Every.{total-same, total-add, total-select, exists-none, or-none, all-at, Value, is-true, is-false, value, cond-true, cond-false, total-remove}
 use Rattle.spec.proofs.Laws.Order.{total-put, all-put}
 use Rattle.spec.proofs.Laws.Sound.{Given}
-use Rattle.spec.proofs.Laws.Accepted.{Ready, OpenReady, SubmitReady, TickReady, open-ready, submit-ready, tick-ready, Decided, accepts, refuses, next-waiting}
+use Rattle.spec.proofs.Laws.Accepted.{kept-waiting, dropped-waiting, ticked-waiting, Ready, OpenReady, SubmitReady, TickReady, open-ready, submit-ready, tick-ready, Decided, accepts, refuses}
 use Rattle.spec.proofs.Calls.Refused.{refusalsOf, acceptedOf, outcome-decided, accepted-none, accepted-same}
 use Rattle.spec.proofs.Calls.Keeps.{open-keeps, submit-keeps, tick-keeps}
 use Rattle.spec.proofs.Calls.Victim.{victim-place}
@@ -302,26 +302,6 @@ event c a = record { call = c; answer = a }
 -- p holds of the list with the call and its answer, and of the state after it
 abbrev pub Then : (List Event → State → Type 0) → Call → Outcome → List Event → Type 0
 Then p c o es = p (event c (o .answer) ∷ es) (o .after)
-
--- what waits then
-pub kept-waiting : (client deadline : ℕ) (s : State) → waiting (kept client deadline s .after) ≡ withNew client deadline s
-unfolding kept
-kept-waiting client deadline s =
-    next-waiting (s .head .clock) (suc (s .head .last)) (withNew client deadline s) (countedIn client s) s
-
-pub dropped-waiting : (k client deadline : ℕ) (s : State)
-    → waiting (droppedAt k client deadline s .after) ≡ removeAt k (withNew client deadline s)
-unfolding droppedAt
-dropped-waiting k client deadline s =
-    next-waiting (s .head .clock) (suc (s .head .last)) (removeAt k (withNew client deadline s))
-    (change oneMoreDropped (requestAt k client deadline s .client) (countedIn client s)) s
-
-pub ticked-waiting : (ws : List Request) (s : State) → waiting (ticked ws s .after) ≡ drop 1 ws
-unfolding ticked nextState
-ticked-waiting [] s = refl
-ticked-waiting (w ∷ ws) s =
-    next-waiting (suc (s .head .clock)) (s .head .last) ws
-    (countsAfter (s .head .period) (suc (s .head .clock)) ws (change oneMoreServed (w .client) (s .clientTable))) s
 
 -- ---- open
 pub traced-open : (clients period : ℕ) (s : State) → OpenReady clients period s → Traced [] (opened clients period s .after)
