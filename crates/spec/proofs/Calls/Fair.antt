@@ -21,6 +21,7 @@ use Rattle.spec.specs.Order.{removeAt}
 use Rattle.spec.specs.Chart.{dueBy, hasNoOverfull}
 use Rattle.spec.specs.Victim.{isCandidate}
 use Rattle.spec.specs.Calls.{newRequest, withNew, kept, droppedAt, victimPlace, submitted}
+use Rattle.spec.proofs.Demands.Words.{deadlinesOf}
 use Rattle.spec.proofs.Laws.Every.{is-true, is-false, value, cond-true, cond-false}
 use Rattle.spec.proofs.Laws.Order.{InOrder, order-remove, order-put}
 use Rattle.spec.proofs.Laws.Feasible.{due-yes, due-no, due-most, dueBy-put, dueBy-remove, Feasible, feasible-facts, feasible-test}
@@ -30,9 +31,6 @@ use Rattle.spec.proofs.Laws.Accepted.{SubmitReady}
 use Rattle.spec.proofs.Calls.Victim.{victim-place}
 
 -- ---- all can finish just where there is room for all that are due by any D
-abbrev pub deadlinesOf : List Request → List ℕ
-deadlinesOf ws = map (λ w. w .deadline) ws
-
 -- the deadlines of the entries are those of the requests
 entry-deadlines : (ws : List Request) → map (λ (e : Entry). e .deadline) (map entryOf ws) ≡ deadlinesOf ws
 entry-deadlines ws = map-map (λ (e : Entry). e .deadline) entryOf ws

@@ -20,6 +20,7 @@ use Rattle.spec.specs.Victim.{isCandidate}
 use Rattle.spec.specs.Refusals.{firstMatch, refusal4}
 use Rattle.spec.specs.Calls.{change, oneMoreSubmitted, oneMoreServed, oneMoreDropped, opened, newRequest, countedIn, withNew, kept, requestAt, droppedAt, victimPlace, submitted, isPeriodStart, restarted, countsAfter, oneLater, ticked, reported, charted}
 use Rattle.spec.specs.Lists.{Call, opening, submit, tick, report, chart, outcomeOf, isRefused}
+use Rattle.spec.proofs.Demands.Words.{refusalsOf}
 use Rattle.spec.proofs.Laws.Clients.{of-yes, of-no, waitingOf-none, waitingOf-put, waitingOf-remove, Changed, changes, stays, changed, length-change}
 use Rattle.spec.proofs.Laws.Every.{all-two, Value, is-true, is-false, value, length-mapFrom, getD-mapFrom, all-remove, length-remove}
 use Rattle.spec.proofs.Laws.Order.{InOrder, Before, before-deadline, order-put, order-remove, all-put, length-put}
@@ -27,7 +28,7 @@ use Rattle.spec.proofs.Laws.Feasible.{Feasible, feasible-facts, due-yes
 use Rattle.spec.proofs.Laws.Sound.{within-test, Shaped, Ahead, Given, Owned, Balanced}
 use Rattle.spec.proofs.Laws.Accepted.{Ready, OpenReady, open-ready, SubmitReady, submit-ready, TickReady, tick-ready, report-ready, chart-ready, waiting-length, next-waiting, next-behind, next-length}
 use Rattle.spec.proofs.Calls.Victim.{victim-place}
-use Rattle.spec.proofs.Calls.Refused.{refusalsOf, acceptedOf, accepted-none, accepted-same}
+use Rattle.spec.proofs.Calls.Refused.{acceptedOf, accepted-none, accepted-same}
 
 -- ---- the clauses of sound tables on requests and counts, without the one on overfull deadlines; clients have one record each
 pub record Tidy (clock last clients : ℕ) (ws : List Request) (cs : List Counts) : Type 0 where

@@ -3,39 +3,22 @@
 use Prim.Native.Nat.{ℕ, zero, suc, _+_, _-_, _≤_, _<_, min}
 use mathlib.Core.Path.{_≡_, refl, ap, _∙_}
 use mathlib.Core.Bool.{Bool, true, false, cond}
-use mathlib.Core.List.{List, [], _∷_, _++_}
+use mathlib.Core.List.{List, [], _∷_}
 use native.Mathlib.Omega.{arith}
 use lib.Dec.{eqb}
 use lib.ListN.{drop}
 use Rattle.slots.specs.Room.{room}
-use Rattle.slots.specs.Plan.{EndedBy}
 use Rattle.slots.proofs.Laws.Tests.{Same, same-yes, same-no, same}
 use Rattle.slots.proofs.Laws.Sums.{All, all-imp}
 use Rattle.spec.specs.declared.types.Request.{Request}
 use Rattle.spec.specs.Tables.{State, waiting}
 use Rattle.spec.specs.Chart.{startBefore, startsOf, Segment, joinLeft, segmentsOf, dueBy}
+use Rattle.spec.proofs.Demands.Words.{Ascending, Pairs, Finish, ChartFits, slotsOfAll, Apart}
 use Rattle.spec.proofs.Laws.Order.{before-deadline, InOrder}
 use Rattle.spec.proofs.Laws.Feasible.{due-yes, dueBy-cons, Feasible}
 use Rattle.spec.proofs.Laws.Accepted.{Ready}
-use Rattle.spec.proofs.Calls.Victim.{Ascending}
-
--- what holds of each element of one list and the element of another at the same place; the lists are of one length
-abbrev pub Pairs : {A B : Type 0} → (A → B → Type 0) → List A → List B → Type 0
-Pairs p [] [] = Unit {0}
-Pairs p [] (y ∷ ys) = ⊥
-Pairs p (x ∷ xs) [] = ⊥
-Pairs p (x ∷ xs) (y ∷ ys) = p x y × Pairs p xs ys
-
--- a slot for each of these requests, ended by its deadline
-abbrev pub Finish : List Request → List ℕ → Type 0
-Finish ws slots = Pairs (λ w s. EndedBy (w .deadline) s) ws slots
 
 -- ---- the chart of requests that have room from the clock on
-pub record ChartFits (clock : ℕ) (ws : List Request) (slots : List ℕ) : Type 0 where
-  pub ended : Finish ws slots
-  pub ahead : All (λ (s : ℕ). clock ≤ s) slots
-  pub ascending : Ascending slots
-
 module _ (clock : ℕ) where
   -- w and those behind it have room besides n requests that come before
   abbrev Behind : ℕ → Request → List Request → Type 0
@@ -115,19 +98,6 @@ starts-drop (suc k) [] = refl
 starts-drop (suc k) (w ∷ ws) = starts-drop k ws
 
 -- ---- segments
--- n slots from s on
-abbrev pub from : ℕ → ℕ → List ℕ
-from s zero = []
-from s (suc n) = s ∷ from (suc s) n
-
--- the slots of a segment: the first is at its left, and the last ends at its right
-abbrev pub slotsOf : Segment → List ℕ
-slotsOf g = from (g .left) (g .right - g .left)
-
-abbrev pub slotsOfAll : List Segment → List ℕ
-slotsOfAll [] = []
-slotsOfAll (g ∷ gs) = slotsOf g ++ slotsOfAll gs
-
 abbrev pub Proper : Segment → Type 0
 Proper g = g .left < g .right
 
@@ -162,11 +132,6 @@ unfolding segmentsOf
 segments-slots [] = refl
 segments-slots (s ∷ starts) =
     join-slots s (segmentsOf starts) (segments-proper starts) ∙ ap (λ (l : List ℕ). s ∷ l) (segments-slots starts)
-
--- .. and no two touch: each one ends before all behind it start
-abbrev pub Apart : List Segment → Type 0
-Apart [] = Unit {0}
-Apart (g ∷ gs) = All (λ (h : Segment). g .right < h .left) gs × Apart gs
 
 join-left : (p : ℕ → Type 0) (s : ℕ) (gs : List Segment) → p s → All (λ (g : Segment). p (g .left)) gs
     → All (λ (g : Segment). p (g .left)) (joinLeft s gs)

@@ -15,17 +15,10 @@ use Rattle.spec.specs.Chart.{startsOf, hasNoOverfull}
 use Rattle.spec.specs.Refusals.{Refusal, firstMatch, openRefusals, submitRefusals, tickRefusals, reportRefusals, chartRefusals}
 use Rattle.spec.specs.Calls.{Outcome, unlessRefused, opened, openOf, kept, droppedAt, victimPlace, withNew, submitted, submitOf, ticked, tickOf, reported, reportOf, charted, chartOf, chartOutput}
 use Rattle.spec.specs.Lists.{Call, opening, submit, tick, report, chart, outcomeOf, isRefused}
+use Rattle.spec.proofs.Demands.Words.{refusalsOf, FirstHolds, here, further}
 use Rattle.spec.proofs.Laws.Accepted.{Decided, accepts, refuses, decided}
 
 -- ---- each call is its refusals and what it does where none holds
--- the call's refusals, in the paper's order
-abbrev pub refusalsOf : Call → State → List Refusal
-refusalsOf (opening clients period) s = openRefusals clients period s
-refusalsOf (submit client deadline) s = submitRefusals client deadline s
-refusalsOf tick s = tickRefusals s
-refusalsOf (report client) s = reportRefusals client s
-refusalsOf (chart output) s = chartRefusals output s
-
 -- what an accepted call comes to
 abbrev pub acceptedOf : Call → State → Outcome
 acceptedOf (opening clients period) s = opened clients period s
@@ -64,11 +57,6 @@ accepted-answer (report client) s = refl
 accepted-answer (chart output) s = refl
 
 -- ---- the first that holds
--- "first match wins": n is the number of one whose condition holds, and no earlier condition does
-pub data FirstHolds : List Refusal → ℕ → Type 0 where
-  here : {r : Refusal} {rs : List Refusal} → r .holds ≡ true → FirstHolds (r ∷ rs) (r .number)
-  further : {r : Refusal} {rs : List Refusal} {n : ℕ} → r .holds ≡ false → FirstHolds rs n → FirstHolds (r ∷ rs) n
-
 pub first-holds : (rs : List Refusal) → firstMatch rs ≢ 0 → FirstHolds rs (firstMatch rs)
 unfolding firstMatch
 first-holds [] n = absurd (n refl)

@@ -20,17 +20,13 @@ use Rattle.spec.specs.Order.{placeOf}
 use Rattle.spec.specs.Sound.{waitingOf}
 use Rattle.spec.specs.Victim.{isCandidate, keepIf, candidatesFrom, candidates, hasSmallerRatio, countsAt, smallestOf, victimOf}
 use Rattle.spec.specs.Calls.{change, oneMoreSubmitted, newRequest, countedIn, withNew, victimPlace}
+use Rattle.spec.proofs.Demands.Words.{Ascending}
 use Rattle.spec.proofs.Laws.Clients.{waiting-self}
 use Rattle.spec.proofs.Laws.Every.{all-at}
 use Rattle.spec.proofs.Laws.Order.{all-put, length-put, place-most, remove-put}
 use Rattle.spec.proofs.Laws.Feasible.{feasible-test}
 use Rattle.spec.proofs.Laws.Sound.{Owned}
 use Rattle.spec.proofs.Laws.Accepted.{SubmitReady}
-
--- each number is smaller than all behind it
-abbrev pub Ascending : List ℕ → Type 0
-Ascending [] = Unit {0}
-Ascending (x ∷ xs) = All (λ (y : ℕ). x < y) xs × Ascending xs
 
 -- ---- the candidates: what holds of the places of all candidates holds of each in the list, and the other way round
 from-all : (p : ℕ → Type 0) (clock : ℕ) (all : List Request) (i : ℕ) (ws : List Request)

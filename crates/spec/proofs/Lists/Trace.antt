@@ -21,11 +21,12 @@ use Rattle.spec.specs.Chart.{hasNoOverfull}
 use Rattle.spec.specs.Refusals.{firstMatch}
 use Rattle.spec.specs.Calls.{Outcome, opened, openOf, submitted, kept, droppedAt, withNew, newRequest, requestAt, victimPlace, ticked, reported, charted}
 use Rattle.spec.specs.Lists.{Call, opening, submit, tick, report, chart, outcomeOf, run, Event, history, isRefused, isOpened, isTick, ticks, Asked, askedBy, asked, Booking, servedIn, bookings, Victim, victimBy, victims, servedRequests, waitingRequests}
+use Rattle.spec.proofs.Demands.Words.{refusalsOf}
 use Rattle.spec.proofs.Laws.Every.{total-same, total-add, total-select, exists-none, or-none, all-at, Value, is-true, is-false, value, cond-true, cond-false, total-remove}
 use Rattle.spec.proofs.Laws.Order.{total-put, all-put}
 use Rattle.spec.proofs.Laws.Sound.{Given}
 use Rattle.spec.proofs.Laws.Accepted.{kept-waiting, dropped-waiting, ticked-waiting, Ready, OpenReady, SubmitReady, TickReady, open-ready, submit-ready, tick-ready, Decided, accepts, refuses}
-use Rattle.spec.proofs.Calls.Refused.{refusalsOf, acceptedOf, outcome-decided, accepted-none, accepted-same}
+use Rattle.spec.proofs.Calls.Refused.{acceptedOf, outcome-decided, accepted-none, accepted-same}
 use Rattle.spec.proofs.Calls.Keeps.{open-keeps, submit-keeps, tick-keeps}
 use Rattle.spec.proofs.Calls.Victim.{victim-place}
 

@@ -20,12 +20,13 @@ use Rattle.spec.specs.Chart.{isOverfull, Search, nothing, found, firstOv
 use Rattle.spec.specs.Victim.{hasSmallerRatio, countsAt}
 use Rattle.spec.specs.Calls.{Outcome, newRequest, countedIn, withNew, requestAt, kept, droppedAt, victimPlace, submitted, submitOf, ticked, tickOf}
 use Rattle.spec.specs.Lists.{submit, tick, outcomeOf, isRefused}
+use Rattle.spec.proofs.Demands.Words.{deadlinesOf}
 use Rattle.spec.proofs.Laws.Order.{getD-put, remove-put, order-test, InOrder, first-earliest}
 use Rattle.spec.proofs.Laws.Feasible.{overfull-test, roomy-test, Verdict, fine, over, verdict}
 use Rattle.spec.proofs.Laws.Accepted.{kept-waiting, dropped-waiting, ticked-waiting, SubmitReady, submit-ready, tick-ready}
 use Rattle.spec.proofs.Calls.Refused.{accepted-none, accepted-same}
 use Rattle.spec.proofs.Calls.Victim.{victim-place, victim-least, victim-last, counted-some}
-use Rattle.spec.proofs.Calls.Fair.{deadlinesOf, finish-feasible, feasible-finish, finish-candidate, new-ordered, finish-kept, unfinished-dropped, victim-helps, helps-exactly}
+use Rattle.spec.proofs.Calls.Fair.{finish-feasible, feasible-finish, finish-candidate, new-ordered, finish-kept, unfinished-dropped, victim-helps, helps-exactly}
 
 -- ---- submit. Among the waiting requests and the new one, in chart order, a request is named by its place j
 -- "every request can still finish"
@@ -40,9 +41,9 @@ OthersFinish j client deadline s = CanAllFinish (s .head .clock) (deadlinesOf (r
 abbrev pub countsOf : ℕ → ℕ → ℕ → State → Counts
 countsOf j client deadline s = countsAt (countedIn client s) (withNew client deadline s) j
 
--- the victim among them
-abbrev pub VictimOut : ℕ → ℕ → State → List Request
-VictimOut client deadline s = removeAt (victimPlace client deadline s) (withNew client deadline s)
+-- the waiting requests and the new one, without the victim
+abbrev pub withoutVictim : ℕ → ℕ → State → List Request
+withoutVictim client deadline s = removeAt (victimPlace client deadline s) (withNew client deadline s)
 
 pub record FairSubmit (client deadline : ℕ) (s : State) : Type 0 where
   -- ".. and puts the record in chart order.": it stands at its place, the others are those that waited, and all are in order
@@ -56,7 +57,7 @@ pub record FairSubmit (client deadline : ℕ) (s : State) : Type 0 where
   -- "Otherwise one record is taken out, .."
   pub drops : (AllFinish client deadline s → ⊥)
       → (submitOf client deadline s ≡ droppedAt (victimPlace client deadline s) client deadline s)
-      × (waiting (submitOf client deadline s .after) ≡ VictimOut client deadline s)
+      × (waiting (submitOf client deadline s .after) ≡ withoutVictim client deadline s)
   -- it is one of the waiting requests or the new one
   pub place : victimPlace client deadline s < length (withNew client deadline s)
   -- and the others can finish

@@ -1,0 +1,72 @@
+-- The words of the statements that document 01 does not define. Assumes nothing.
+use Prim.Native.Nat.{ℕ, zero, suc, _-_, _≤_, _<_}
+use mathlib.Core.Path.{_≡_}
+use mathlib.Core.Bool.{true, false}
+use mathlib.Core.List.{List, [], _∷_, _++_, map}
+use Rattle.slots.specs.Plan.{EndedBy}
+use Rattle.slots.proofs.Laws.Sums.{All}
+use Rattle.spec.specs.declared.types.Request.{Request}
+use Rattle.spec.specs.Tables.{State}
+use Rattle.spec.specs.Chart.{Segment}
+use Rattle.spec.specs.Refusals.{Refusal, openRefusals, submitRefusals, tickRefusals, reportRefusals, chartRefusals}
+use Rattle.spec.specs.Lists.{Call, opening, submit, tick, report, chart}
+
+-- ---- refusals
+-- the call's refusals, in the paper's order
+abbrev pub refusalsOf : Call → State → List Refusal
+refusalsOf (opening clients period) s = openRefusals clients period s
+refusalsOf (submit client deadline) s = submitRefusals client deadline s
+refusalsOf tick s = tickRefusals s
+refusalsOf (report client) s = reportRefusals client s
+refusalsOf (chart output) s = chartRefusals output s
+
+-- "first match wins": n is the number of one whose condition holds, and no earlier condition does
+pub data FirstHolds : List Refusal → ℕ → Type 0 where
+  here : {r : Refusal} {rs : List Refusal} → r .holds ≡ true → FirstHolds (r ∷ rs) (r .number)
+  further : {r : Refusal} {rs : List Refusal} {n : ℕ} → r .holds ≡ false → FirstHolds rs n → FirstHolds (r ∷ rs) n
+
+-- ---- lists
+-- each number is smaller than all behind it
+abbrev pub Ascending : List ℕ → Type 0
+Ascending [] = Unit {0}
+Ascending (x ∷ xs) = All (λ (y : ℕ). x < y) xs × Ascending xs
+
+-- what holds of each element of one list and the element of another at the same place; the lists are of one length
+abbrev pub Pairs : {A B : Type 0} → (A → B → Type 0) → List A → List B → Type 0
+Pairs p [] [] = Unit {0}
+Pairs p [] (y ∷ ys) = ⊥
+Pairs p (x ∷ xs) [] = ⊥
+Pairs p (x ∷ xs) (y ∷ ys) = p x y × Pairs p xs ys
+
+-- the requests' deadlines
+abbrev pub deadlinesOf : List Request → List ℕ
+deadlinesOf ws = map (λ w. w .deadline) ws
+
+-- ---- the chart
+-- a slot for each of these requests, ended by its deadline
+abbrev pub Finish : List Request → List ℕ → Type 0
+Finish ws slots = Pairs (λ w s. EndedBy (w .deadline) s) ws slots
+
+-- slots from the clock on that ascend, one for each request and ended by its deadline
+pub record ChartFits (clock : ℕ) (ws : List Request) (slots : List ℕ) : Type 0 where
+  pub ended : Finish ws slots
+  pub ahead : All (λ (s : ℕ). clock ≤ s) slots
+  pub ascending : Ascending slots
+
+-- n slots from s on
+abbrev pub from : ℕ → ℕ → List ℕ
+from s zero = []
+from s (suc n) = s ∷ from (suc s) n
+
+-- the slots of a segment: the first is at its left, and the last ends at its right
+abbrev pub slotsOf : Segment → List ℕ
+slotsOf g = from (g .left) (g .right - g .left)
+
+abbrev pub slotsOfAll : List Segment → List ℕ
+slotsOfAll [] = []
+slotsOfAll (g ∷ gs) = slotsOf g ++ slotsOfAll gs
+
+-- no two segments touch: each one ends before all behind it start
+abbrev pub Apart : List Segment → Type 0
+Apart [] = Unit {0}
+Apart (g ∷ gs) = All (λ (h : Segment). g .right < h .left) gs × Apart gs
