@@ -15,7 +15,8 @@ use Rattle.slots.proofs.Upper.{Inv, inv-empty, inv-kept, inv-dropped, i
 use Rattle.slots.proofs.Reached.Chart.{chart, plan}
 use Rattle.slots.proofs.Reached.Book.{who, Known, book-total, Good, book-fits}
 use Rattle.slots.proofs.Reached.Seat.{sits, chart-length, chart-who, seated, rank-heads, rank-none}
-use Rattle.slots.proofs.Reached.Own.{Served, Waits, Own, own-empty, own-kept, own-dropped, own-ticked, log-none, none-due, roomy}
+use Rattle.slots.proofs.Reached.Own.{Served, Waits, Own, own-empty, own-kept, own-dropped, own-ticked, log-none}
+use Rattle.slots.proofs.Reached.Own.{none-due, roomy}
 
 module _ (heads : ℕ → ℕ) where
   pub record Both (q : Queue) : Type 0 where

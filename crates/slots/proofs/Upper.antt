@@ -8,7 +8,8 @@ use Rattle.slots.specs.Plan.{Window, Slot, none, at, Fits, planned, size
 use Rattle.slots.proofs.Laws.Tests.{le, gt, order}
 use Rattle.slots.proofs.Laws.Sums.{total}
 use Rattle.slots.proofs.Queue.{opens, Entry, Queue, empty, arrival, asking, ticked, Joined, Swapped, Placed}
-use Rattle.slots.proofs.Laws.Count.{length-log, length-joined, length-swapped, before, below, below-mono, below-suc, opens-suc, opens-mono, pigeon}
+use Rattle.slots.proofs.Laws.Count.{length-log, length-joined, length-swapped, before, below, below-mono, below-suc}
+use Rattle.slots.proofs.Laws.Count.{opens-suc, opens-mono, pigeon}
 use Rattle.slots.proofs.Laws.Sorted.{Sorted, sorted-drop, due, upto, due-one, due-yes, due-no, upto-drop}
 
 -- ---- the newest entry of a plan, and the plan without it

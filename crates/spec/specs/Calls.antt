@@ -15,7 +15,8 @@ use Rattle.spec.specs.Order.{placeOf, putInOrder, removeAt}
 use Rattle.spec.specs.Chart.{startsOf, hasNoOverfull}
 use Rattle.spec.specs.Victim.{victimOf}
 use Rattle.spec.specs.Sound.{waitingOf}
-use Rattle.spec.specs.Refusals.{Refusal, firstMatch, openRefusals, submitRefusals, tickRefusals, reportRefusals, chartRefusals}
+use Rattle.spec.specs.Refusals.{Refusal, firstMatch, openRefusals, submitRefusals, tickRefusals, reportRefusals}
+use Rattle.spec.specs.Refusals.{chartRefusals}
 
 -- what a call answers, and the state after it
 pub record Outcome : Type 0 where

@@ -7,7 +7,8 @@ use Rattle.spec.specs.declared.types.Head.{Head}
 use Rattle.spec.specs.declared.types.Request.{Request}
 use Rattle.spec.specs.declared.types.Counts.{Counts}
 use Rattle.spec.specs.Every.{isWithin, every, everyFrom, countIf}
-use Rattle.spec.specs.Tables.{mostClients, mostPeriod, clockEnd, numberEnd, mostAhead, mostCounted, State, waiting, behind}
+use Rattle.spec.specs.Tables.{mostClients, mostPeriod, clockEnd, numberEnd, mostAhead, mostCounted, State, waiting}
+use Rattle.spec.specs.Tables.{behind}
 use Rattle.spec.specs.Order.{isInOrder}
 use Rattle.spec.specs.Chart.{hasNoOverfull}
 

@@ -8,7 +8,8 @@ use lib.Dec.{eqb}
 use lib.ListN.{length, take, length-take}
 use Rattle.slots.specs.Plan.{Window}
 use Rattle.slots.proofs.Laws.Tests.{Same, same-yes, same-no, same, le, gt, order}
-use Rattle.slots.proofs.Laws.Sums.{one, one-yes, one-no, one-most, All, all-each, all-imp, all-take, all-drop, total, total-split, total-zero, total-one}
+use Rattle.slots.proofs.Laws.Sums.{one, one-yes, one-no, one-most, All, all-each, all-imp, all-take, all-drop, total}
+use Rattle.slots.proofs.Laws.Sums.{total-split, total-zero, total-one}
 use Rattle.slots.proofs.Queue.{Entry, Booking, Queue, empty, arrival, asking, serve, ticked, Joined, Swapped}
 use Rattle.slots.proofs.Laws.Count.{total-serve}
 use Rattle.slots.proofs.Laws.Sorted.{Sorted, sorted-low}

@@ -5,7 +5,8 @@ use Prim.Native.Char.{code}
 use Prim.Native.String.{String, [] as []ˢ, _∷_ as _∷ˢ_}
 use mathlib.Core.Path.{_≡_, refl}
 use mathlib.Core.List.{List, [], _∷_, map}
-use Rattle.spec.specs.Frames.{digitOf, characterOf, numberFrom, digits, frameWith, frameOf, kindOf, valuesOf, fieldDigits, lineOf, segmentLines}
+use Rattle.spec.specs.Frames.{digitOf, characterOf, numberFrom, digits, frameWith, frameOf, kindOf, valuesOf, fieldDigits}
+use Rattle.spec.specs.Frames.{lineOf, segmentLines}
 use Rattle.spec.specs.Session.{textOf, atStart, reply, replies, session}
 use Rattle.spec.proofs.Acceptance.Computed.{calls}
 

@@ -24,7 +24,8 @@ use Rattle.spec.specs.Calls.{newRequest, withNew, kept, droppedAt, victi
 use Rattle.spec.proofs.Demands.Words.{deadlinesOf}
 use Rattle.spec.proofs.Laws.Every.{is-true, is-false, value, cond-true, cond-false}
 use Rattle.spec.proofs.Laws.Order.{InOrder, order-remove, order-put}
-use Rattle.spec.proofs.Laws.Feasible.{due-yes, due-no, due-most, dueBy-put, dueBy-remove, Feasible, feasible-facts, feasible-test}
+use Rattle.spec.proofs.Laws.Feasible.{due-yes, due-no, due-most, dueBy-put, dueBy-remove, Feasible, feasible-facts}
+use Rattle.spec.proofs.Laws.Feasible.{feasible-test}
 use Rattle.spec.proofs.Laws.Entries.{entryOf, upto-entries, sorted-entries}
 use Rattle.spec.proofs.Laws.Sound.{Given}
 use Rattle.spec.proofs.Laws.Accepted.{SubmitReady}

@@ -18,7 +18,8 @@ use Rattle.spec.specs.Every.{toNumber}
 use Rattle.spec.specs.Tables.{State, waiting, zeroRequest, zeroCounts}
 use Rattle.spec.specs.Order.{placeOf}
 use Rattle.spec.specs.Sound.{waitingOf}
-use Rattle.spec.specs.Victim.{isCandidate, keepIf, candidatesFrom, candidates, hasSmallerRatio, countsAt, smallestOf, victimOf}
+use Rattle.spec.specs.Victim.{isCandidate, keepIf, candidatesFrom, candidates, hasSmallerRatio, countsAt, smallestOf}
+use Rattle.spec.specs.Victim.{victimOf}
 use Rattle.spec.specs.Calls.{change, oneMoreSubmitted, newRequest, countedIn, withNew, victimPlace}
 use Rattle.spec.proofs.Demands.Words.{Ascending}
 use Rattle.spec.proofs.Laws.Clients.{waiting-self}

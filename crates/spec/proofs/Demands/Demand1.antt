@@ -17,10 +17,13 @@ use Rattle.spec.specs.Sound.{isSound}
 use Rattle.spec.specs.Refusals.{firstMatch, refusal4, chartRefusals}
 use Rattle.spec.specs.Calls.{Outcome, openOf, reportOf, reportAnswer, charted, chartOf, chartOutput}
 use Rattle.spec.specs.Lists.{Call, chart, outcomeOf, run, Event, history, isRefused, isOpened, waitingBy, countsSince}
-use Rattle.spec.proofs.Demands.Words.{refusalsOf, FirstHolds, Ascending, Pairs, Finish, ChartFits, from, slotsOfAll, Apart}
+use Rattle.spec.proofs.Demands.Words.{refusalsOf, FirstHolds, Ascending, Pairs, Finish, ChartFits, from, slotsOfAll}
+use Rattle.spec.proofs.Demands.Words.{Apart}
 use Rattle.spec.proofs.Laws.Sound.{sound-test}
 use Rattle.spec.proofs.Laws.Accepted.{Decided, accepts, refuses, decided, chart-ready, waiting-length}
-use Rattle.spec.proofs.Calls.Refused.{acceptedOf, outcome-decided, accepted-answer, accepted-none, first-holds, first-match, first-number, numbered, length-starts, Written, untouched, written, output-written}
+use Rattle.spec.proofs.Calls.Refused.{acceptedOf, outcome-decided, accepted-answer, accepted-none, first-holds}
+use Rattle.spec.proofs.Calls.Refused.{first-match, first-number, numbered, length-starts, Written, untouched, written}
+use Rattle.spec.proofs.Calls.Refused.{output-written}
 use Rattle.spec.proofs.Calls.Keeps.{keeps, shaped-test}
 use Rattle.spec.proofs.Calls.Latest.{ready-chart, starts-latest, starts-drop, segments-slots, segments-apart}
 use Rattle.spec.proofs.Lists.Trace.{traced}

@@ -18,15 +18,18 @@ use Rattle.spec.specs.Tables.{zeroRequest, State, waiting}
 use Rattle.spec.specs.Order.{isInOrder, placeOf, removeAt}
 use Rattle.spec.specs.Chart.{isOverfull, Search, nothing, found, firstOverfull}
 use Rattle.spec.specs.Victim.{hasSmallerRatio, countsAt}
-use Rattle.spec.specs.Calls.{Outcome, newRequest, countedIn, withNew, requestAt, kept, droppedAt, victimPlace, submitted, submitOf, ticked, tickOf}
+use Rattle.spec.specs.Calls.{Outcome, newRequest, countedIn, withNew, requestAt, kept, droppedAt, victimPlace, submitted}
+use Rattle.spec.specs.Calls.{submitOf, ticked, tickOf}
 use Rattle.spec.specs.Lists.{submit, tick, outcomeOf, isRefused}
 use Rattle.spec.proofs.Demands.Words.{deadlinesOf}
 use Rattle.spec.proofs.Laws.Order.{getD-put, remove-put, order-test, InOrder, first-earliest}
 use Rattle.spec.proofs.Laws.Feasible.{overfull-test, roomy-test, Verdict, fine, over, verdict}
-use Rattle.spec.proofs.Laws.Accepted.{kept-waiting, dropped-waiting, ticked-waiting, SubmitReady, submit-ready, tick-ready}
+use Rattle.spec.proofs.Laws.Accepted.{kept-waiting, dropped-waiting, ticked-waiting, SubmitReady, submit-ready}
+use Rattle.spec.proofs.Laws.Accepted.{tick-ready}
 use Rattle.spec.proofs.Calls.Refused.{accepted-none, accepted-same}
 use Rattle.spec.proofs.Calls.Victim.{victim-place, victim-least, victim-last, counted-some}
-use Rattle.spec.proofs.Calls.Fair.{finish-feasible, feasible-finish, finish-candidate, new-ordered, finish-kept, unfinished-dropped, victim-helps, helps-exactly}
+use Rattle.spec.proofs.Calls.Fair.{finish-feasible, feasible-finish, finish-candidate, new-ordered, finish-kept}
+use Rattle.spec.proofs.Calls.Fair.{unfinished-dropped, victim-helps, helps-exactly}
 
 -- ---- submit. Among the waiting requests and the new one, in chart order, a request is named by its place j
 -- "every request can still finish"

@@ -13,7 +13,8 @@ use Rattle.slots.proofs.Plain.{largest, reached}
 use Rattle.spec.specs.Every.{exists}
 use Rattle.spec.specs.Tables.{State}
 use Rattle.spec.specs.Calls.{Outcome, openOf}
-use Rattle.spec.specs.Lists.{Call, run, Event, history, isRefused, isOpened, ticks, Booking, bookings, servedRequests, waitingRequests, windows, slotFor, ownBookings, ownPlan}
+use Rattle.spec.specs.Lists.{Call, run, Event, history, isRefused, isOpened, ticks, Booking, bookings, servedRequests}
+use Rattle.spec.specs.Lists.{waitingRequests, windows, slotFor, ownBookings, ownPlan}
 use Rattle.spec.proofs.Laws.Accepted.{waiting-length}
 use Rattle.spec.proofs.Lists.Trace.{Traced, traced-open, waiting-as-many, served-as-many, along, accepted-open}
 use Rattle.spec.proofs.Lists.Largest.{Follows, queueOf, follows-open, follows-step, own-plan, as-many-both, slots-booked}

@@ -15,10 +15,14 @@ use Rattle.spec.specs.declared.types.Request.{Request}
 use Rattle.spec.specs.declared.types.Answer.the-variants.{Refused}
 use Rattle.spec.specs.Order.{removeAt}
 use Rattle.spec.specs.Every.{isWithin}
-use Rattle.spec.specs.Tables.{mostClients, mostRecords, mostCounted, clockEnd, numberEnd, mostPeriod, mostAhead, zeroRequest, zeroCounts, State, waiting, behind, holding, nextState}
+use Rattle.spec.specs.Tables.{mostClients, mostRecords, mostCounted, clockEnd, numberEnd, mostPeriod, mostAhead}
+use Rattle.spec.specs.Tables.{zeroRequest, zeroCounts, State, waiting, behind, holding, nextState}
 use Rattle.spec.specs.Sound.{isClient, isSound}
-use Rattle.spec.specs.Refusals.{Refusal, firstMatch, isMisshapen, refusal2, refusal3, refusal4Open, refusal4, refusal5, refusal6, refusal7, refusal8, refusal9, refusal10, refusal11, refusal12, openRefusals, submitRefusals, tickRefusals, reportRefusals, chartRefusals}
-use Rattle.spec.specs.Calls.{kept, droppedAt, ticked, withNew, countedIn, requestAt, change, oneMoreDropped, oneMoreServed, countsAfter, Outcome, unlessRefused}
+use Rattle.spec.specs.Refusals.{Refusal, firstMatch, isMisshapen, refusal2, refusal3, refusal4Open, refusal4, refusal5}
+use Rattle.spec.specs.Refusals.{refusal6, refusal7, refusal8, refusal9, refusal10, refusal11, refusal12, openRefusals}
+use Rattle.spec.specs.Refusals.{submitRefusals, tickRefusals, reportRefusals, chartRefusals}
+use Rattle.spec.specs.Calls.{kept, droppedAt, ticked, withNew, countedIn, requestAt, change, oneMoreDropped}
+use Rattle.spec.specs.Calls.{oneMoreServed, countsAfter, Outcome, unlessRefused}
 use Rattle.spec.proofs.Laws.Every.{or-none}
 use Rattle.spec.proofs.Laws.Sound.{within-facts, Shaped, Sound, sound-facts}
 

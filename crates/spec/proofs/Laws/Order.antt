@@ -10,7 +10,8 @@ use Rattle.slots.proofs.Laws.Tests.{Test, holds, fails, test, Same, same-yes, s
 use Rattle.slots.proofs.Laws.Sums.{All, all-imp, total}
 use Rattle.spec.specs.declared.types.Request.{Request}
 use Rattle.spec.specs.Order.{comesBefore, isInOrder, placeOf, insertAt, putInOrder, removeAt}
-use Rattle.spec.proofs.Laws.Every.{and-left, and-right, and-both, total-insert, all-insert, all-remove, length-insert, getD-insert, remove-insert}
+use Rattle.spec.proofs.Laws.Every.{and-left, and-right, and-both, total-insert, all-insert, all-remove, length-insert}
+use Rattle.spec.proofs.Laws.Every.{getD-insert, remove-insert}
 
 -- ---- one request before another
 pub data Before (a b : Request) : Type 0 where

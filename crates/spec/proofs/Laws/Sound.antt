@@ -11,9 +11,11 @@ use Rattle.spec.specs.declared.types.Head.{Head}
 use Rattle.spec.specs.declared.types.Request.{Request}
 use Rattle.spec.specs.declared.types.Counts.{Counts}
 use Rattle.spec.specs.Every.{isWithin, every}
-use Rattle.spec.specs.Tables.{mostClients, mostRecords, mostCounted, clockEnd, numberEnd, mostPeriod, mostAhead, zeroRequest, zeroCounts, State, waiting, behind}
+use Rattle.spec.specs.Tables.{mostClients, mostRecords, mostCounted, clockEnd, numberEnd, mostPeriod, mostAhead}
+use Rattle.spec.specs.Tables.{zeroRequest, zeroCounts, State, waiting, behind}
 use Rattle.spec.specs.Sound.{isHeadWithin, isAhead, isGiven, isClient, isZeroRequest, waitingOf, isBalanced, isSound}
-use Rattle.spec.proofs.Laws.Every.{and-left, and-right, and-both, every-facts, every-test, everyFrom-facts, everyFrom-test}
+use Rattle.spec.proofs.Laws.Every.{and-left, and-right, and-both, every-facts, every-test, everyFrom-facts}
+use Rattle.spec.proofs.Laws.Every.{everyFrom-test}
 use Rattle.spec.proofs.Laws.Order.{InOrder, order-facts, order-test}
 use Rattle.spec.proofs.Laws.Feasible.{Feasible, feasible-facts, feasible-test}
 

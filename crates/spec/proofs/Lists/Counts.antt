@@ -16,13 +16,18 @@ use Rattle.spec.specs.declared.types.Answer.the-variants.{Served, Idle}
 use Rattle.spec.specs.Every.{toNumber, exists, countIf, mapFrom}
 use Rattle.spec.specs.Tables.{zeroCounts, State, waiting, nextState}
 use Rattle.spec.specs.Sound.{waitingOf}
-use Rattle.spec.specs.Calls.{Outcome, openOf, opened, change, oneMoreSubmitted, oneMoreServed, oneMoreDropped, isPeriodStart, restarted, countsAfter, oneLater, kept, droppedAt, submitted, ticked, reported, reportOf, reportAnswer, victimPlace, requestAt}
-use Rattle.spec.specs.Lists.{Call, submit, tick, report, outcomeOf, run, history, Event, isRefused, isOpened, isTick, ticks, Asked, Victim, waitingRequests, waitingBy, submitters, servedClients, victimClients, startsPeriod, sinceStart, countsSince}
+use Rattle.spec.specs.Calls.{Outcome, openOf, opened, change, oneMoreSubmitted, oneMoreServed, oneMoreDropped}
+use Rattle.spec.specs.Calls.{isPeriodStart, restarted, countsAfter, oneLater, kept, droppedAt, submitted, ticked}
+use Rattle.spec.specs.Calls.{reported, reportOf, reportAnswer, victimPlace, requestAt}
+use Rattle.spec.specs.Lists.{Call, submit, tick, report, outcomeOf, run, history, Event, isRefused, isOpened, isTick}
+use Rattle.spec.specs.Lists.{ticks, Asked, Victim, waitingRequests, waitingBy, submitters, servedClients, victimClients}
+use Rattle.spec.specs.Lists.{startsPeriod, sinceStart, countsSince}
 use Rattle.spec.proofs.Laws.Clients.{length-change, getD-change, counts-path}
 use Rattle.spec.proofs.Laws.Every.{count-total, length-mapFrom, getD-mapFrom}
 use Rattle.spec.proofs.Laws.Accepted.{next-waiting, ReportReady, report-ready}
 use Rattle.spec.proofs.Calls.Refused.{accepted-none, accepted-same}
-use Rattle.spec.proofs.Lists.Trace.{Traced, event, Submitted, keeps, drops, submitted-cases, Step, submits, serves, passes, traced-open, traced-step, along, accepted-open}
+use Rattle.spec.proofs.Lists.Trace.{Traced, event, Submitted, keeps, drops, submitted-cases, Step, submits, serves}
+use Rattle.spec.proofs.Lists.Trace.{passes, traced-open, traced-step, along, accepted-open}
 
 -- ---- what one event adds
 abbrev adding : ℕ → ℕ → ℕ → Counts → Counts

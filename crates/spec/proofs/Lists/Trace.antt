@@ -10,7 +10,8 @@ use borrow.Author.Tests.{eq-eqb, ne-eqb}
 use lib.Dec.{eqb}
 use lib.ListN.{length, getD}
 use Rattle.slots.proofs.Laws.Tests.{Same, same-yes, same-no, same}
-use Rattle.slots.proofs.Laws.Sums.{one, one-yes, one-no, one-most, All, all-each, all-imp, total, total-le, total-zero, total-map, total-one, total-cons}
+use Rattle.slots.proofs.Laws.Sums.{one, one-yes, one-no, one-most, All, all-each, all-imp, total, total-le, total-zero}
+use Rattle.slots.proofs.Laws.Sums.{total-map, total-one, total-cons}
 use Rattle.spec.specs.declared.types.Request.{Request}
 use Rattle.spec.specs.declared.types.Answer.{Answer}
 use Rattle.spec.specs.declared.types.Answer.the-variants.{Refused}
@@ -19,13 +20,18 @@ use Rattle.spec.specs.Tables.{zeroRequest, State, waiting, nextState}
 use Rattle.spec.specs.Order.{removeAt}
 use Rattle.spec.specs.Chart.{hasNoOverfull}
 use Rattle.spec.specs.Refusals.{firstMatch}
-use Rattle.spec.specs.Calls.{Outcome, opened, openOf, submitted, kept, droppedAt, withNew, newRequest, requestAt, victimPlace, ticked, reported, charted}
-use Rattle.spec.specs.Lists.{Call, opening, submit, tick, report, chart, outcomeOf, run, Event, history, isRefused, isOpened, isTick, ticks, Asked, askedBy, asked, Booking, servedIn, bookings, Victim, victimBy, victims, servedRequests, waitingRequests}
+use Rattle.spec.specs.Calls.{Outcome, opened, openOf, submitted, kept, droppedAt, withNew, newRequest, requestAt}
+use Rattle.spec.specs.Calls.{victimPlace, ticked, reported, charted}
+use Rattle.spec.specs.Lists.{Call, opening, submit, tick, report, chart, outcomeOf, run, Event, history, isRefused}
+use Rattle.spec.specs.Lists.{isOpened, isTick, ticks, Asked, askedBy, asked, Booking, servedIn, bookings, Victim}
+use Rattle.spec.specs.Lists.{victimBy, victims, servedRequests, waitingRequests}
 use Rattle.spec.proofs.Demands.Words.{refusalsOf}
-use Rattle.spec.proofs.Laws.Every.{total-same, total-add, total-select, exists-none, or-none, all-at, Value, is-true, is-false, value, cond-true, cond-false, total-remove}
+use Rattle.spec.proofs.Laws.Every.{total-same, total-add, total-select, exists-none, or-none, all-at, Value, is-true}
+use Rattle.spec.proofs.Laws.Every.{is-false, value, cond-true, cond-false, total-remove}
 use Rattle.spec.proofs.Laws.Order.{total-put, all-put}
 use Rattle.spec.proofs.Laws.Sound.{Given}
-use Rattle.spec.proofs.Laws.Accepted.{kept-waiting, dropped-waiting, ticked-waiting, Ready, OpenReady, SubmitReady, TickReady, open-ready, submit-ready, tick-ready, Decided, accepts, refuses}
+use Rattle.spec.proofs.Laws.Accepted.{kept-waiting, dropped-waiting, ticked-waiting, Ready, OpenReady, SubmitReady}
+use Rattle.spec.proofs.Laws.Accepted.{TickReady, open-ready, submit-ready, tick-ready, Decided, accepts, refuses}
 use Rattle.spec.proofs.Calls.Refused.{acceptedOf, outcome-decided, accepted-none, accepted-same}
 use Rattle.spec.proofs.Calls.Keeps.{open-keeps, submit-keeps, tick-keeps}
 use Rattle.spec.proofs.Calls.Victim.{victim-place}
