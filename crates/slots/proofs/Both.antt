@@ -76,7 +76,12 @@ module _ (heads : ℕ → ℕ) where
     heads-all : (x : ℕ) → total (sits x) (bookings q) ≤ heads x
     heads-all x =
         elim (order (q .clock) x) [
-          | le h ↦ omega (arith, sum, log-none x (q .clock) (q .asked) (q .log) (B .own .served) h, rank-heads heads (q .clock) x lo ws s f)
+          | le h ↦ omega (
+            arith,
+            sum,
+            log-none x (q .clock) (q .asked) (q .log) (B .own .served) h,
+            rank-heads heads (q .clock) x lo ws s f,
+          )
           | gt h ↦ omega (arith, sum, B .own .spread x, rank-none heads (q .clock) x lo ws s f h)
         ]
       where

@@ -160,7 +160,13 @@ placing-room t ds P f d e D =
     elim (order t D) [
       | le h ↦ opens-fits (total (dueBy D) ds) t D
           (placed-feasible capacity t ds P (record { fits = f; slots = distinct-slots P d }) e D h)
-      | gt h ↦ omega (arith, due-below t D ds P f, none-before t ds P f, below-mono D t P (omega arith), room-back t D (omega arith))
+      | gt h ↦ omega (
+        arith,
+        due-below t D ds P f,
+        none-before t ds P f,
+        below-mono D t P (omega arith),
+        room-back t D (omega arith),
+      )
     ]
 
 -- and where there is room, the chart places all

@@ -99,7 +99,13 @@ module _ (heads : ℕ → ℕ) where
       ripe =
           elim (order full t) [
             | le h ↦
-                absurd (omega (arith, S .sums (due t), due-yes t victim (after picked h), due-no t e late, I .feasible t (omega arith)))
+                absurd (omega (
+                  arith,
+                  S .sums (due t),
+                  due-yes t victim (after picked h),
+                  due-no t e late,
+                  I .feasible t (omega arith),
+                ))
             | gt h ↦ h
           ]
 

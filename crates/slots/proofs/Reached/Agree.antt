@@ -30,14 +30,18 @@ unfolding total
 unique-booked [] u = tt
 unique-booked (b ∷ bs) u = (
   lookup-yes (b .number) b bs refl,
-  booked-on b bs bs (omega (arith, u (b .number), one-yes (b .number) (b .number) refl)) (unique-booked bs (λ i. omega (arith, u i))),
+  booked-on b bs bs (omega (arith, u (b .number), one-yes (b .number) (b .number) refl)) (unique-booked bs (λ i. omega (
+    arith,
+    u i,
+  ))),
 )
 
 -- in the plan for n requests, the last first, k stand before the booking's
 abbrev pub InPlan : ℕ → List Booking → Booking → Type 0
 InPlan n bs b = (k : ℕ) → b .number + k ≡ n → getD (book n bs) k none ≡ at (b .slot)
 
-booked-planned : (n : ℕ) (bs cs : List Booking) → All (Booked bs) cs → All (λ (b : Booking). Known n (b .number)) cs → All (InPlan n bs) cs
+booked-planned : (n : ℕ) (bs cs : List Booking) → All (Booked bs) cs → All (λ (b : Booking). Known n (b .number)) cs
+    → All (InPlan n bs) cs
 booked-planned n bs [] a k = tt
 booked-planned n bs (c ∷ cs) a k =
     (λ j e. book-at n (c .number) j bs (k .0 .0) e ∙ a .0, booked-planned n bs cs (a .1) (k .1))

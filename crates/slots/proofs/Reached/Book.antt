@@ -149,7 +149,8 @@ fits-cons : (r : Window) (R : List Window) (x : Slot) (P : List Slot) → Suits 
 fits-cons r R none P s f = f
 fits-cons r R (at u) P s f = (omega arith, omega arith, f)
 
-fits-all : (R : List Window) (bs : List Booking) → ((i : ℕ) → i ≤ length R → Suits (req i R) (lookup i bs)) → Fits R (book (length R) bs)
+fits-all : (R : List Window) (bs : List Booking) → ((i : ℕ) → i ≤ length R → Suits (req i R) (lookup i bs))
+    → Fits R (book (length R) bs)
 fits-all [] bs f = tt
 fits-all (r ∷ R) bs f =
     fits-cons r R (lookup (suc (length R)) bs) (book (length R) bs) (rw (req-new r R) at (f (suc (length R)) (omega arith)))

@@ -148,7 +148,13 @@ module _ (heads : ℕ → ℕ) where
 
       go : (c : Bool) → Same x t c → total (sits x) (serve t ws bs) ≤ heads x
       go true (same-yes e) =
-          omega (arith, total-serve (sits x) t ws bs, log-none x t R bs a (omega arith), total-one here ws (λ w. one-yes x t e), ap heads e)
+          omega (
+            arith,
+            total-serve (sits x) t ws bs,
+            log-none x t R bs a (omega arith),
+            total-one here ws (λ w. one-yes x t e),
+            ap heads e,
+          )
       go false (same-no n) =
           omega
           (arith, total-serve (sits x) t ws bs, f x, total-zero here ws (all-each (λ (w : Entry). here w ≡ 0) ws (λ w. one-no x t n)))

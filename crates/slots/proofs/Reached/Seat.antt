@@ -61,7 +61,8 @@ module _ (heads : ℕ → ℕ) where
     abbrev pub Roomy : ℕ → ℕ → List Entry → Type 0
     Roomy n lo ws = (x : ℕ) → lo ≤ x → n + upto x ws + opens heads t ≤ opens heads x
 
-    roomy-next : (n lo : ℕ) (w : Entry) (ws : List Entry) → Sorted lo (w ∷ ws) → Roomy n lo (w ∷ ws) → Roomy (suc n) (w .deadline) ws
+    roomy-next : (n lo : ℕ) (w : Entry) (ws : List Entry) → Sorted lo (w ∷ ws) → Roomy n lo (w ∷ ws)
+        → Roomy (suc n) (w .deadline) ws
     unfolding total
     roomy-next n lo w ws s f x h = omega (arith, s .0, f x (omega (arith, s .0)), due-yes x w h)
 

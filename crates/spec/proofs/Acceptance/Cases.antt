@@ -60,10 +60,12 @@ cases =
     ∷ case (fresh 1 8) (submit 0 65535 ∷ []) (Kept 1 0 ∷ []) (65534 ∷ []) (segment 65534 65535 ∷ [])
     ∷ case (fresh 1 8) (submit 0 65536 ∷ []) (Refused 7 ∷ []) [] []
     -- "the third submit above."
-    ∷ case (fresh 2 8) (submit 0 1 ∷ submit 1 2 ∷ submit 1 1 ∷ []) (Kept 1 0 ∷ Kept 2 1 ∷ Dropped 3 3 1 ∷ []) (0 ∷ 1 ∷ []) (segment 0 2 ∷ [])
+    ∷ case (fresh 2 8) (submit 0 1 ∷ submit 1 2 ∷ submit 1 1 ∷ []) (Kept 1 0 ∷ Kept 2 1 ∷ Dropped 3 3 1 ∷ [])
+    (0 ∷ 1 ∷ []) (segment 0 2 ∷ [])
     -- "deadlines 2, 2, 2 from clients 0, 0, 1: the third is dropped."
-    ∷ case (fresh 2 8) (submit 0 2 ∷ submit 0 2 ∷ submit 1 2 ∷ []) (Kept 1 0 ∷ Kept 2 1 ∷ Dropped 3 3 1 ∷ []) (0 ∷ 1 ∷ []) (segment 0 2 ∷ [])
-    -- "candidates of clients at 1 of 4 and 1 of 2: the first client loses." The new request is the fourth, or the second, of its client
+    ∷ case (fresh 2 8) (submit 0 2 ∷ submit 0 2 ∷ submit 1 2 ∷ []) (Kept 1 0 ∷ Kept 2 1 ∷ Dropped 3 3 1 ∷ [])
+    (0 ∷ 1 ∷ []) (segment 0 2 ∷ [])
+    -- "candidates of clients at 1 of 4 and 1 of 2: the first client loses.", whichever of the two sends the new request
     ∷ case (rivals 0 5 (counts 4 2 1) (counts 1 0 1)) (submit 1 1 ∷ []) (Dropped 6 5 0 ∷ []) (0 ∷ []) (segment 0 1 ∷ [])
     ∷ case (rivals 1 5 (counts 3 2 1) (counts 2 0 1)) (submit 0 1 ∷ []) (Dropped 6 6 0 ∷ []) (0 ∷ []) (segment 0 1 ∷ [])
     -- "1 of 3 against 2 of 6 is a tie.": the last in chart order is dropped, whichever client it is of

@@ -1,4 +1,4 @@
--- The definitions of the calls, to be computed: `unfolding calls` opens all of them. Assumes nothing.
+-- The definitions to be computed, chapter by chapter: `unfolding calls` opens all that the calls need. Assumes nothing.
 use Rattle.slots.specs.Room.{room}
 use Rattle.spec.specs.Every.{every, everyFrom, countIf, mapFrom}
 use Rattle.spec.specs.Tables.{nextState}
@@ -8,8 +8,24 @@ use Rattle.spec.specs.Victim.{isCandidate, candidatesFrom, hasSmallerRat
 use Rattle.spec.specs.Sound.{isHeadWithin, isZeroRequest, waitingOf, isBalanced, isSound}
 use Rattle.spec.specs.Refusals.{firstMatch, openRefusals, submitRefusals, tickRefusals, reportRefusals, chartRefusals}
 use Rattle.spec.specs.Calls.{openOf, opened, change, kept, droppedAt, submitted, submitOf, ticked, tickOf, reported}
-use Rattle.spec.specs.Calls.{reportOf, charted, chartOf, chartOutput}
+use Rattle.spec.specs.Calls.{reportOf, charted, chartOf}
+
+unfoldable pub charts : Unit {0}
+unfolding room every countIf startsOf segmentsOf dueBy isOverfull hasNoOverfull
+charts = tt
+
+unfoldable pub victims : Unit {0}
+unfolding charts comesBefore placeOf putInOrder removeAt isCandidate candidatesFrom hasSmallerRatio smallestOf victimOf
+victims = tt
+
+unfoldable pub refusals : Unit {0}
+unfolding charts everyFrom comesBefore isInOrder isHeadWithin isZeroRequest waitingOf isBalanced isSound firstMatch tickRefusals
+refusals = tt
+
+unfoldable pub submits : Unit {0}
+unfolding victims refusals submitRefusals change nextState kept droppedAt submitted submitOf
+submits = tt
 
 unfoldable pub calls : Unit {0}
-unfolding room every everyFrom countIf mapFrom comesBefore isInOrder placeOf putInOrder removeAt startsOf segmentsOf dueBy isOverfull hasNoOverfull isCandidate candidatesFrom hasSmallerRatio smallestOf victimOf isHeadWithin isZeroRequest waitingOf isBalanced isSound firstMatch openRefusals submitRefusals tickRefusals reportRefusals chartRefusals openOf opened change nextState kept droppedAt submitted submitOf ticked tickOf reported reportOf charted chartOf chartOutput
+unfolding submits mapFrom openRefusals opened openOf ticked tickOf reportRefusals reported reportOf chartRefusals charted chartOf
 calls = tt

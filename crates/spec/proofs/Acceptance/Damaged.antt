@@ -9,7 +9,7 @@ use Rattle.spec.specs.declared.types.Request.{Request}
 use Rattle.spec.specs.declared.types.Counts.{Counts}
 use Rattle.spec.specs.Tables.{zeroRequest, zeroCounts, State, holding}
 use Rattle.spec.specs.Refusals.{firstMatch, tickRefusals}
-use Rattle.spec.proofs.Acceptance.Computed.{calls}
+use Rattle.spec.proofs.Acceptance.Computed.{refusals}
 
 -- a state, and the number that refuses a tick on it, 0 where none does
 pub record Damage : Type 0 where
@@ -100,5 +100,5 @@ damages =
     ∷ []
 
 pub damaged-tables : map (λ (d : Damage). firstMatch (tickRefusals (d .state))) damages ≡ map (λ (d : Damage). d .number) damages
-unfolding calls
+unfolding refusals
 damaged-tables = refl

@@ -8,6 +8,7 @@ use mathlib.Core.List.{List, [], _∷_, map}
 use Rattle.spec.specs.Frames.{digitOf, characterOf, numberFrom, digits, frameWith, frameOf, kindOf, valuesOf, fieldDigits}
 use Rattle.spec.specs.Frames.{lineOf, segmentLines}
 use Rattle.spec.specs.Session.{textOf, atStart, reply, replies, session}
+use Rattle.spec.specs.Calls.{chartOutput}
 use Rattle.spec.proofs.Acceptance.Computed.{calls}
 
 -- an input's lines, what stands behind its last line feed, and the lines of the output
@@ -64,16 +65,29 @@ dialogues =
     -- "Empty input prints nothing."
     ∷ dialogue [] "" []
     -- "An empty line, an unknown kind, a wrong length, or a last line without its line feed gets refusal 1."
-    ∷ dialogue ("" ∷ "06" ∷ "81" ∷ "0300" ∷ "04" ∷ "0" ∷ "030" ∷ []) "03" ("FF01" ∷ "FF01" ∷ "FF01" ∷ "FF01" ∷ "FF01" ∷ "FF01" ∷ "FF01" ∷ "FF01" ∷ [])
+    ∷ dialogue ("" ∷ "06" ∷ "81" ∷ "0300" ∷ "04" ∷ "0" ∷ "030" ∷ []) "03"
+    ("FF01" ∷ "FF01" ∷ "FF01" ∷ "FF01" ∷ "FF01" ∷ "FF01" ∷ "FF01" ∷ "FF01" ∷ [])
     -- "pairs of upper-case hexadecimal digits"
-    ∷ dialogue ("0a" ∷ " 03" ∷ "03 " ∷ "0G" ∷ "01000100000f640008" ∷ []) "" ("FF01" ∷ "FF01" ∷ "FF01" ∷ "FF01" ∷ "FF01" ∷ [])
+    ∷ dialogue ("0a" ∷ " 03" ∷ "03 " ∷ "03\r" ∷ "0G" ∷ "01000100000f640008" ∷ []) ""
+    ("FF01" ∷ "FF01" ∷ "FF01" ∷ "FF01" ∷ "FF01" ∷ "FF01" ∷ [])
     -- "A line with more digits than the longest frame whose values are in bounds is read past and gets one refusal 1."
-    ∷ dialogue ("02000000000000000000010" ∷ "020000000000000000000100" ∷ "0000000000000000000000000000000000000000000000000000000000000000" ∷ []) ""
+    ∷ dialogue
+    ("02000000000000000000010" ∷ "020000000000000000000100" ∷ "0000000000000000000000000000000000000000000000000000" ∷ []) ""
     ("FF01" ∷ "FF01" ∷ "FF01" ∷ [])
     -- "Before an accepted open the two tables have no records, so frames 02 to 05 meet refusal 4."
     ∷ dialogue ("0200000000000000000001" ∷ "03" ∷ "040000" ∷ "05" ∷ []) "" ("FF04" ∷ "FF04" ∷ "FF04" ∷ "FF04" ∷ [])
     -- refusals 2, 3 and 4 of open, "an open naming more waiting records gets refusal 4 in its place"
-    ∷ dialogue ("010000000000640008" ∷ "010101000000640008" ∷ "010001000000000008" ∷ "010001000000640000" ∷ "010001000000640801" ∷ "010000000000000801" ∷ []) ""
+    ∷ dialogue
+    (
+    "010000000000640008"
+    ∷ "010101000000640008"
+    ∷ "010001000000000008"
+    ∷ "010001000000640000"
+    ∷ "010001000000640801"
+    ∷ "010000000000000801"
+    ∷ []
+    )
+    ""
     ("FF02" ∷ "FF02" ∷ "FF03" ∷ "FF04" ∷ "FF04" ∷ "FF02" ∷ [])
     -- a refused open leaves the session as it was; "An accepted open starts a new session."
     ∷ dialogue
@@ -134,6 +148,10 @@ dialogues =
     )
     ∷ []
 
+unfoldable frames : Unit {0}
+unfolding digits characterOf digitOf numberFrom frameWith frameOf kindOf valuesOf fieldDigits lineOf segmentLines
+frames = tt
+
 pub worked-sessions : map given dialogues ≡ map said dialogues
-unfolding calls digits characterOf digitOf numberFrom frameWith frameOf kindOf valuesOf fieldDigits lineOf segmentLines textOf atStart reply replies session
+unfolding calls chartOutput frames textOf atStart reply replies session
 worked-sessions = refl

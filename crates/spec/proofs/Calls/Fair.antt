@@ -128,7 +128,12 @@ module _ (client deadline : ℕ) (s : State) (r : SubmitReady client deadline s)
       early f =
           elim (order (w .deadline) D) [
             | le k ↦ k
-            | gt k ↦ absurd (omega (arith, dueBy-remove D j zeroRequest all i, due-no D w k, finish-feasible clock (removeAt j all) f D))
+            | gt k ↦ absurd (omega (
+              arith,
+              dueBy-remove D j zeroRequest all i,
+              due-no D w k,
+              finish-feasible clock (removeAt j all) f D,
+            ))
           ]
 
       late : w .deadline ≤ D → CanAllFinish clock (deadlinesOf (removeAt j all))

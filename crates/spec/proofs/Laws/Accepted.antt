@@ -34,12 +34,14 @@ pub data Decided (rs : List Refusal) (s : State) (o : Outcome) : Outcome → Typ
 pub decided : (rs : List Refusal) (s : State) (o : Outcome) → Decided rs s o (unlessRefused rs s o)
 decided rs s o = go (eqb (firstMatch rs) 0) (same (firstMatch rs) 0)
   where
-    go : (x : Bool) → Same (firstMatch rs) 0 x → Decided rs s o (cond x o (record { answer = Refused (firstMatch rs); after = s }))
+    go : (x : Bool) → Same (firstMatch rs) 0 x
+        → Decided rs s o (cond x o (record { answer = Refused (firstMatch rs); after = s }))
     go true (same-yes e) = accepts e
     go false (same-no e) = refuses e
 
 -- none matches: the first does not hold, and none of the rest matches
-pub none-match : (r : Refusal) (rs : List Refusal) → r .number ≢ 0 → firstMatch (r ∷ rs) ≡ 0 → (r .holds ≡ false) × (firstMatch rs ≡ 0)
+pub none-match : (r : Refusal) (rs : List Refusal) → r .number ≢ 0 → firstMatch (r ∷ rs) ≡ 0
+    → (r .holds ≡ false) × (firstMatch rs ≡ 0)
 unfolding firstMatch
 none-match r rs n e = go (r .holds) e
   where
@@ -115,7 +117,8 @@ pub record SubmitReady (client deadline : ℕ) (s : State) : Type 0 where
   pub numbered : s .head .last ≢ numberEnd
   pub free : s .head .waiting ≢ length (s .waitingTable)
 
-pub submit-ready : (client deadline : ℕ) (s : State) → firstMatch (submitRefusals client deadline s) ≡ 0 → SubmitReady client deadline s
+pub submit-ready : (client deadline : ℕ) (s : State) → firstMatch (submitRefusals client deadline s) ≡ 0
+    → SubmitReady client deadline s
 unfolding submitRefusals
 submit-ready client deadline s e =
     let a = ready s (refusal6 client s ∷ refusal7 deadline s ∷ refusal8 client s ∷ refusal9 s ∷ refusal10 s ∷ []) e in
@@ -191,11 +194,15 @@ module _ (clock last : ℕ) (ws : List Request) (cs : List Counts) (s : State) w
   unfolding nextState
   next-behind = drop-append-seam ws (replicate (length (s .waitingTable) - length ws) zeroRequest)
 
-  pub next-length : length ws ≤ length (s .waitingTable) → length (nextState clock last ws cs s .waitingTable) ≡ length (s .waitingTable)
+  pub next-length : length ws ≤ length (s .waitingTable)
+      → length (nextState clock last ws cs s .waitingTable) ≡ length (s .waitingTable)
   unfolding nextState
   next-length h =
-      omega
-      (arith, length-append ws (replicate (length (s .waitingTable) - length ws) zeroRequest), length-replicate (length (s .waitingTable) - length ws) zeroRequest)
+      omega (
+        arith,
+        length-append ws (replicate (length (s .waitingTable) - length ws) zeroRequest),
+        length-replicate (length (s .waitingTable) - length ws) zeroRequest,
+      )
 
 -- what waits then
 pub kept-waiting : (client deadline : ℕ) (s : State) → waiting (kept client deadline s .after) ≡ withNew client deadline s

@@ -48,7 +48,8 @@ waitingOf-total client ws = count-total (λ w. eqb (w .client) client) ws
 pub waitingOf-none : (client : ℕ) → waitingOf client [] ≡ 0
 waitingOf-none client = omega (arith, waitingOf-total client [], total-nil (of client))
 
-pub waitingOf-cons : (client : ℕ) (w : Request) (ws : List Request) → waitingOf client (w ∷ ws) ≡ of client w + waitingOf client ws
+pub waitingOf-cons : (client : ℕ) (w : Request) (ws : List Request)
+    → waitingOf client (w ∷ ws) ≡ of client w + waitingOf client ws
 unfolding waitingOf of countIf
 waitingOf-cons client w ws = refl
 

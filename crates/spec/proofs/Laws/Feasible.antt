@@ -63,7 +63,8 @@ dueBy-mono x y ws h = omega (arith, dueBy-total x ws, dueBy-total y ws, total-le
 pub dueBy-put : (D : ℕ) (r : Request) (ws : List Request) → dueBy D (putInOrder r ws) ≡ due D r + dueBy D ws
 dueBy-put D r ws = omega (arith, dueBy-total D (putInOrder r ws), dueBy-total D ws, total-put (due D) r ws)
 
-pub dueBy-remove : (D k : ℕ) (z : Request) (ws : List Request) → k < length ws → dueBy D ws ≡ due D (getD ws k z) + dueBy D (removeAt k ws)
+pub dueBy-remove : (D k : ℕ) (z : Request) (ws : List Request) → k < length ws
+    → dueBy D ws ≡ due D (getD ws k z) + dueBy D (removeAt k ws)
 dueBy-remove D k z ws h = omega (arith, dueBy-total D (removeAt k ws), dueBy-total D ws, total-remove (due D) k z ws h)
 
 -- none is due before the first in order
@@ -113,23 +114,43 @@ last p D (w ∷ ws) a = go (last p D ws (a .1))
     go : Last p D ws → Last p D (w ∷ ws)
     go (none-due h) =
         elim (order (w .deadline) D) [
-          | le g ↦ last-due w (a .0) g (omega (arith, dueBy-cons D w ws, dueBy-cons (w .deadline) w ws, due-most D w, due-yes (w .deadline) w (omega arith)))
+          | le g ↦ last-due w (a .0) g (omega (
+            arith,
+            dueBy-cons D w ws,
+            dueBy-cons (w .deadline) w ws,
+            due-most D w,
+            due-yes (w .deadline) w (omega arith),
+          ))
           | gt g ↦ none-due (omega (arith, dueBy-cons D w ws, due-no D w g))
         ]
     go (last-due v q l h) =
         elim (order (w .deadline) D) [
           | le g ↦
               elim (order (w .deadline) (v .deadline)) [
-                | le k ↦ last-due v q l (omega (arith, dueBy-cons D w ws, dueBy-cons (v .deadline) w ws, due-most D w, due-yes (v .deadline) w k))
+                | le k ↦ last-due v q l (omega (
+                  arith,
+                  dueBy-cons D w ws,
+                  dueBy-cons (v .deadline) w ws,
+                  due-most D w,
+                  due-yes (v .deadline) w k,
+                ))
                 | gt k ↦
                     last-due w (a .0) g
-                    (omega (arith, dueBy-cons D w ws, dueBy-cons (w .deadline) w ws, due-most D w, due-yes (w .deadline) w (omega arith), dueBy-mono (v .deadline) (w .deadline) ws (omega arith)))
+                    (omega (
+                      arith,
+                      dueBy-cons D w ws,
+                      dueBy-cons (w .deadline) w ws,
+                      due-most D w,
+                      due-yes (w .deadline) w (omega arith),
+                      dueBy-mono (v .deadline) (w .deadline) ws (omega arith),
+                    ))
               ]
           | gt g ↦ last-due v q l (omega (arith, dueBy-cons D w ws, dueBy-cons (v .deadline) w ws, due-no D w g))
         ]
 
 -- where the last that is due by D has room, D has
-roomy-last : (clock D : ℕ) (ws : List Request) → Last (λ (w : Request). dueBy (w .deadline) ws ≤ room clock (w .deadline)) D ws → dueBy D ws ≤ room clock D
+roomy-last : (clock D : ℕ) (ws : List Request) → Last (λ (w : Request). dueBy (w .deadline) ws ≤ room clock (w .deadline)) D ws
+    → dueBy D ws ≤ room clock D
 roomy-last clock D ws (none-due h) = omega arith
 roomy-last clock D ws (last-due w p l h) = omega (arith, room-mono clock (w .deadline) D l)
 
@@ -164,7 +185,9 @@ data Scan (clock : ℕ) (all ys : List Request) : Search → Type 0 where
 scan : (clock : ℕ) (all ys : List Request) → InOrder ys → Scan clock all ys (searchOverfull clock all ys)
 unfolding searchOverfull
 scan clock all [] o = clear tt
-scan clock all (w ∷ ys) o = go (isOverfull clock all (w .deadline)) (overfull-facts clock all (w .deadline)) (roomy-facts clock all (w .deadline)) (scan clock all ys (o .1))
+scan clock all (w ∷ ys) o =
+    go (isOverfull clock all (w .deadline)) (overfull-facts clock all (w .deadline)) (roomy-facts clock all (w .deadline))
+    (scan clock all ys (o .1))
   where
     go : (x : Bool) → (x ≡ true → room clock (w .deadline) < dueBy (w .deadline) all)
         → (x ≡ false → dueBy (w .deadline) all ≤ room clock (w .deadline)) → {f : Search} → Scan clock all ys f

@@ -113,7 +113,8 @@ place-most r (w ∷ ws) = go (comesBefore w r) (place-most r ws)
     go true h = omega arith
     go false h = omega arith
 
-pub put-cons : (r w : Request) (ws : List Request) → putInOrder r (w ∷ ws) ≡ cond (comesBefore w r) (w ∷ putInOrder r ws) (r ∷ w ∷ ws)
+pub put-cons : (r w : Request) (ws : List Request)
+    → putInOrder r (w ∷ ws) ≡ cond (comesBefore w r) (w ∷ putInOrder r ws) (r ∷ w ∷ ws)
 unfolding putInOrder placeOf
 put-cons r w ws = go (comesBefore w r)
   where
@@ -142,7 +143,8 @@ unfolding putInOrder
 remove-put r ws = remove-insert (placeOf r ws) r ws (place-most r ws)
 
 -- a request with a number that none of the others has comes before or behind each of them
-pub order-put : (r : Request) (ws : List Request) → All (λ (w : Request). w .number < r .number) ws → InOrder ws → InOrder (putInOrder r ws)
+pub order-put : (r : Request) (ws : List Request) → All (λ (w : Request). w .number < r .number) ws → InOrder ws
+    → InOrder (putInOrder r ws)
 order-put r [] a o = rw one (tt, tt)
   where
     one : putInOrder r [] ≡ r ∷ []

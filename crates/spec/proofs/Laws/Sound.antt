@@ -122,9 +122,10 @@ pub record Sound (s : State) : Type 0 where
 balanced-facts : (ws : List Request) (client : ℕ) (k : Counts) → isBalanced ws client k ≡ true → Balanced ws client k
 unfolding isBalanced
 balanced-facts ws client k e =
-    let sum = eqb (k .submitted) (k .served + k .dropped + waitingOf client ws) in
-    let most = leb (k .submitted) mostCounted in
-    (eqb-true (k .submitted) (k .served + k .dropped + waitingOf client ws) (and-left sum most e), leb-true (k .submitted) mostCounted (and-right sum most e))
+    let p = simp and-eq-true-iff at e in (
+      eqb-true (k .submitted) (k .served + k .dropped + waitingOf client ws) (p .0),
+      leb-true (k .submitted) mostCounted (p .1),
+    )
 
 balanced-test : (ws : List Request) (client : ℕ) (k : Counts) → Balanced ws client k → isBalanced ws client k ≡ true
 unfolding isBalanced

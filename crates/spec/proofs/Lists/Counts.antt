@@ -17,8 +17,8 @@ use Rattle.spec.specs.Every.{toNumber, exists, countIf, mapFrom}
 use Rattle.spec.specs.Tables.{zeroCounts, State, waiting, nextState}
 use Rattle.spec.specs.Sound.{waitingOf}
 use Rattle.spec.specs.Calls.{Outcome, openOf, opened, change, oneMoreSubmitted, oneMoreServed, oneMoreDropped}
-use Rattle.spec.specs.Calls.{isPeriodStart, restarted, countsAfter, oneLater, kept, droppedAt, submitted, ticked}
-use Rattle.spec.specs.Calls.{reported, reportOf, reportAnswer, victimPlace, requestAt}
+use Rattle.spec.specs.Calls.{isPeriodStart, restarted, oneLater, kept, droppedAt, submitted, ticked, reported, reportOf}
+use Rattle.spec.specs.Calls.{reportAnswer, victimPlace, requestAt}
 use Rattle.spec.specs.Lists.{Call, submit, tick, report, outcomeOf, run, history, Event, isRefused, isOpened, isTick}
 use Rattle.spec.specs.Lists.{ticks, Asked, Victim, waitingRequests, waitingBy, submitters, servedClients, victimClients}
 use Rattle.spec.specs.Lists.{startsPeriod, sinceStart, countsSince}
@@ -26,7 +26,7 @@ use Rattle.spec.proofs.Laws.Clients.{length-change, getD-change, counts
 use Rattle.spec.proofs.Laws.Every.{count-total, length-mapFrom, getD-mapFrom}
 use Rattle.spec.proofs.Laws.Accepted.{next-waiting, ReportReady, report-ready}
 use Rattle.spec.proofs.Calls.Refused.{accepted-none, accepted-same}
-use Rattle.spec.proofs.Lists.Trace.{Traced, event, Submitted, keeps, drops, submitted-cases, Step, submits, serves}
+use Rattle.spec.proofs.Lists.Trace.{Then, Traced, event, Submitted, keeps, drops, submitted-cases, Step, submits, serves}
 use Rattle.spec.proofs.Lists.Trace.{passes, traced-open, traced-step, along, accepted-open}
 
 -- ---- what one event adds
@@ -37,14 +37,16 @@ adding-none : (k : Counts) → adding 0 0 0 k ≡ k
 adding-none k =
     counts-path (adding 0 0 0 k) k (zero-add (k .submitted)) (zero-add (k .served)) (zero-add (k .dropped))
 
--- where no period starts, an event adds one for each time that it names the client
+-- what an event adds to a client's counts: one for each time that it names the client
+abbrev addedBy : ℕ → Event → Counts → Counts
+addedBy c e = adding (countIf (eqb c) (submitters e)) (countIf (eqb c) (servedClients e)) (countIf (eqb c) (victimClients e))
+
+-- where no period starts
 since-adds : (period c : ℕ) (e : Event) (es : List Event) → startsPeriod period e es ≡ false
-    → countsSince period c (e ∷ es)
-    ≡ adding (countIf (eqb c) (submitters e)) (countIf (eqb c) (servedClients e)) (countIf (eqb c) (victimClients e)) (countsSince period c es)
+    → countsSince period c (e ∷ es) ≡ addedBy c e (countsSince period c es)
 unfolding countsSince sinceStart
 since-adds period c e es h =
-    counts-path (countsSince period c (e ∷ es))
-    (adding (countIf (eqb c) (submitters e)) (countIf (eqb c) (servedClients e)) (countIf (eqb c) (victimClients e)) (countsSince period c es))
+    counts-path (countsSince period c (e ∷ es)) (addedBy c e (countsSince period c es))
     (later (waitingBy c) submitters) (later (λ _. 0) servedClients) (later (λ _. 0) victimClients)
   where
     later : (atStart : List Event → ℕ) (names : Event → List ℕ)
@@ -116,7 +118,7 @@ module _ (period : ℕ) (es : List Event) (s : State) (C : Counted period es s) 
   counted-same e t p q =
       record {
         period-is = C .period-is;
-        counts-are = λ c h. C .counts-are c h ∙ sym (since-adds period c e es none-starts ∙ rw (p, served, q, named-none c) (adding-none (countsSince period c es)));
+        counts-are = λ c h. C .counts-are c h ∙ sym (since-adds period c e es none-starts ∙ none c);
       }
     where
       none-starts : startsPeriod period e es ≡ false
@@ -125,9 +127,11 @@ module _ (period : ℕ) (es : List Event) (s : State) (C : Counted period es s) 
       served : servedClients e ≡ []
       served = rw t
 
+      none : (c : ℕ) → addedBy c e (countsSince period c es) ≡ countsSince period c es
+      none c = rw (p, served, q, named-none c) (adding-none (countsSince period c es))
+
   -- ---- submit
-  counted-kept : (client deadline : ℕ)
-      → Counted period (event (submit client deadline) (kept client deadline s .answer) ∷ es) (kept client deadline s .after)
+  counted-kept : (client deadline : ℕ) → Then (Counted period) (submit client deadline) (kept client deadline s) es
   unfolding kept nextState
   counted-kept client deadline =
       record {
@@ -147,13 +151,17 @@ module _ (period : ℕ) (es : List Event) (s : State) (C : Counted period es s) 
           ∙ sym (since-adds period c e es refl ∙ rw (named-one c client, named-none c))
 
   counted-dropped : (k client deadline : ℕ)
-      → Counted period (event (submit client deadline) (droppedAt k client deadline s .answer) ∷ es) (droppedAt k client deadline s .after)
+      → Then (Counted period) (submit client deadline) (droppedAt k client deadline s) es
   unfolding droppedAt nextState
   counted-dropped k client deadline =
       record {
         period-is = C .period-is;
         counts-are =
-            λ c h. table c (omega (arith, length-change oneMoreDropped (v .client) counted, length-change oneMoreSubmitted client (s .clientTable)));
+            λ c h. table c (omega (
+              arith,
+              length-change oneMoreDropped (v .client) counted,
+              length-change oneMoreSubmitted client (s .clientTable),
+            ));
       }
     where
       e : Event
@@ -182,63 +190,69 @@ module _ (period : ℕ) (es : List Event) (s : State) (C : Counted period es s) 
 
   -- ---- tick
   -- the state one slot later, where cs counts what the tick served
-  module _ (ws : List Request) (cs : List Counts) (a : Answer) (accepted : isRefused a ≡ false) (clock-is : s .head .clock ≡ ticks es) where
-    starts-same : isPeriodStart (s .head .period) (suc (s .head .clock)) ≡ startsPeriod period (event tick a) es
+  module _ (ws : List Request) (cs : List Counts) (a : Answer) (accepted : isRefused a ≡ false)
+      (clock-is : s .head .clock ≡ ticks es) where
+    abbrev begins : Bool
+    begins = isPeriodStart (s .head .period) (suc (s .head .clock))
+
+    starts-same : begins ≡ startsPeriod period (event tick a) es
     unfolding ticks countIf
     starts-same = rw (accepted, C .period-is, later)
       where
         later : suc (s .head .clock) ≡ 1 + ticks es
         later = omega arith
 
-    counted-later : Traced (event tick a ∷ es) (oneLater ws cs s) → victimClients (event tick a) ≡ []
-        → ((c : ℕ) → c < length cs → getD cs c zeroCounts ≡ adding 0 (countIf (eqb c) (servedClients (event tick a))) 0 (countsSince period c es))
+    counted-later : Traced (event tick a ∷ es) (oneLater ws cs s)
+        → ((c : ℕ) → c < length cs → getD cs c zeroCounts ≡ addedBy c (event tick a) (countsSince period c es))
         → Counted period (event tick a ∷ es) (oneLater ws cs s)
     unfolding nextState
-    counted-later T q f =
-        record {
-          period-is = C .period-is;
-          counts-are = table (isPeriodStart (s .head .period) (suc (s .head .clock))) refl;
-        }
+    counted-later T f = record { period-is = C .period-is; counts-are = table begins refl }
       where
         e : Event
         e = event tick a
 
-        table : (x : Bool) → isPeriodStart (s .head .period) (suc (s .head .clock)) ≡ x → (c : ℕ)
-            → c < length (cond x (mapFrom (restarted ws) 0 cs) cs) → getD (cond x (mapFrom (restarted ws) 0 cs) cs) c zeroCounts ≡ countsSince period c (e ∷ es)
+        waits : (c : ℕ) → waitingOf c ws ≡ waitingBy c (e ∷ es)
+        waits c =
+            ap (waitingOf c)
+            (sym (next-waiting (suc (s .head .clock)) (s .head .last) ws (cond begins (mapFrom (restarted ws) 0 cs) cs) s))
+            ∙ sym (waits-counted (e ∷ es) (oneLater ws cs s) c T)
+
+        table : (x : Bool) → begins ≡ x → (c : ℕ) → c < length (cond x (mapFrom (restarted ws) 0 cs) cs)
+            → getD (cond x (mapFrom (restarted ws) 0 cs) cs) c zeroCounts ≡ countsSince period c (e ∷ es)
         table true p c h =
             getD-mapFrom (restarted ws) cs c zeroCounts zeroCounts (omega (arith, length-mapFrom (restarted ws) 0 cs))
-            ∙ ap (λ (n : ℕ). record { submitted = n; served = 0; dropped = 0 }) waits
+            ∙ ap (λ (n : ℕ). record { submitted = n; served = 0; dropped = 0 }) (waits c)
             ∙ sym (since-starts period c e es (sym starts-same ∙ p))
-          where
-            waits : waitingOf c ws ≡ waitingBy c (e ∷ es)
-            waits =
-                ap (waitingOf c) (sym (next-waiting (suc (s .head .clock)) (s .head .last) ws (countsAfter (s .head .period) (suc (s .head .clock)) ws cs) s))
-                ∙ sym (waits-counted (e ∷ es) (oneLater ws cs s) c T)
-        table false p c h = f c h ∙ sym (since-adds period c e es (sym starts-same ∙ p) ∙ rw (q, named-none c))
+        table false p c h = f c h ∙ sym (since-adds period c e es (sym starts-same ∙ p))
 
-  counted-tick : (ws : List Request) → s .head .clock ≡ ticks es → Traced (event tick (ticked ws s .answer) ∷ es) (ticked ws s .after)
-      → Counted period (event tick (ticked ws s .answer) ∷ es) (ticked ws s .after)
+  counted-tick : (ws : List Request) → s .head .clock ≡ ticks es → Then Traced tick (ticked ws s) es
+      → Then (Counted period) tick (ticked ws s) es
   unfolding ticked
   counted-tick [] k T =
-      counted-later [] (s .clientTable) (Idle (s .head .clock)) refl k T refl
+      counted-later [] (s .clientTable) (Idle (s .head .clock)) refl k T
       (λ c h. C .counts-are c h ∙ sym (rw (named-none c) (adding-none (countsSince period c es))))
   counted-tick (w ∷ ws) k T =
-      counted-later ws (change oneMoreServed (w .client) (s .clientTable)) (Served (s .head .clock) (w .number) (w .client)) refl k T refl
+      counted-later ws (change oneMoreServed (w .client) (s .clientTable)) answer refl k T
       (λ c h. table c (omega (arith, length-change oneMoreServed (w .client) (s .clientTable))))
     where
+      answer : Answer
+      answer = Served (s .head .clock) (w .number) (w .client)
+
       table : (c : ℕ) → c < length (s .clientTable)
-          → getD (change oneMoreServed (w .client) (s .clientTable)) c zeroCounts ≡ adding 0 (countIf (eqb c) (w .client ∷ [])) 0 (countsSince period c es)
+          → getD (change oneMoreServed (w .client) (s .clientTable)) c zeroCounts
+          ≡ addedBy c (event tick answer) (countsSince period c es)
       table c h =
           getD-change oneMoreServed (w .client) (s .clientTable) c h
           ∙ one-served (eqb c (w .client)) (getD (s .clientTable) c zeroCounts)
           ∙ ap (adding 0 (toNumber (eqb c (w .client))) 0) (C .counts-are c h)
-          ∙ sym (rw (named-one c (w .client)))
+          ∙ sym (rw (named-one c (w .client), named-none c))
 
   -- ---- any call but an accepted open
   counted-step : (e : Event) (t : State) → Step s e t → Traced es s → Traced (e ∷ es) t → Counted period (e ∷ es) t
   counted-step e t (submits client deadline r) T U = go (submitted-cases client deadline s)
     where
-      go : {o : Outcome} → Submitted client deadline s o → Counted period (event (submit client deadline) (o .answer) ∷ es) (o .after)
+      go : {o : Outcome} → Submitted client deadline s o
+          → Counted period (event (submit client deadline) (o .answer) ∷ es) (o .after)
       go (keeps h) = counted-kept client deadline
       go (drops h) = counted-dropped (victimPlace client deadline s) client deadline
   counted-step e t (serves r) T U = counted-tick (waiting s) (T .clock) U

@@ -230,7 +230,8 @@ module _ (s : State) (es : List Event) (T : Traced es s) where
   follows-tick B = subst (Both capacity) (tick-queue (waiting s) refl) (both-ticked capacity (queueOf es s) B)
 
 -- ---- every step
-pub follows-step : (s : State) (e : Event) (t : State) (es : List Event) → Step s e t → Traced es s → Follows es s → Follows (e ∷ es) t
+pub follows-step : (s : State) (e : Event) (t : State) (es : List Event) → Step s e t → Traced es s → Follows es s
+    → Follows (e ∷ es) t
 follows-step s e t es (submits client deadline r) T B = follows-submit client deadline s es r T B
 follows-step s e t es (serves r) T B = follows-tick s es T B
 follows-step s e t es (passes x p) T B = rw (same-ticks x es p, same-asked x es p, same-bookings x es p) B
