@@ -1,5 +1,7 @@
--- Document 01's worked reads and sessions, computed.
+-- What the definitions compute: document 01's worked reads and sessions, the refusals in order, damaged tables, a list read off.
 pub mod Computed
 pub mod Cases
 pub mod Sessions
+pub mod Refusals
 pub mod Damaged
+pub mod Reading

@@ -83,7 +83,8 @@ kindOf (Reported client submitted served dropped waiting) = 0x86
 kindOf (Charted count) = 0x88
 kindOf (Refused number) = 0xFF
 
--- ".. number (8), place (2); ..": the values of each answer
+-- ".. number (8), place (2); ..": the values of each answer. A chart's is its count of start slots; where a session prints 88, it
+-- puts the segment count there
 unfoldable pub valuesOf : Answer → List Field
 valuesOf Opened = []
 valuesOf (Kept number place) = field 8 number ∷ field 2 place ∷ []

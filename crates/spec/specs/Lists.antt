@@ -57,16 +57,16 @@ isRefused (Reported client submitted served dropped waiting) = false
 isRefused (Charted count) = false
 isRefused (Refused number) = true
 
--- the number that an answer gives to a new request
-abbrev pub newNumber : Answer → List ℕ
-newNumber Opened = []
-newNumber (Kept number place) = number ∷ []
-newNumber (Dropped number victim client) = number ∷ []
-newNumber (Served slot number client) = []
-newNumber (Idle slot) = []
-newNumber (Reported client submitted served dropped waiting) = []
-newNumber (Charted count) = []
-newNumber (Refused number) = []
+-- the number that an answer gives to a new request: kept and dropped name it
+abbrev pub newNumber : Answer → ℕ
+newNumber Opened = 0
+newNumber (Kept number place) = number
+newNumber (Dropped number victim client) = number
+newNumber (Served slot number client) = 0
+newNumber (Idle slot) = 0
+newNumber (Reported client submitted served dropped waiting) = 0
+newNumber (Charted count) = 0
+newNumber (Refused number) = 0
 
 -- a request that has a slot
 pub record Booking : Type 0 where
@@ -132,11 +132,14 @@ pub record Asked : Type 0 where
   pub request : Request
   pub release : ℕ
 
+abbrev pub askedAs : ℕ → ℕ → ℕ → ℕ → Asked
+askedAs client deadline number clock =
+    record { request = record { deadline = deadline; number = number; client = client }; release = clock }
+
 -- "The list's requests are its submits that were not refused, whether answered kept or dropped.": those of one event
 abbrev pub askedBy : Call → Answer → ℕ → List Asked
 askedBy (opening clients period) a clock = []
-askedBy (submit client deadline) a clock =
-    map (λ n. record { request = record { deadline = deadline; number = n; client = client }; release = clock }) (newNumber a)
+askedBy (submit client deadline) a clock = cond (isRefused a) [] (askedAs client deadline (newNumber a) clock ∷ [])
 askedBy tick a clock = []
 askedBy (report client) a clock = []
 askedBy (chart output) a clock = []

@@ -5,14 +5,14 @@ use mathlib.Core.List.{List, [], _∷_, _++_}
 use lib.Dec.{eqb}
 use lib.ListN.{length, take, replicate}
 use Rattle.spec.specs.declared.types.Answer.{Answer}
-use Rattle.spec.specs.declared.types.Answer.the-variants.{Opened, Kept, Dropped, Served, Idle, Reported, Charted, Refused}
+use Rattle.spec.specs.declared.types.Answer.the-variants.{Refused}
 use Rattle.spec.specs.declared.types.Frame.{Frame}
 use Rattle.spec.specs.declared.types.Frame.the-variants.{Open, Submit, Tick, Report, Chart, Bad}
 use Rattle.spec.specs.Tables.{mostRecords, zeroRequest, zeroCounts, State}
-use Rattle.spec.specs.Chart.{segmentsOf}
+use Rattle.spec.specs.Chart.{Segment, segmentsOf}
 use Rattle.spec.specs.Calls.{Outcome, openOf, submitOf, tickOf, reportOf, chartOf, chartOutput}
 use Rattle.spec.specs.Lists.{isRefused}
-use Rattle.spec.specs.Frames.{lineFeed, frameOf, answerLine, segmentLines}
+use Rattle.spec.specs.Frames.{lineFeed, frameOf, field, kindOf, lineOf, answerLine, segmentLines}
 
 -- ---- lines
 -- the lines that a line feed ends, in order, and the characters behind the last line feed
@@ -64,17 +64,10 @@ replyOf o = record { bytes = answerLine (o .answer); after = o .after }
 abbrev pub openReply : State → Outcome → Reply
 openReply s o = record { bytes = answerLine (o .answer); after = cond (isRefused (o .answer)) s (o .after) }
 
--- "one line each from the left, then 88, segment count (2)": the answer to a chart, with the output that the call wrote
-abbrev pub chartBytes : List ℕ → Answer → List ℕ
-chartBytes output Opened = answerLine Opened
-chartBytes output (Kept number place) = answerLine (Kept number place)
-chartBytes output (Dropped number victim client) = answerLine (Dropped number victim client)
-chartBytes output (Served slot number client) = answerLine (Served slot number client)
-chartBytes output (Idle slot) = answerLine (Idle slot)
-chartBytes output (Reported client submitted served dropped waiting) = answerLine (Reported client submitted served dropped waiting)
-chartBytes output (Charted count) =
-    segmentLines (segmentsOf (take count output)) ++ answerLine (Charted (length (segmentsOf (take count output))))
-chartBytes output (Refused number) = answerLine (Refused number)
+-- "87 segment, .. one line each from the left, then 88, segment count (2)"; a refused chart has its refusal alone
+abbrev pub chartBytes : List Segment → Answer → List ℕ
+chartBytes gs a =
+    cond (isRefused a) (answerLine a) (segmentLines gs ++ lineOf (kindOf a) (field 2 (length gs) ∷ []))
 
 -- the chart's output table in a session: as long as a waiting table can be
 abbrev pub blank : List ℕ
@@ -85,7 +78,11 @@ reply (Open clients period records) s = openReply s (openOf clients period (lent
 reply (Submit client deadline) s = replyOf (submitOf client deadline s)
 reply Tick s = replyOf (tickOf s)
 reply (Report client) s = replyOf (reportOf client s)
-reply Chart s = record { bytes = chartBytes (chartOutput blank s) (chartOf blank s .answer); after = s }
+reply Chart s =
+    record {
+      bytes = chartBytes (segmentsOf (take (s .head .waiting) (chartOutput blank s))) (chartOf blank s .answer);
+      after = s;
+    }
 reply Bad s = record { bytes = answerLine (Refused 1); after = s }
 
 -- ---- the whole session

@@ -68,6 +68,9 @@ cases =
     -- "candidates of clients at 1 of 4 and 1 of 2: the first client loses.", whichever of the two sends the new request
     ∷ case (rivals 0 5 (counts 4 2 1) (counts 1 0 1)) (submit 1 1 ∷ []) (Dropped 6 5 0 ∷ []) (0 ∷ []) (segment 0 1 ∷ [])
     ∷ case (rivals 1 5 (counts 3 2 1) (counts 2 0 1)) (submit 0 1 ∷ []) (Dropped 6 6 0 ∷ []) (0 ∷ []) (segment 0 1 ∷ [])
+    -- "compared as fractions without rounding", at the counts' bound
+    ∷ case (rivals 1 5 (counts 268435453 178956968 89478485) (counts 268435455 178956969 89478485)) (submit 0 1 ∷ [])
+    (Dropped 6 5 1 ∷ []) (0 ∷ []) (segment 0 1 ∷ [])
     -- "1 of 3 against 2 of 6 is a tie.": the last in chart order is dropped, whichever client it is of
     ∷ case (rivals 0 8 (counts 3 1 1) (counts 5 3 2)) (submit 1 1 ∷ []) (Dropped 9 9 1 ∷ []) (0 ∷ []) (segment 0 1 ∷ [])
     ∷ case (rivals 1 8 (counts 2 1 1) (counts 6 3 2)) (submit 0 1 ∷ []) (Dropped 9 9 0 ∷ []) (0 ∷ []) (segment 0 1 ∷ [])

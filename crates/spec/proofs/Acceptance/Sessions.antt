@@ -5,9 +5,11 @@ use Prim.Native.Char.{code}
 use Prim.Native.String.{String, [] as []ˢ, _∷_ as _∷ˢ_}
 use mathlib.Core.Path.{_≡_, refl}
 use mathlib.Core.List.{List, [], _∷_, map}
-use Rattle.spec.specs.Frames.{digitOf, characterOf, numberFrom, digits, frameWith, frameOf, kindOf, valuesOf, fieldDigits}
-use Rattle.spec.specs.Frames.{lineOf, segmentLines}
+use Rattle.spec.specs.Frames.{answerLine, digitOf, characterOf, numberFrom, digits, frameWith, frameOf, kindOf, valuesOf}
+use Rattle.spec.specs.Frames.{fieldDigits, lineOf, segmentLines}
 use Rattle.spec.specs.Session.{textOf, atStart, reply, replies, session}
+use Rattle.spec.specs.declared.types.Answer.{Answer}
+use Rattle.spec.specs.declared.types.Answer.the-variants.{Opened, Kept, Dropped, Served, Idle, Reported, Charted, Refused}
 use Rattle.spec.specs.Calls.{chartOutput}
 use Rattle.spec.proofs.Acceptance.Computed.{calls}
 
@@ -113,7 +115,7 @@ dialogues =
     ∷ "8200000000000000010000"
     ∷ []
     )
-    -- refusals 6, 7 and 10; idle, and a served slot; a period start counts what waits
+    -- refusals 6, 7 and 10; idle, and a served slot
     ∷ dialogue
     (
     "010001000000020001"
@@ -146,6 +148,79 @@ dialogues =
     ∷ "8600000000000000000000000000000000"
     ∷ []
     )
+    -- digits A to F, values of several bytes, three segments, a chart with a wrong length
+    ∷ dialogue
+    (
+    "0100020001000A0010"
+    ∷ "02000100000000000000AF"
+    ∷ "02000000000000000000B9"
+    ∷ "02000000000000000000B9"
+    ∷ "02010000000000000000B9"
+    ∷ "0200000000000100000005"
+    ∷ "020000000000000000FFFF"
+    ∷ "05"
+    ∷ "0500"
+    ∷ "03"
+    ∷ "040001"
+    ∷ "010001000000641000"
+    ∷ []
+    )
+    ""
+    (
+    "81"
+    ∷ "8200000000000000010000"
+    ∷ "8200000000000000020001"
+    ∷ "8200000000000000030002"
+    ∷ "FF06"
+    ∷ "FF07"
+    ∷ "8200000000000000040003"
+    ∷ "8700000000000000AE00000000000000AF"
+    ∷ "8700000000000000B700000000000000B9"
+    ∷ "87000000000000FFFE000000000000FFFF"
+    ∷ "880003"
+    ∷ "FF01"
+    ∷ "84000000000000000000000000000000010001"
+    ∷ "8600010000000100000001000000000000"
+    ∷ "FF04"
+    ∷ []
+    )
+    -- "each client's submitted becomes its waiting count, served and dropped become 0.": two period starts with a request waiting
+    ∷ dialogue
+    (
+    "010001000000020004"
+    ∷ "0200000000000000000009"
+    ∷ "0200000000000000000009"
+    ∷ "0200000000000000000009"
+    ∷ "0200000000000000000009"
+    ∷ "03"
+    ∷ "040000"
+    ∷ "03"
+    ∷ "040000"
+    ∷ "03"
+    ∷ "040000"
+    ∷ "0200000000000000000009"
+    ∷ "03"
+    ∷ "040000"
+    ∷ []
+    )
+    ""
+    (
+    "81"
+    ∷ "8200000000000000010000"
+    ∷ "8200000000000000020001"
+    ∷ "8200000000000000030002"
+    ∷ "8200000000000000040003"
+    ∷ "84000000000000000000000000000000010000"
+    ∷ "8600000000000400000001000000000003"
+    ∷ "84000000000000000100000000000000020000"
+    ∷ "8600000000000200000000000000000002"
+    ∷ "84000000000000000200000000000000030000"
+    ∷ "8600000000000200000001000000000001"
+    ∷ "8200000000000000050001"
+    ∷ "84000000000000000300000000000000040000"
+    ∷ "8600000000000100000000000000000001"
+    ∷ []
+    )
     ∷ []
 
 unfoldable frames : Unit {0}
@@ -155,3 +230,25 @@ frames = tt
 pub worked-sessions : map given dialogues ≡ map said dialogues
 unfolding calls chartOutput frames textOf atStart reply replies session
 worked-sessions = refl
+
+-- ---- lines out
+-- an answer and its line
+pub record Line : Type 0 where
+  pub answer : Answer
+  pub text : String
+
+abbrev answers : List Line
+answers =
+    record { answer = Opened; text = "81" }
+    ∷ record { answer = Kept 0x0123456789AB 0x07FE; text = "8200000123456789AB07FE" }
+    ∷ record { answer = Dropped 0xFEDCBA987654 0x0123456789AB 0x00FD; text = "830000FEDCBA98765400000123456789AB00FD" }
+    ∷ record { answer = Served 0xFEDCBA987654 0x0123456789AB 0x00FD; text = "840000FEDCBA98765400000123456789AB00FD" }
+    ∷ record { answer = Idle 0xFEDCBA987654; text = "850000FEDCBA987654" }
+    ∷ record { answer = Reported 0x00FD 0x0FEDCBA9 0x08765432 0x01234567 0x07FE; text = "8600FD0FEDCBA9087654320123456707FE" }
+    ∷ record { answer = Charted 0x07FE; text = "8807FE" }
+    ∷ record { answer = Refused 12; text = "FF0C" }
+    ∷ []
+
+pub answer-lines : map (λ (l : Line). answerLine (l .answer)) answers ≡ map (λ (l : Line). bytes (l .text) (10 ∷ [])) answers
+unfolding frames
+answer-lines = refl

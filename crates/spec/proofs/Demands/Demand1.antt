@@ -9,7 +9,7 @@ use mathlib.Core.List.{List}
 use native.Mathlib.Omega.{arith}
 use lib.ListN.{length, getD, take, drop, length-append, length-drop}
 use lib.Seq.{take-append-seam, drop-append-seam}
-use Rattle.spec.specs.declared.types.Answer.the-variants.{Refused}
+use Rattle.spec.specs.declared.types.Answer.the-variants.{Charted, Refused}
 use Rattle.spec.specs.Every.{exists}
 use Rattle.spec.specs.Tables.{zeroCounts, State, waiting}
 use Rattle.spec.specs.Chart.{startsOf, segmentsOf}
@@ -20,10 +20,10 @@ use Rattle.spec.specs.Lists.{Call, chart, outcomeOf, run, Event, history
 use Rattle.spec.proofs.Demands.Words.{refusalsOf, FirstHolds, Ascending, Pairs, Finish, ChartFits, from, slotsOfAll}
 use Rattle.spec.proofs.Demands.Words.{Apart}
 use Rattle.spec.proofs.Laws.Sound.{sound-test}
-use Rattle.spec.proofs.Laws.Accepted.{Decided, accepts, refuses, decided, chart-ready, waiting-length}
-use Rattle.spec.proofs.Calls.Refused.{acceptedOf, outcome-decided, accepted-answer, accepted-none, first-holds}
-use Rattle.spec.proofs.Calls.Refused.{first-match, first-number, numbered, length-starts, Written, untouched, written}
-use Rattle.spec.proofs.Calls.Refused.{output-written}
+use Rattle.spec.proofs.Laws.Accepted.{Decided, accepts, refuses, decided, ChartReady, chart-ready, waiting-length}
+use Rattle.spec.proofs.Calls.Refused.{accepted-same, acceptedOf, outcome-decided, accepted-answer, accepted-none}
+use Rattle.spec.proofs.Calls.Refused.{first-holds, first-match, first-number, numbered, length-starts, Written}
+use Rattle.spec.proofs.Calls.Refused.{untouched, written, output-written}
 use Rattle.spec.proofs.Calls.Keeps.{keeps, shaped-test}
 use Rattle.spec.proofs.Calls.Latest.{ready-chart, starts-latest, starts-drop, segments-slots, segments-apart}
 use Rattle.spec.proofs.Lists.Trace.{traced}
@@ -96,33 +96,41 @@ counts-given clients period s cs a h =
     }
 
 -- ---- the chart
--- "Chart writes one start slot a waiting record, in chart order, into a lent output table .. entries beyond are untouched."
+-- "Chart writes one start slot a waiting record, in chart order, into a lent output table and answers their count; entries beyond are
+-- untouched.": l is the output after the call
 pub record Charts (output : List ℕ) (s : State) (l : List ℕ) : Type 0 where
+  pub answer : chartOf output s .answer ≡ Charted (length (startsOf (waiting s)))
+  pub one-each : length (startsOf (waiting s)) ≡ length (waiting s)
   pub same-length : length l ≡ length output
   pub starts : take (length (startsOf (waiting s))) l ≡ startsOf (waiting s)
   pub beyond : drop (length (startsOf (waiting s))) l ≡ drop (length (startsOf (waiting s))) output
 
-pub chart-beyond : (output : List ℕ) (s : State) → isRefused (chartOf output s .answer) ≡ false
+pub chart-written : (output : List ℕ) (s : State) → isRefused (chartOf output s .answer) ≡ false
     → Charts output s (chartOutput output s)
-unfolding chartOf
-chart-beyond output s = go (decided (chartRefusals output s) s (charted s)) (output-written output s)
+unfolding outcomeOf charted
+chart-written output s p = go (output-written output s)
   where
-    go : {o : Outcome} {l : List ℕ} → Decided (chartRefusals output s) s (charted s) o → Written output s l
-        → isRefused (o .answer) ≡ false → Charts output s l
-    go (accepts e) (untouched f) p = absurd (f e)
-    go (accepts e) (written f) p =
-        let r = chart-ready output s e in
-        let waits = waiting-length s (r .ready .shape) in
+    none : firstMatch (chartRefusals output s) ≡ 0
+    none = accepted-none (chart output) s p
+
+    r : ChartReady output s
+    r = chart-ready output s none
+
+    count : length (startsOf (waiting s)) ≡ s .head .waiting
+    count = length-starts (waiting s) ∙ waiting-length s (r .ready .shape)
+
+    go : {l : List ℕ} → Written output s l → Charts output s l
+    go (untouched f) = absurd (f none)
+    go (written f) =
         let starts = startsOf (waiting s) in
         let rest = drop (length starts) output in
-        let parts = length-append starts rest in
         record {
-          same-length =
-              omega (arith, parts, length-drop (length starts) output, length-starts (waiting s), waits, r .long);
+          answer = ap (λ (o : Outcome). o .answer) (accepted-same (chart output) s p) ∙ ap Charted (sym count);
+          one-each = length-starts (waiting s);
+          same-length = omega (arith, length-append starts rest, length-drop (length starts) output, count, r .long);
           starts = take-append-seam starts rest;
           beyond = drop-append-seam starts rest;
         }
-    go (refuses e) w p = absurd (true≢false p)
 
 -- "From the last record to the first, a request ends at the smaller of its deadline and the start of the record behind it, and starts
 -- one slot earlier."

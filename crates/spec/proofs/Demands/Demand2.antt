@@ -2,7 +2,7 @@
 -- exactly when not all can finish; the victim's client has the smallest miss ratio of all whose removal helps." Said by plans
 -- (`CanAllFinish` of crate slots), not by overfull deadlines. Statements, each under its sentence; the proofs stand in Calls/.
 -- Assumes nothing.
-use Prim.Native.Nat.{ℕ, _≤_, _<_}
+use Prim.Native.Nat.{ℕ, suc, _≤_, _<_}
 use mathlib.Core.Path.{_≡_, refl, ap, _∙_}
 use mathlib.Core.Logic.{_↔_}
 use mathlib.Core.Bool.{true, false}
@@ -13,13 +13,13 @@ use Rattle.slots.specs.Plan.{CanAllFinish}
 use Rattle.slots.proofs.Laws.Sums.{All}
 use Rattle.spec.specs.declared.types.Request.{Request}
 use Rattle.spec.specs.declared.types.Counts.{Counts}
-use Rattle.spec.specs.declared.types.Answer.the-variants.{Served, Idle}
+use Rattle.spec.specs.declared.types.Answer.the-variants.{Kept, Dropped, Served, Idle}
 use Rattle.spec.specs.Tables.{zeroRequest, State, waiting}
 use Rattle.spec.specs.Order.{isInOrder, placeOf, removeAt}
 use Rattle.spec.specs.Chart.{isOverfull, Search, nothing, found, firstOverfull}
 use Rattle.spec.specs.Victim.{hasSmallerRatio, countsAt}
-use Rattle.spec.specs.Calls.{Outcome, newRequest, countedIn, withNew, requestAt, kept, droppedAt, victimPlace, submitted}
-use Rattle.spec.specs.Calls.{submitOf, ticked, tickOf}
+use Rattle.spec.specs.Calls.{Outcome, kept, droppedAt, requestAt, newRequest, countedIn, withNew, requestAt, kept}
+use Rattle.spec.specs.Calls.{victimPlace, submitted, submitOf, ticked, tickOf}
 use Rattle.spec.specs.Lists.{submit, tick, outcomeOf, isRefused}
 use Rattle.spec.proofs.Demands.Words.{deadlinesOf}
 use Rattle.spec.proofs.Laws.Order.{getD-put, remove-put, order-test, InOrder, first-earliest}
@@ -44,9 +44,19 @@ OthersFinish j client deadline s = CanAllFinish (s .head .clock) (deadlinesOf (r
 abbrev pub countsOf : ℕ → ℕ → ℕ → State → Counts
 countsOf j client deadline s = countsAt (countedIn client s) (withNew client deadline s) j
 
--- the waiting requests and the new one, without the victim
-abbrev pub withoutVictim : ℕ → ℕ → State → List Request
-withoutVictim client deadline s = removeAt (victimPlace client deadline s) (withNew client deadline s)
+-- kept: all wait, and the answer names the new number and its place
+pub record Keeps (client deadline : ℕ) (s : State) (o : Outcome) : Type 0 where
+  pub answer : o .answer ≡ Kept (suc (s .head .last)) (placeOf (newRequest client deadline s) (waiting s))
+  pub waits : waiting (o .after) ≡ withNew client deadline s
+  pub whole : o ≡ kept client deadline s
+
+-- dropped: all but the one at k wait, and the answer names it
+pub record Drops (k client deadline : ℕ) (s : State) (o : Outcome) : Type 0 where
+  pub answer :
+      o .answer
+      ≡ Dropped (suc (s .head .last)) (requestAt k client deadline s .number) (requestAt k client deadline s .client)
+  pub waits : waiting (o .after) ≡ removeAt k (withNew client deadline s)
+  pub whole : o ≡ droppedAt k client deadline s
 
 pub record FairSubmit (client deadline : ℕ) (s : State) : Type 0 where
   -- ".. and puts the record in chart order.": it stands at its place, the others are those that waited, and all are in order
@@ -54,13 +64,11 @@ pub record FairSubmit (client deadline : ℕ) (s : State) : Type 0 where
   pub others : removeAt (placeOf (newRequest client deadline s) (waiting s)) (withNew client deadline s) ≡ waiting s
   pub ordered : isInOrder (withNew client deadline s) ≡ true
   -- "If every request can still finish, the answer is kept, with number and place (from 0)."
-  pub keeps : AllFinish client deadline s
-      → (submitOf client deadline s ≡ kept client deadline s)
-      × (waiting (submitOf client deadline s .after) ≡ withNew client deadline s)
-  -- "Otherwise one record is taken out, .."
+  pub keeps : AllFinish client deadline s → Keeps client deadline s (submitOf client deadline s)
+  -- "Otherwise one record is taken out, its client's dropped rises by 1, and the answer names the new number, the victim's number
+  -- and the victim's client."
   pub drops : (AllFinish client deadline s → ⊥)
-      → (submitOf client deadline s ≡ droppedAt (victimPlace client deadline s) client deadline s)
-      × (waiting (submitOf client deadline s .after) ≡ withoutVictim client deadline s)
+      → Drops (victimPlace client deadline s) client deadline s (submitOf client deadline s)
   -- it is one of the waiting requests or the new one
   pub place : victimPlace client deadline s < length (withNew client deadline s)
   -- and the others can finish
@@ -83,17 +91,23 @@ accepted-submit client deadline s e = (
   accepted-same (submit client deadline) s e,
 )
 
--- with what waits after it
-with-kept : (client deadline : ℕ) (s : State) → submitOf client deadline s ≡ kept client deadline s
-    → (submitOf client deadline s ≡ kept client deadline s)
-    × (waiting (submitOf client deadline s .after) ≡ withNew client deadline s)
-with-kept client deadline s e = (e, ap (λ (o : Outcome). waiting (o .after)) e ∙ kept-waiting client deadline s)
+keeps-of : (client deadline : ℕ) (s : State) (o : Outcome) → o ≡ kept client deadline s → Keeps client deadline s o
+unfolding kept
+keeps-of client deadline s o e =
+    record {
+      answer = ap (λ (r : Outcome). r .answer) e;
+      waits = ap (λ (r : Outcome). waiting (r .after)) e ∙ kept-waiting client deadline s;
+      whole = e;
+    }
 
-with-dropped : (k client deadline : ℕ) (s : State) → submitOf client deadline s ≡ droppedAt k client deadline s
-    → (submitOf client deadline s ≡ droppedAt k client deadline s)
-    × (waiting (submitOf client deadline s .after) ≡ removeAt k (withNew client deadline s))
-with-dropped k client deadline s e =
-    (e, ap (λ (o : Outcome). waiting (o .after)) e ∙ dropped-waiting k client deadline s)
+drops-of : (k client deadline : ℕ) (s : State) (o : Outcome) → o ≡ droppedAt k client deadline s → Drops k client deadline s o
+unfolding droppedAt
+drops-of k client deadline s o e =
+    record {
+      answer = ap (λ (r : Outcome). r .answer) e;
+      waits = ap (λ (r : Outcome). waiting (r .after)) e ∙ dropped-waiting k client deadline s;
+      whole = e;
+    }
 
 pub fair-submit : (client deadline : ℕ) (s : State) → isRefused (submitOf client deadline s .answer) ≡ false
     → FairSubmit client deadline s
@@ -106,8 +120,10 @@ fair-submit client deadline s e =
       placed = getD-put new zeroRequest (waiting s);
       others = remove-put new (waiting s);
       ordered = order-test (withNew client deadline s) (new-ordered client deadline s r);
-      keeps = λ f. with-kept client deadline s (p .1 ∙ finish-kept client deadline s r f);
-      drops = λ f. with-dropped (victimPlace client deadline s) client deadline s (p .1 ∙ unfinished-dropped client deadline s r f);
+      keeps = λ f. keeps-of client deadline s (submitOf client deadline s) (p .1 ∙ finish-kept client deadline s r f);
+      drops =
+          λ f. drops-of (victimPlace client deadline s) client deadline s (submitOf client deadline s)
+          (p .1 ∙ unfinished-dropped client deadline s r f);
       place = victim-place client deadline s r .0;
       helps = victim-helps client deadline s r;
       counted = some;

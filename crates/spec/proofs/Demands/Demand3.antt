@@ -4,17 +4,19 @@
 use Prim.Native.Nat.{ℕ, _+_, _≤_}
 use mathlib.Core.Path.{_≡_, sym, ap, _∙_, subst}
 use mathlib.Core.Bool.{false}
-use mathlib.Core.List.{List, []}
+use mathlib.Core.List.{List, [], map}
 use native.Mathlib.Omega.{arith}
 use lib.ListN.{length}
 use Rattle.slots.specs.Plan.{Slot, at, Plan, size}
-use Rattle.slots.proofs.Laws.Sums.{All}
+use Rattle.slots.proofs.Laws.Sums.{All, total}
 use Rattle.slots.proofs.Plain.{largest, reached}
+use Rattle.spec.specs.declared.types.Request.{Request}
 use Rattle.spec.specs.Every.{exists}
-use Rattle.spec.specs.Tables.{State}
+use Rattle.spec.specs.Tables.{State, waiting}
 use Rattle.spec.specs.Calls.{Outcome, openOf}
-use Rattle.spec.specs.Lists.{Call, run, Event, history, isRefused, isOpened, ticks, Booking, bookings, servedRequests}
-use Rattle.spec.specs.Lists.{waitingRequests, windows, slotFor, ownBookings, ownPlan}
+use Rattle.spec.specs.Lists.{asked, Call, run, Event, history, isRefused, isOpened, ticks, Booking, bookings}
+use Rattle.spec.specs.Lists.{servedRequests, waitingRequests, windows, slotFor, ownBookings, ownPlan}
+use Rattle.spec.proofs.Demands.Words.{Numbered}
 use Rattle.spec.proofs.Laws.Accepted.{waiting-length}
 use Rattle.spec.proofs.Lists.Trace.{Traced, traced-open, waiting-as-many, served-as-many, along, accepted-open}
 use Rattle.spec.proofs.Lists.Largest.{Follows, queueOf, follows-open, follows-step, own-plan, as-many-both, slots-booked}
@@ -23,6 +25,12 @@ use Rattle.spec.proofs.Lists.Largest.{Follows, queueOf, follows-open, f
 pub record Largest (es : List Event) (s : State) : Type 0 where
   -- "The clock at a submission is the number of ticks before it in the list that were not refused": the head's clock is theirs
   pub clock : s .head .clock ≡ ticks es
+  -- "It gives the next request number": the list's requests are numbered from 1 on, the newest first here, and the head has the last
+  pub last : s .head .last ≡ length (asked es)
+  pub numbered : Numbered (asked es)
+  -- "Waiting are the list's requests that no answer in it names as victim or as served.": the waiting records are just these, since
+  -- whatever is summed up over both is the same
+  pub held : (f : Request → ℕ) → total f (map (λ a. a .request) (waitingRequests es)) ≡ total f (waiting s)
   -- "The waiting count in the head after the list is their number."
   pub counted : s .head .waiting ≡ length (waitingRequests es)
   -- "Served since open are the requests that the answers to the list's ticks name as served.": each answer names another
@@ -39,6 +47,9 @@ largest-of : (es : List Event) (s : State) → Traced es s → Follows es s → 
 largest-of es s T B =
     record {
       clock = T .clock;
+      last = T .last;
+      numbered = T .numbered;
+      held = T .sums;
       counted = omega (arith, waiting-length s (T .ready .shape), waiting-as-many es s T);
       served-once = served-as-many es s T;
       reached = subst (Plan (windows es)) (own-plan es s (T .numbered)) (reached (queueOf es s) B .0);

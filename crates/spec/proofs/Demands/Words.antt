@@ -1,15 +1,17 @@
--- The words of the statements that document 01 does not define. Assumes nothing.
+-- The words of the statements that document 01 does not define. Two more, `All` (of each element) and `total` (the sum over a list),
+-- are those of crate slots, proofs/Laws/Sums. Assumes nothing.
 use Prim.Native.Nat.{ℕ, zero, suc, _-_, _≤_, _<_}
 use mathlib.Core.Path.{_≡_}
 use mathlib.Core.Bool.{true, false}
 use mathlib.Core.List.{List, [], _∷_, _++_, map}
+use lib.ListN.{length}
 use Rattle.slots.specs.Plan.{EndedBy}
 use Rattle.slots.proofs.Laws.Sums.{All}
 use Rattle.spec.specs.declared.types.Request.{Request}
 use Rattle.spec.specs.Tables.{State}
 use Rattle.spec.specs.Chart.{Segment}
 use Rattle.spec.specs.Refusals.{Refusal, openRefusals, submitRefusals, tickRefusals, reportRefusals, chartRefusals}
-use Rattle.spec.specs.Lists.{Call, opening, submit, tick, report, chart}
+use Rattle.spec.specs.Lists.{Asked, Call, opening, submit, tick, report, chart}
 
 -- ---- refusals
 -- the call's refusals, in the paper's order
@@ -70,3 +72,9 @@ slotsOfAll (g ∷ gs) = slotsOf g ++ slotsOfAll gs
 abbrev pub Apart : List Segment → Type 0
 Apart [] = Unit {0}
 Apart (g ∷ gs) = All (λ (h : Segment). g .right < h .left) gs × Apart gs
+
+-- ---- lists of calls
+-- the requests of a list, the newest first, are numbered from their count down to 1
+abbrev pub Numbered : List Asked → Type 0
+Numbered [] = Unit {0}
+Numbered (a ∷ rs) = (a .request .number ≡ suc (length rs)) × Numbered rs

@@ -27,6 +27,7 @@ use Rattle.spec.specs.Calls.{Outcome, opened, submitted, kept, droppedAt
 use Rattle.spec.specs.Calls.{ticked}
 use Rattle.spec.specs.Lists.{submit, tick, Event, ticks, Asked, asked, Booking, bookings, servedRequests, waitingRequests}
 use Rattle.spec.specs.Lists.{windowOf, windows, charts, slotFor, ownBookings, ownPlan}
+use Rattle.spec.proofs.Demands.Words.{Numbered}
 use Rattle.spec.proofs.Laws.Entries.{entryOf, upto-entries, sorted-entries}
 use Rattle.spec.proofs.Laws.Every.{total-remove, all-remove}
 use Rattle.spec.proofs.Laws.Order.{InOrder, total-put, all-put, order-remove}
@@ -35,9 +36,8 @@ use Rattle.spec.proofs.Laws.Feasible.{verdict}
 use Rattle.spec.proofs.Laws.Accepted.{kept-waiting, dropped-waiting, ticked-waiting, SubmitReady}
 use Rattle.spec.proofs.Calls.Victim.{victim-place}
 use Rattle.spec.proofs.Calls.Fair.{new-ordered}
-use Rattle.spec.proofs.Lists.Trace.{Numbered, event, Traced, Submitted, keeps, drops, submitted-cases, same-ticks}
-use Rattle.spec.proofs.Lists.Trace.{same-asked, same-bookings, Step, submits, serves, passes, Then, waiting-as-many}
-use Rattle.spec.proofs.Lists.Trace.{served-as-many}
+use Rattle.spec.proofs.Lists.Trace.{event, Traced, Submitted, keeps, drops, submitted-cases, same-ticks, same-asked}
+use Rattle.spec.proofs.Lists.Trace.{same-bookings, Step, submits, serves, passes, Then, waiting-as-many, served-as-many}
 
 -- ---- the tables as a queue of crate slots
 abbrev pub bookedOf : Booking → Booked

@@ -25,7 +25,7 @@ use Rattle.spec.specs.Calls.{victimPlace, ticked, reported, charted}
 use Rattle.spec.specs.Lists.{Call, opening, submit, tick, report, chart, outcomeOf, run, Event, history, isRefused}
 use Rattle.spec.specs.Lists.{isOpened, isTick, ticks, Asked, askedBy, asked, Booking, servedIn, bookings, Victim}
 use Rattle.spec.specs.Lists.{victimBy, victims, servedRequests, waitingRequests}
-use Rattle.spec.proofs.Demands.Words.{refusalsOf}
+use Rattle.spec.proofs.Demands.Words.{refusalsOf, Numbered}
 use Rattle.spec.proofs.Laws.Every.{total-same, total-add, total-select, exists-none, or-none, all-at, Value, is-true}
 use Rattle.spec.proofs.Laws.Every.{is-false, value, cond-true, cond-false, total-remove}
 use Rattle.spec.proofs.Laws.Order.{total-put, all-put}
@@ -75,11 +75,6 @@ without-none v f (w ∷ ws) h = go (eqb v (w .number)) (same v (w .number)) (wit
         → cond b 0 (f w) + total (without v f) ws ≡ f w + total f ws
     go true (same-yes e) r = absurd (omega (arith, one-yes v (w .number) e))
     go false (same-no n) r = omega arith
-
--- ---- the list's requests are numbered from 1, the newest first
-abbrev pub Numbered : List Asked → Type 0
-Numbered [] = Unit {0}
-Numbered (a ∷ rs) = (a .request .number ≡ suc (length rs)) × Numbered rs
 
 -- no number stands twice
 numbered-none : (v : ℕ) (rs : List Asked) → Numbered rs → length rs < v → total (λ (a : Asked). has v (a .request)) rs ≡ 0

@@ -1,0 +1,97 @@
+-- What is read off a list of calls and its answers, computed for one list that has refused calls of every kind, a drop, served
+-- requests, one that waits, and period starts. Assumes nothing.
+use Prim.Native.Nat.{ℕ}
+use mathlib.Core.Path.{_≡_, refl}
+use mathlib.Core.Bool.{Bool, true, false}
+use mathlib.Core.List.{List, [], _∷_, map}
+use lib.ListN.{replicate}
+use Rattle.slots.specs.Plan.{Slot, none, at}
+use Rattle.spec.specs.declared.types.Counts.{Counts}
+use Rattle.spec.specs.Every.{exists, select}
+use Rattle.spec.specs.Tables.{zeroRequest, zeroCounts, State}
+use Rattle.spec.specs.Calls.{openOf}
+use Rattle.spec.specs.Lists.{Call, opening, submit, tick, report, chart, outcomeOf, run, Event, history, isOpened, ticks}
+use Rattle.spec.specs.Lists.{Asked, asked, bookings, victims, servedRequests, waitingRequests, slotFor, charts, ownPlan}
+use Rattle.spec.specs.Lists.{waitingBy, sinceStart, countsSince}
+use Rattle.spec.proofs.Acceptance.Computed.{calls}
+
+-- two clients, a period of two slots
+abbrev start : State
+start =
+    openOf 2 2 (record {
+      head = record { clients = 0; period = 0; clock = 0; last = 0; waiting = 0 };
+      waitingTable = replicate 8 zeroRequest;
+      clientTable = replicate 2 zeroCounts;
+    }) .after
+
+-- the last call first: a refused open, submits of which the third drops itself, ticks, refused calls between them
+abbrev list : List Call
+list =
+    chart []
+    ∷ opening 2 0
+    ∷ report 5
+    ∷ submit 1 9
+    ∷ tick
+    ∷ submit 0 9
+    ∷ submit 0 0
+    ∷ tick
+    ∷ submit 1 1
+    ∷ submit 1 2
+    ∷ submit 0 1
+    ∷ opening 0 7
+    ∷ []
+
+pub record Reading : Type 0 where
+  -- whether an open in it was accepted
+  pub opened : Bool
+  pub numbers : List ℕ
+  pub releases : List ℕ
+  pub served : List ℕ
+  pub waits : List ℕ
+  pub plan : List Slot
+  -- what the calls since the last period start say of each client
+  pub counts : List Counts
+
+abbrev numbersOf : List Asked → List ℕ
+numbersOf rs = map (λ (a : Asked). a .request .number) rs
+
+abbrev readOff : List Event → State → Reading
+readOff es s =
+    record {
+      opened = exists isOpened es;
+      numbers = numbersOf (asked es);
+      releases = map (λ (a : Asked). a .release) (asked es);
+      served = numbersOf (servedRequests es);
+      waits = numbersOf (waitingRequests es);
+      plan = ownPlan es s;
+      counts = countsSince 2 0 es ∷ countsSince 2 1 es ∷ [];
+    }
+
+-- the tick at clock 1 begins a period: request 4 of client 0 waits then, and request 5 of client 1 comes after it
+abbrev expected : Reading
+expected =
+    record {
+      opened = false;
+      numbers = 5 ∷ 4 ∷ 3 ∷ 2 ∷ 1 ∷ [];
+      releases = 2 ∷ 1 ∷ 0 ∷ 0 ∷ 0 ∷ [];
+      served = 2 ∷ 1 ∷ [];
+      waits = 5 ∷ 4 ∷ [];
+      plan = at 8 ∷ at 7 ∷ none ∷ at 1 ∷ at 0 ∷ [];
+      counts =
+          record { submitted = 1; served = 0; dropped = 0 }
+          ∷ record { submitted = 1; served = 0; dropped = 0 }
+          ∷ [];
+    }
+
+unfoldable lists : Unit {0}
+unfolding calls outcomeOf run history exists select ticks asked bookings victims
+lists = tt
+
+pub readings : readOff (history start list) (run start list) ≡ expected
+unfolding lists servedRequests waitingRequests slotFor charts ownPlan waitingBy sinceStart countsSince
+readings = refl
+
+-- one more open, which is accepted, is seen as such
+pub reopened : exists isOpened (history start (opening 2 5 ∷ list)) ≡ true
+unfolding lists
+reopened = refl
