@@ -1,20 +1,18 @@
--- What every step keeps, and what follows of the queue's plan: it is one, no plan has more requests, and it has as many as were
--- served and wait. Assumes nothing.
+-- What every step keeps, and what follows of the log and the chart together: each request has at most one booking, in a slot that
+-- it can have, and no slot has more than it can take. Assumes nothing.
 use Prim.Native.Nat.{ℕ, suc, _+_, _≤_, _<_}
-use mathlib.Core.Path.{_≡_, refl}
+use mathlib.Core.Path.{_≡_}
 use mathlib.Core.List.{List, _++_}
 use native.Mathlib.Omega.{arith}
-use lib.ListN.{length, length-append}
-use Rattle.slots.specs.Plan.{Slot, at, planned, size}
+use lib.ListN.{length}
 use Rattle.slots.proofs.Laws.Tests.{le, gt, order}
-use Rattle.slots.proofs.Laws.Sums.{All, all-imp, all-append, total, total-append, total-one}
-use Rattle.slots.proofs.Queue.{opens, Entry, Booking, Queue, empty, arrival, asking, ticked, Joined, Swapped, is, Placed}
-use Rattle.slots.proofs.Laws.Count.{size-total}
+use Rattle.slots.proofs.Laws.Sums.{All, all-imp, all-append, total, total-append}
+use Rattle.slots.proofs.Queue.{opens, Entry, Booking, Queue, empty, arrival, asking, ticked, Joined, Swapped}
 use Rattle.slots.proofs.Laws.Sorted.{Sorted, due, upto}
-use Rattle.slots.proofs.Upper.{Inv, inv-empty, inv-kept, inv-dropped, inv-ticked, upper}
-use Rattle.slots.proofs.Reached.Chart.{chart, plan}
-use Rattle.slots.proofs.Reached.Book.{who, Known, book-total, Good, book-fits}
-use Rattle.slots.proofs.Reached.Seat.{sits, chart-length, chart-who, seated, rank-heads, rank-none}
+use Rattle.slots.proofs.Upper.{Inv, inv-empty, inv-kept, inv-dropped, inv-ticked}
+use Rattle.slots.proofs.Reached.Chart.{chart}
+use Rattle.slots.proofs.Reached.Book.{who, Known, Good}
+use Rattle.slots.proofs.Reached.Seat.{sits, chart-who, seated, rank-heads, rank-none}
 use Rattle.slots.proofs.Reached.Own.{Served, Waits, Own, own-empty, own-kept, own-dropped, own-ticked, log-none}
 use Rattle.slots.proofs.Reached.Own.{none-due, roomy}
 
@@ -73,7 +71,8 @@ module _ (heads : ℕ → ℕ) where
     once-all i =
         omega (arith, total-append (who i) (q .log) (chart heads (q .waiting)), chart-who heads i (q .waiting), B .own .once i)
 
-    heads-all : (x : ℕ) → total (sits x) (bookings q) ≤ heads x
+    -- each slot is booked at most as often as it can be taken
+    pub heads-all : (x : ℕ) → total (sits x) (bookings q) ≤ heads x
     heads-all x =
         elim (order (q .clock) x) [
           | le h ↦ omega (
@@ -99,24 +98,3 @@ module _ (heads : ℕ → ℕ) where
 
         sum : total (sits x) (bookings q) ≡ total (sits x) (q .log) + total (sits x) (chart heads ws)
         sum = total-append (sits x) (q .log) (chart heads ws)
-
-    pub plan-placed : Placed heads (q .asked) (plan heads q)
-    plan-placed =
-        record {
-          fits = book-fits (q .asked) (bookings q) (all-imp (Sound q) (Good (q .asked)) (bookings q) (λ b h. h .0) sound-all);
-          slots = λ x. omega (arith, book-total (is x) refl (length (q .asked)) (bookings q) once-all known-all, heads-all x);
-        }
-
-    pub plan-size : size (plan heads q) ≡ length (q .log) + length (q .waiting)
-    plan-size =
-        omega (
-          arith,
-          size-total (plan heads q),
-          book-total planned refl (length (q .asked)) (bookings q) once-all known-all,
-          total-one (λ (b : Booking). planned (at (b .slot))) (bookings q) (λ b. refl),
-          length-append (q .log) (chart heads (q .waiting)),
-          chart-length heads (q .waiting),
-        )
-
-    pub placed-size : (P : List Slot) → Placed heads (q .asked) P → size P ≤ length (q .log) + length (q .waiting)
-    placed-size = upper heads q (B .inv)

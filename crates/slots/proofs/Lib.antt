@@ -4,6 +4,6 @@ pub mod Upper
 pub mod Reached
 pub mod Both
 pub mod Room
-pub mod Placing
-pub mod Plain
+pub mod Largest
+pub mod Single
 pub mod Examples

@@ -1,12 +1,12 @@
--- The queue as deadlines alone, its steps, and plans, for any `heads`: how many requests the slot s can take is `heads s`, 0 where
--- it is closed. The steps are relations between waiting lists, so that a list of any records can follow them.
+-- The queue as deadlines alone, and its steps, for any `heads`: how many requests the slot s can take is `heads s`, 0 where it is
+-- closed. The steps are relations between waiting lists, so that a list of any records can follow them.
 -- Assumes nothing.
-use Prim.Native.Nat.{ℕ, zero, suc, _+_, _≤_}
+use Prim.Native.Nat.{ℕ, zero, suc, _+_}
 use mathlib.Core.Path.{_≡_}
 use mathlib.Core.List.{List, [], _∷_}
 use lib.ListN.{length, take, drop}
-use Rattle.slots.specs.Plan.{Window, Slot, none, at, Fits}
-use Rattle.slots.proofs.Laws.Sums.{one, All, total}
+use Rattle.slots.specs.Plan.{Window}
+use Rattle.slots.proofs.Laws.Sums.{All, total}
 
 -- how many requests the slots before D can take
 unfoldable pub opens : (ℕ → ℕ) → ℕ → ℕ
@@ -70,14 +70,3 @@ pub record Joined (e : Entry) (ws vs : List Entry) : Type 1 where
 pub record Swapped (e victim : Entry) (ws vs : List Entry) : Type 1 where
   pub sums : (f : Entry → ℕ) → f victim + total f vs ≡ f e + total f ws
   pub lifts : (p : Entry → Type 0) → p e → All p ws → All p vs
-
--- ---- plans
--- 1 where the slot given is t
-abbrev pub is : ℕ → Slot → ℕ
-is t none = 0
-is t (at s) = one t s
-
--- a plan that gives no slot to more requests than it can take
-pub record Placed (heads : ℕ → ℕ) (R : List Window) (P : List Slot) : Type 0 where
-  pub fits : Fits R P
-  pub slots : (t : ℕ) → total (is t) P ≤ heads t

@@ -4,10 +4,10 @@ use mathlib.Core.Path.{_≡_}
 use mathlib.Core.List.{List, [], _∷_}
 use native.Mathlib.Omega.{arith}
 use lib.ListN.{length}
-use Rattle.slots.specs.Plan.{Window, Slot, none, at, Fits, planned, size}
+use Rattle.slots.specs.Plan.{Window, Slot, none, at, Fits, uses, Plan, planned, size}
 use Rattle.slots.proofs.Laws.Tests.{le, gt, order}
 use Rattle.slots.proofs.Laws.Sums.{total}
-use Rattle.slots.proofs.Queue.{opens, Entry, Queue, empty, arrival, asking, ticked, Joined, Swapped, Placed}
+use Rattle.slots.proofs.Queue.{opens, Entry, Queue, empty, arrival, asking, ticked, Joined, Swapped}
 use Rattle.slots.proofs.Laws.Count.{length-log, length-joined, length-swapped, before, below, below-mono, below-suc}
 use Rattle.slots.proofs.Laws.Count.{opens-suc, opens-mono, pigeon}
 use Rattle.slots.proofs.Laws.Sorted.{Sorted, sorted-drop, due, upto, due-one, due-yes, due-no, upto-drop}
@@ -31,9 +31,9 @@ after : {a b c : ℕ} → a ≤ b → b ≤ c → a ≤ c
 after p q = omega arith
 
 module _ (heads : ℕ → ℕ) where
-  rest : (r : Window) (R : List Window) (x : Slot) (P : List Slot) → Placed heads (r ∷ R) (x ∷ P) → Placed heads R P
-  unfolding total
-  rest r R x P p = record { fits = rest-fits r R x P (p .fits); slots = λ t. omega (arith, p .slots t) }
+  rest : (r : Window) (R : List Window) (x : Slot) (P : List Slot) → Plan heads (r ∷ R) (x ∷ P) → Plan heads R P
+  unfolding uses
+  rest r R x P p = record { fits = rest-fits r R x P (p .fits); shared = λ t. omega (arith, p .shared t) }
 
   -- the slots of a plan before the clock, or not before D, are no more than were served and wait for a deadline after D
   abbrev pub Bound : Queue → List Slot → Type 0
@@ -47,13 +47,13 @@ module _ (heads : ℕ → ℕ) where
   pub record Inv (q : Queue) : Type 0 where
     pub sorted : Sorted 0 (q .waiting)
     pub feasible : Feasible (q .clock) (q .waiting)
-    pub bound : (P : List Slot) → Placed heads (q .asked) P → Bound q P
+    pub bound : (P : List Slot) → Plan heads (q .asked) P → Bound q P
 
   pub inv-empty : Inv empty
   unfolding total size
   inv-empty = record { sorted = tt; feasible = λ D h. omega (arith, opens-mono heads 0 D h); bound = none-asked }
     where
-      none-asked : (P : List Slot) → Placed heads [] P → Bound empty P
+      none-asked : (P : List Slot) → Plan heads [] P → Bound empty P
       none-asked [] p = λ D h. omega arith
       none-asked (x ∷ P) p = absurd (p .fits)
 
@@ -72,7 +72,7 @@ module _ (heads : ℕ → ℕ) where
     r = record { release = q .clock; deadline = d }
 
     -- ---- it is kept
-    kept-bound : Joined e ws vs → (P : List Slot) → Placed heads (r ∷ q .asked) P → Bound (asking d vs q) P
+    kept-bound : Joined e ws vs → (P : List Slot) → Plan heads (r ∷ q .asked) P → Bound (asking d vs q) P
     unfolding total size
     kept-bound J [] p D h = absurd (p .fits)
     kept-bound J (x ∷ P) p D h =
@@ -117,7 +117,7 @@ module _ (heads : ℕ → ℕ) where
             | gt h ↦ absurd (omega (arith, ripe, I .feasible full (omega (arith, ripe)), due-no full e h))
           ]
 
-      dropped-bound : (P : List Slot) → Placed heads (r ∷ q .asked) P → Bound (asking d vs q) P
+      dropped-bound : (P : List Slot) → Plan heads (r ∷ q .asked) P → Bound (asking d vs q) P
       unfolding total size
       dropped-bound [] p D h = absurd (p .fits)
       dropped-bound (x ∷ P) p D h =
@@ -143,7 +143,7 @@ module _ (heads : ℕ → ℕ) where
                   n .late full fresh,
                   due-one full e,
                   under D h g,
-                  pigeon heads (x ∷ P) (p .slots) D full (omega arith),
+                  pigeon heads (x ∷ P) (p .shared) D full (omega arith),
                 )
           ]
         where
@@ -186,7 +186,7 @@ module _ (heads : ℕ → ℕ) where
               arith,
               upto-drop D 0 k ws (I .sorted),
               below-suc t P,
-              p .slots t,
+              p .shared t,
               I .bound P p D (omega arith),
               I .bound P p t (omega arith),
               below-mono (suc t) D P h,
@@ -203,5 +203,5 @@ module _ (heads : ℕ → ℕ) where
       ws : List Entry
       ws = q .waiting
 
-  pub upper : (q : Queue) → Inv q → (P : List Slot) → Placed heads (q .asked) P → size P ≤ length (q .log) + length (q .waiting)
+  pub upper : (q : Queue) → Inv q → (P : List Slot) → Plan heads (q .asked) P → size P ≤ length (q .log) + length (q .waiting)
   upper q I P p = omega (arith, I .bound P p (q .clock) (omega arith))

@@ -1,8 +1,9 @@
 -- Plans, document 01, "Lists and plans". Assumes nothing.
 use Prim.Native.Nat.{ℕ, suc, _+_, _≤_}
-use mathlib.Core.Logic.{_≢_}
 use mathlib.Core.Path.{_≡_}
+use mathlib.Core.Bool.{cond}
 use mathlib.Core.List.{List, [], _∷_, map}
+use lib.Dec.{eqb}
 use lib.ListN.{length}
 
 -- when a request may be served: from "the clock at that request's submission" to its deadline
@@ -28,22 +29,21 @@ Fits (r ∷ R) [] = ⊥
 Fits (r ∷ R) (none ∷ P) = Fits R P
 Fits (r ∷ R) (at s ∷ P) = (r .release ≤ s) × EndedBy (r .deadline) s × Fits R P
 
--- "no slot to two of them"
-abbrev pub IsFree : ℕ → List Slot → Type 0
-IsFree s [] = Unit {0}
-IsFree s (none ∷ P) = IsFree s P
-IsFree s (at u ∷ P) = (s ≢ u) × IsFree s P
+-- 1 where a plan's entry is the slot s
+abbrev pub isAt : ℕ → Slot → ℕ
+isAt s none = 0
+isAt s (at u) = cond (eqb s u) 1 0
 
-abbrev pub Distinct : List Slot → Type 0
-Distinct [] = Unit {0}
-Distinct (none ∷ P) = Distinct P
-Distinct (at s ∷ P) = IsFree s P × Distinct P
+-- how many requests have the slot s
+unfoldable pub uses : ℕ → List Slot → ℕ
+uses s [] = 0
+uses s (p ∷ P) = isAt s p + uses s P
 
 -- "A plan gives some of the list's requests one slot each, no slot to two of them, each slot at least the clock at that
--- request's submission and ended by its deadline."
-pub record Plan (R : List Window) (P : List Slot) : Type 0 where
+-- request's submission and ended by its deadline.": no slot to more requests than it can take
+pub record Plan (capacity : ℕ → ℕ) (R : List Window) (P : List Slot) : Type 0 where
   pub fits : Fits R P
-  pub distinct : Distinct P
+  pub shared : (s : ℕ) → uses s P ≤ capacity s
 
 -- "It has as many requests as it gives slots"
 abbrev pub planned : Slot → ℕ
@@ -58,7 +58,6 @@ size (p ∷ P) = planned p + size P
 abbrev pub since : ℕ → ℕ → Window
 since clock deadline = record { release = clock; deadline = deadline }
 
--- "every request can still finish": pairwise different slots from the clock on, each ended by its request's deadline, one for
--- each request; these are the requests' deadlines
-abbrev pub CanAllFinish : ℕ → List ℕ → Type 0
-CanAllFinish clock deadlines = (P : List Slot) × Plan (map (since clock) deadlines) P × (size P ≡ length deadlines)
+-- "every request can still finish": a plan from the clock on that has a slot for each request; these are the requests' deadlines
+abbrev pub CanAllFinish : (ℕ → ℕ) → ℕ → List ℕ → Type 0
+CanAllFinish capacity clock deadlines = (P : List Slot) × Plan capacity (map (since clock) deadlines) P × (size P ≡ length deadlines)

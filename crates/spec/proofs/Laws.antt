@@ -1,6 +1,7 @@
 -- Laws of the definitions, by which all theorems reason.
 pub mod Every
 pub mod Order
+pub mod Room
 pub mod Feasible
 pub mod Entries
 pub mod Clients

@@ -99,11 +99,11 @@ droppedAt k client deadline s =
 
 -- the place of the victim among the waiting requests and the new one
 abbrev pub victimPlace : ℕ → ℕ → State → ℕ
-victimPlace client deadline s = victimOf (s .head .clock) (countedIn client s) (withNew client deadline s)
+victimPlace client deadline s = victimOf (s .head) (countedIn client s) (withNew client deadline s)
 
 unfoldable pub submitted : ℕ → ℕ → State → Outcome
 submitted client deadline s =
-    cond (hasNoOverfull (s .head .clock) (withNew client deadline s))
+    cond (hasNoOverfull (s .head) (withNew client deadline s))
     (kept client deadline s)
     (droppedAt (victimPlace client deadline s) client deadline s)
 

@@ -3,7 +3,7 @@ use Prim.Native.Nat.{ℕ, suc, _-_, min}
 use mathlib.Core.Bool.{Bool, not, cond}
 use mathlib.Core.List.{List, [], _∷_}
 use lib.Dec.{leb, ltb, eqb}
-use Rattle.slots.specs.Room.{room}
+use Rattle.spec.specs.declared.types.Head.{Head}
 use Rattle.spec.specs.declared.types.Request.{Request}
 use Rattle.spec.specs.Every.{every, countIf}
 
@@ -42,17 +42,29 @@ unfoldable pub segmentsOf : List ℕ → List Segment
 segmentsOf [] = []
 segmentsOf (s ∷ starts) = joinLeft s (segmentsOf starts)
 
+-- "serves one in each slot": how many requests a slot can take
+unfoldable pub capacityOf : Head → ℕ → ℕ
+capacityOf head slot = 1
+
+-- how many requests the slots a, a + 1, .. b - 1 can take
+unfoldable pub room : Head → ℕ → ℕ → ℕ
+room head a b = b - a
+
+-- "D minus the clock"
+abbrev pub roomTo : Head → ℕ → ℕ
+roomTo head D = room head (head .clock) D
+
 -- how many requests have deadlines at most D
 unfoldable pub dueBy : ℕ → List Request → ℕ
 dueBy D ws = countIf (λ w. leb (w .deadline) D) ws
 
 -- "A deadline D is overfull if more than D minus the clock requests have deadlines at most D."
-unfoldable pub isOverfull : ℕ → List Request → ℕ → Bool
-isOverfull clock ws D = ltb (room clock D) (dueBy D ws)
+unfoldable pub isOverfull : Head → List Request → ℕ → Bool
+isOverfull head ws D = ltb (roomTo head D) (dueBy D ws)
 
 -- whether no deadline of the requests is overfull: "every request can still finish"
-unfoldable pub hasNoOverfull : ℕ → List Request → Bool
-hasNoOverfull clock ws = every (λ w. not (isOverfull clock ws (w .deadline))) ws
+unfoldable pub hasNoOverfull : Head → List Request → Bool
+hasNoOverfull head ws = every (λ w. not (isOverfull head ws (w .deadline))) ws
 
 -- what a search comes to
 pub data Search : Type 0 where
@@ -60,10 +72,10 @@ pub data Search : Type 0 where
   found : ℕ → Search
 
 -- "The search for an overfull deadline ends at the first one found and yields it.": ws are those still to look at
-unfoldable pub searchOverfull : ℕ → List Request → List Request → Search
-searchOverfull clock all [] = nothing
-searchOverfull clock all (w ∷ ws) =
-    cond (isOverfull clock all (w .deadline)) (found (w .deadline)) (searchOverfull clock all ws)
+unfoldable pub searchOverfull : Head → List Request → List Request → Search
+searchOverfull head all [] = nothing
+searchOverfull head all (w ∷ ws) =
+    cond (isOverfull head all (w .deadline)) (found (w .deadline)) (searchOverfull head all ws)
 
-abbrev pub firstOverfull : ℕ → List Request → Search
-firstOverfull clock ws = searchOverfull clock ws ws
+abbrev pub firstOverfull : Head → List Request → Search
+firstOverfull head ws = searchOverfull head ws ws

@@ -53,6 +53,6 @@ isSound s =
     && every (λ w. isAhead (s .head .clock) (w .deadline)) (waiting s)
     && every (λ w. isGiven (s .head .last) (w .number)) (waiting s)
     && every (λ w. isClient (s .head .clients) (w .client)) (waiting s)
-    && hasNoOverfull (s .head .clock) (waiting s)
+    && hasNoOverfull (s .head) (waiting s)
     && every isZeroRequest (behind s)
     && everyFrom (isBalanced (waiting s)) 0 (s .clientTable)

@@ -4,6 +4,7 @@ use mathlib.Core.Bool.{Bool, cond}
 use mathlib.Core.List.{List, [], _∷_}
 use lib.Dec.{ltb}
 use lib.ListN.{getD}
+use Rattle.spec.specs.declared.types.Head.{Head}
 use Rattle.spec.specs.declared.types.Request.{Request}
 use Rattle.spec.specs.declared.types.Counts.{Counts}
 use Rattle.spec.specs.Tables.{zeroRequest, zeroCounts}
@@ -11,20 +12,20 @@ use Rattle.spec.specs.Order.{removeAt}
 use Rattle.spec.specs.Chart.{hasNoOverfull}
 
 -- "Candidates are the requests, the new one included, whose removal leaves no overfull deadline." Requests are named by their places.
-unfoldable pub isCandidate : ℕ → List Request → ℕ → Bool
-isCandidate clock ws k = hasNoOverfull clock (removeAt k ws)
+unfoldable pub isCandidate : Head → List Request → ℕ → Bool
+isCandidate head ws k = hasNoOverfull head (removeAt k ws)
 
 -- a place, if it is a candidate's, before the later ones
 abbrev pub keepIf : Bool → ℕ → List ℕ → List ℕ
 keepIf b k later = cond b (k ∷ later) later
 
 -- the places of the candidates, in chart order; the first of the requests still to look at has the place k
-unfoldable pub candidatesFrom : ℕ → List Request → ℕ → List Request → List ℕ
-candidatesFrom clock all k [] = []
-candidatesFrom clock all k (w ∷ ws) = keepIf (isCandidate clock all k) k (candidatesFrom clock all (suc k) ws)
+unfoldable pub candidatesFrom : Head → List Request → ℕ → List Request → List ℕ
+candidatesFrom head all k [] = []
+candidatesFrom head all k (w ∷ ws) = keepIf (isCandidate head all k) k (candidatesFrom head all (suc k) ws)
 
-abbrev pub candidates : ℕ → List Request → List ℕ
-candidates clock ws = candidatesFrom clock ws 0 ws
+abbrev pub candidates : Head → List Request → List ℕ
+candidates head ws = candidatesFrom head ws 0 ws
 
 -- "The miss ratio is dropped divided by submitted .. compared as fractions without rounding."
 unfoldable pub hasSmallerRatio : Counts → Counts → Bool
@@ -44,5 +45,5 @@ smallestOf cs ws (k ∷ []) = k
 smallestOf cs ws (k ∷ j ∷ ks) = betterOf cs ws k (smallestOf cs ws (j ∷ ks))
 
 -- the victim's place. The client table counts the new request in submitted already
-unfoldable pub victimOf : ℕ → List Counts → List Request → ℕ
-victimOf clock cs ws = smallestOf cs ws (candidates clock ws)
+unfoldable pub victimOf : Head → List Counts → List Request → ℕ
+victimOf head cs ws = smallestOf cs ws (candidates head ws)

@@ -1,13 +1,16 @@
 -- How many slots of a plan lie before a time, and how many requests a step leaves. Assumes nothing.
 use Prim.Native.Nat.{ℕ, zero, suc, _+_, _-_, _≤_, _<_, min}
 use mathlib.Core.Path.{_≡_, refl}
+use mathlib.Core.Bool.{Bool, true, false, cond}
 use mathlib.Core.List.{List, [], _∷_}
+use mathlib.Core.Logic.{_≢_}
 use native.Mathlib.Omega.{arith}
+use lib.Dec.{eqb}
 use lib.ListN.{length, take, drop}
-use Rattle.slots.specs.Plan.{Slot, none, at, planned, size}
-use Rattle.slots.proofs.Laws.Tests.{le, gt, order}
-use Rattle.slots.proofs.Laws.Sums.{one, total, total-le, total-one}
-use Rattle.slots.proofs.Queue.{opens, Entry, Booking, serve, Joined, Swapped, is}
+use Rattle.slots.specs.Plan.{Slot, none, at, isAt, uses, planned, size}
+use Rattle.slots.proofs.Laws.Tests.{Same, same-yes, same-no, same, le, gt, order}
+use Rattle.slots.proofs.Laws.Sums.{total, total-le, total-one}
+use Rattle.slots.proofs.Queue.{opens, Entry, Booking, serve, Joined, Swapped}
 
 -- ---- the requests that a step leaves
 pub total-serve : (f : Booking → ℕ) (t : ℕ) (ws : List Entry) (bs : List Booking)
@@ -41,6 +44,26 @@ unfolding size total
 size-total [] = refl
 size-total (p ∷ P) = omega (arith, size-total P)
 
+-- those at s
+pub uses-total : (s : ℕ) (P : List Slot) → uses s P ≡ total (isAt s) P
+unfolding uses total
+uses-total s [] = refl
+uses-total s (p ∷ P) = omega (arith, uses-total s P)
+
+pub isAt-yes : (s u : ℕ) → s ≡ u → isAt s (at u) ≡ 1
+isAt-yes s u e = go (eqb s u) (same s u)
+  where
+    go : (c : Bool) → Same s u c → _≡_ {A = ℕ} (cond c 1 0) 1
+    go true (same-yes h) = refl
+    go false (same-no h) = absurd (h e)
+
+pub isAt-no : (s u : ℕ) → s ≢ u → isAt s (at u) ≡ 0
+isAt-no s u n = go (eqb s u) (same s u)
+  where
+    go : (c : Bool) → Same s u c → _≡_ {A = ℕ} (cond c 1 0) 0
+    go true (same-yes h) = absurd (n h)
+    go false (same-no h) = refl
+
 -- those before x
 unfoldable pub before : ℕ → Slot → ℕ
 before x none = 0
@@ -57,13 +80,17 @@ before-mono x y h (at s) = omega arith
 pub below-mono : (x y : ℕ) (P : List Slot) → x ≤ y → below x P ≤ below y P
 below-mono x y P h = total-le (before x) (before y) P (before-mono x y h)
 
-before-suc : (t : ℕ) (p : Slot) → before (suc t) p ≡ before t p + is t p
-unfolding before one
+before-suc : (t : ℕ) (p : Slot) → before (suc t) p ≡ before t p + isAt t p
+unfolding before
 before-suc t none = refl
-before-suc t (at s) = omega arith
+before-suc t (at s) = go (eqb t s) (same t s)
+  where
+    go : (c : Bool) → Same t s c → min 1 (suc t - s) ≡ min 1 (t - s) + cond c 1 0
+    go true (same-yes e) = omega arith
+    go false (same-no n) = omega arith
 
-pub below-suc : (t : ℕ) (P : List Slot) → below (suc t) P ≡ below t P + total (is t) P
-unfolding total
+pub below-suc : (t : ℕ) (P : List Slot) → below (suc t) P ≡ below t P + uses t P
+unfolding total uses
 below-suc t [] = refl
 below-suc t (p ∷ P) = omega (arith, before-suc t p, below-suc t P)
 
@@ -85,7 +112,7 @@ module _ (heads : ℕ → ℕ) where
   opens-mono a (suc b) h = elim (order a b) [ le g ↦ omega (arith, opens-mono a b g) | gt g ↦ rw (top-of h g) (omega arith) ]
 
   -- the slots of a plan from a to b are no more than these can take
-  pub pigeon : (P : List Slot) → ((t : ℕ) → total (is t) P ≤ heads t) → (a b : ℕ) → a ≤ b
+  pub pigeon : (P : List Slot) → ((t : ℕ) → uses t P ≤ heads t) → (a b : ℕ) → a ≤ b
       → below b P + opens heads a ≤ below a P + opens heads b
   unfolding opens
   pigeon P f a zero h = rw (zero-of h) (omega arith)

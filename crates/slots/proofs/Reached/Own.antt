@@ -6,12 +6,12 @@ use mathlib.Core.List.{List, [], _∷_}
 use native.Mathlib.Omega.{arith}
 use lib.Dec.{eqb}
 use lib.ListN.{length, take, length-take}
-use Rattle.slots.specs.Plan.{Window}
+use Rattle.slots.specs.Plan.{Window, at, isAt}
 use Rattle.slots.proofs.Laws.Tests.{Same, same-yes, same-no, same, le, gt, order}
-use Rattle.slots.proofs.Laws.Sums.{one, one-yes, one-no, one-most, All, all-each, all-imp, all-take, all-drop, total}
-use Rattle.slots.proofs.Laws.Sums.{total-split, total-zero, total-one}
+use Rattle.slots.proofs.Laws.Sums.{one-no, one-most, All, all-each, all-imp, all-take, all-drop, total, total-split}
+use Rattle.slots.proofs.Laws.Sums.{total-zero, total-one}
 use Rattle.slots.proofs.Queue.{Entry, Booking, Queue, empty, arrival, asking, serve, ticked, Joined, Swapped}
-use Rattle.slots.proofs.Laws.Count.{total-serve}
+use Rattle.slots.proofs.Laws.Count.{total-serve, isAt-yes, isAt-no}
 use Rattle.slots.proofs.Laws.Sorted.{Sorted, sorted-low}
 use Rattle.slots.proofs.Upper.{Inv}
 use Rattle.slots.proofs.Reached.Book.{all-serve, who, whose, Known, none-above, req, req-new, req-old, Good}
@@ -71,7 +71,7 @@ serves t R w h = record { good = (h .0 .released, omega (arith, h .0 .limit, h .
 pub log-none : (x t : ℕ) (R : List Window) (bs : List Booking) → All (Served t R) bs → t ≤ x → total (sits x) bs ≡ 0
 log-none x t R bs a h =
     total-zero (sits x) bs
-    (all-imp (Served t R) (λ (b : Booking). sits x b ≡ 0) bs (λ b g. one-no x (b .slot) (omega (arith, g .past))) a)
+    (all-imp (Served t R) (λ (b : Booking). sits x b ≡ 0) bs (λ b g. isAt-no x (b .slot) (omega (arith, g .past))) a)
 
 module _ (heads : ℕ → ℕ) where
   -- each number is in the log or waits at most once, and no slot served more than it can take
@@ -144,7 +144,7 @@ module _ (heads : ℕ → ℕ) where
   spread-tick x t R ws bs l a f = go (eqb x t) (same x t)
     where
       here : Entry → ℕ
-      here w = one x t
+      here w = isAt x (at t)
 
       go : (c : Bool) → Same x t c → total (sits x) (serve t ws bs) ≤ heads x
       go true (same-yes e) =
@@ -152,12 +152,12 @@ module _ (heads : ℕ → ℕ) where
             arith,
             total-serve (sits x) t ws bs,
             log-none x t R bs a (omega arith),
-            total-one here ws (λ w. one-yes x t e),
+            total-one here ws (λ w. isAt-yes x t e),
             ap heads e,
           )
       go false (same-no n) =
           omega
-          (arith, total-serve (sits x) t ws bs, f x, total-zero here ws (all-each (λ (w : Entry). here w ≡ 0) ws (λ w. one-no x t n)))
+          (arith, total-serve (sits x) t ws bs, f x, total-zero here ws (all-each (λ (w : Entry). here w ≡ 0) ws (λ w. isAt-no x t n)))
 
   pub own-ticked : (q : Queue) → Inv heads q → Own q → Own (ticked heads q)
   own-ticked q I O =

@@ -7,21 +7,21 @@ use mathlib.Core.List.{List, [], _∷_, map}
 use native.Mathlib.Omega.{arith}
 use lib.Dec.{leb, eqb}
 use lib.ListN.{length}
-use Rattle.slots.specs.Plan.{since, Slot, at, Fits}
+use Rattle.slots.specs.Plan.{since, Slot, at, Fits, isAt}
 use Rattle.slots.proofs.Laws.Tests.{Test, holds, fails, test, Same, same-yes, same-no, same, le, gt, order}
-use Rattle.slots.proofs.Laws.Sums.{one, one-yes, one-no, All, total}
+use Rattle.slots.proofs.Laws.Sums.{All, total}
 use Rattle.slots.proofs.Queue.{opens, Entry, Booking}
 use Rattle.slots.proofs.Laws.Count.{opens-suc, opens-mono}
 use Rattle.slots.proofs.Laws.Sorted.{Sorted, due-yes, upto}
 use Rattle.slots.proofs.Reached.Chart.{slotOf, ends, place, chart}
 use Rattle.slots.proofs.Reached.Book.{who, whose}
 
--- 1 where the booking is in the slot x
-abbrev pub sits : ℕ → Booking → ℕ
-sits x b = one x (b .slot)
-
 abbrev pub slotted : Booking → Slot
 slotted b = at (b .slot)
+
+-- 1 where the booking is in the slot x
+abbrev pub sits : ℕ → Booking → ℕ
+sits x b = isAt x (slotted b)
 
 module _ (heads : ℕ → ℕ) where
   -- the place x, before those of D, is one of the slot s
@@ -158,12 +158,11 @@ module _ (heads : ℕ → ℕ) where
         m : ℕ
         m = ends heads D (w ∷ ws)
 
-        go : (c : Bool) → Same x u c → Seat n (w .deadline) E p u → C ≤ b - max a E → one x u + C ≤ b - max a m
+        go : (c : Bool) → Same x u c → Seat n (w .deadline) E p u → C ≤ b - max a E → cond c 1 0 + C ≤ b - max a m
         go true (same-yes e) o r =
-            rw (one-yes x u e)
-            (rank-in a b m p E C (omega arith) (o .mark) (omega (arith, o .spot .from, ap (opens heads) e))
-            (omega (arith, o .spot .to, ap (λ (y : ℕ). opens heads (suc y)) e)) r)
-        go false (same-no e) o r = rw (one-no x u e) (rank-out a b m p E C (omega arith) (o .mark) r)
+            rank-in a b m p E C (omega arith) (o .mark) (omega (arith, o .spot .from, ap (opens heads) e))
+            (omega (arith, o .spot .to, ap (λ (y : ℕ). opens heads (suc y)) e)) r
+        go false (same-no e) o r = rank-out a b m p E C (omega arith) (o .mark) r
 
     pub rank-heads : (x lo : ℕ) (ws : List Entry) → Sorted lo ws → Roomy 0 lo ws → total (sits x) (chart heads ws) ≤ heads x
     rank-heads x lo ws s f = omega (arith, rank x 0 lo lo ws s (omega arith) f, opens-suc heads x)

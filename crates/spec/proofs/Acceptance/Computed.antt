@@ -1,9 +1,8 @@
 -- The definitions to be computed, chapter by chapter: `unfolding calls` opens all that the calls need. Assumes nothing.
-use Rattle.slots.specs.Room.{room}
 use Rattle.spec.specs.Every.{every, everyFrom, countIf, mapFrom}
 use Rattle.spec.specs.Tables.{nextState}
 use Rattle.spec.specs.Order.{comesBefore, isInOrder, placeOf, putInOrder, removeAt}
-use Rattle.spec.specs.Chart.{startsOf, segmentsOf, dueBy, isOverfull, hasNoOverfull}
+use Rattle.spec.specs.Chart.{room, startsOf, segmentsOf, dueBy, isOverfull, hasNoOverfull}
 use Rattle.spec.specs.Victim.{isCandidate, candidatesFrom, hasSmallerRatio, smallestOf, victimOf}
 use Rattle.spec.specs.Sound.{isHeadWithin, isZeroRequest, waitingOf, isBalanced, isSound}
 use Rattle.spec.specs.Refusals.{firstMatch, openRefusals, submitRefusals, tickRefusals, reportRefusals, chartRefusals}

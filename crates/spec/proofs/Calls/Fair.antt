@@ -7,21 +7,24 @@ use mathlib.Core.Bool.{true}
 use mathlib.Core.List.{List, map, map-map}
 use native.Mathlib.Omega.{arith}
 use lib.ListN.{length, getD, length-map}
-use Rattle.slots.specs.Room.{room}
-use Rattle.slots.specs.Plan.{since, Plan, size, CanAllFinish}
+use Rattle.slots.specs.Plan.{Slot, since, Plan, size}
 use Rattle.slots.proofs.Laws.Tests.{le, gt, order}
 use Rattle.slots.proofs.Laws.Sums.{all-imp, total}
-use Rattle.slots.proofs.Laws.Sorted.{dueBy as dueOf, upto-deadlines}
+use Rattle.slots.proofs.Laws.Sorted.{dueBy as dueOf, upto, upto-deadlines}
 use Rattle.slots.proofs.Queue.{Entry}
 use Rattle.slots.proofs.Reached.Seat.{slotted}
-use Rattle.slots.proofs.Plain.{slots, placing-room, room-placing}
+use Rattle.slots.proofs.Reached.Chart.{chart}
+use Rattle.slots.proofs.Room.{room as roomOf}
+use Rattle.slots.proofs.Largest.{placing-room, room-placing}
+use Rattle.spec.specs.declared.types.Head.{Head}
 use Rattle.spec.specs.declared.types.Request.{Request}
 use Rattle.spec.specs.Tables.{zeroRequest, State, waiting}
 use Rattle.spec.specs.Order.{removeAt}
-use Rattle.spec.specs.Chart.{dueBy, hasNoOverfull}
+use Rattle.spec.specs.Chart.{capacityOf, roomTo, dueBy, hasNoOverfull}
 use Rattle.spec.specs.Victim.{isCandidate}
 use Rattle.spec.specs.Calls.{newRequest, withNew, kept, droppedAt, victimPlace, submitted}
-use Rattle.spec.proofs.Demands.Words.{deadlinesOf}
+use Rattle.spec.proofs.Demands.Words.{deadlinesOf, CanFinish}
+use Rattle.spec.proofs.Laws.Room.{room-capacity}
 use Rattle.spec.proofs.Laws.Every.{is-true, is-false, value, cond-true, cond-false}
 use Rattle.spec.proofs.Laws.Order.{InOrder, order-remove, order-put}
 use Rattle.spec.proofs.Laws.Feasible.{due-yes, due-no, due-most, dueBy-put, dueBy-remove, Feasible, feasible-facts}
@@ -40,40 +43,51 @@ due-deadlines : (D : ℕ) (ws : List Request) → dueBy D ws ≡ total (dueOf D)
 due-deadlines D ws =
     sym (upto-entries D ws) ∙ upto-deadlines D (map entryOf ws) ∙ ap (total (dueOf D)) (entry-deadlines ws)
 
-pub finish-feasible : (clock : ℕ) (ws : List Request) → CanAllFinish clock (deadlinesOf ws) → Feasible clock ws
-finish-feasible clock ws f D =
-    omega (arith, due-deadlines D ws, placing-room clock (deadlinesOf ws) (f .0) (f .1 .fits) (f .1 .distinct) (f .2) D)
+pub finish-feasible : (head : Head) (ws : List Request) → CanFinish head ws → Feasible head ws
+finish-feasible head ws f D =
+    omega (
+      arith,
+      due-deadlines D ws,
+      room-capacity head (head .clock) D,
+      placing-room (capacityOf head) (head .clock) (deadlinesOf ws) (f .0) (f .1) (f .2) D,
+    )
 
-pub feasible-finish : (clock : ℕ) (ws : List Request) → InOrder ws → Feasible clock ws → CanAllFinish clock (deadlinesOf ws)
-feasible-finish clock ws o f = (
-  map slotted (slots es),
-  subst (λ (ds : List ℕ). Plan (map (since clock) ds) (map slotted (slots es))) (entry-deadlines ws) (placed .0),
+pub feasible-finish : (head : Head) (ws : List Request) → InOrder ws → Feasible head ws → CanFinish head ws
+feasible-finish head ws o f = (
+  slots,
+  subst (λ (ds : List ℕ). Plan (capacityOf head) (map (since (head .clock)) ds) slots) (entry-deadlines ws) (placed .0),
   omega (arith, placed .1, length-map ws entryOf, length-map ws (λ (w : Request). w .deadline)),
 )
   where
     es : List Entry
     es = map entryOf ws
 
-    placed : Plan (map (since clock) (map (λ (e : Entry). e .deadline) es)) (map slotted (slots es))
-        × (size (map slotted (slots es)) ≡ length es)
-    placed = room-placing clock es (sorted-entries ws o) (λ D. omega (arith, upto-entries D ws, f D))
+    slots : List Slot
+    slots = map slotted (chart (capacityOf head) es)
+
+    fits : (D : ℕ) → upto D es ≤ roomOf (capacityOf head) (head .clock) D
+    fits D = omega (arith, upto-entries D ws, room-capacity head (head .clock) D, f D)
+
+    placed : Plan (capacityOf head) (map (since (head .clock)) (map (λ (e : Entry). e .deadline) es)) slots
+        × (size slots ≡ length es)
+    placed = room-placing (capacityOf head) (head .clock) es (sorted-entries ws o) fits
 
 -- a place is a candidate's just where the others can finish
-pub candidate-finish : (clock : ℕ) (ws : List Request) (k : ℕ) → InOrder ws
-    → isCandidate clock ws k ≡ true → CanAllFinish clock (deadlinesOf (removeAt k ws))
+pub candidate-finish : (head : Head) (ws : List Request) (k : ℕ) → InOrder ws
+    → isCandidate head ws k ≡ true → CanFinish head (removeAt k ws)
 unfolding isCandidate
-candidate-finish clock ws k o e =
-    feasible-finish clock (removeAt k ws) (order-remove k ws o) (feasible-facts clock (removeAt k ws) e)
+candidate-finish head ws k o e =
+    feasible-finish head (removeAt k ws) (order-remove k ws o) (feasible-facts head (removeAt k ws) e)
 
-pub finish-candidate : (clock : ℕ) (ws : List Request) (k : ℕ)
-    → CanAllFinish clock (deadlinesOf (removeAt k ws)) → isCandidate clock ws k ≡ true
+pub finish-candidate : (head : Head) (ws : List Request) (k : ℕ)
+    → CanFinish head (removeAt k ws) → isCandidate head ws k ≡ true
 unfolding isCandidate
-finish-candidate clock ws k f = feasible-test clock (removeAt k ws) (finish-feasible clock (removeAt k ws) f)
+finish-candidate head ws k f = feasible-test head (removeAt k ws) (finish-feasible head (removeAt k ws) f)
 
 -- ---- an accepted submit
 module _ (client deadline : ℕ) (s : State) (r : SubmitReady client deadline s) where
-  abbrev clock : ℕ
-  clock = s .head .clock
+  abbrev head : Head
+  head = s .head
 
   abbrev all : List Request
   all = withNew client deadline s
@@ -86,28 +100,28 @@ module _ (client deadline : ℕ) (s : State) (r : SubmitReady client deadline s)
       (λ w g. omega arith) (r .ready .sound .given))
       (r .ready .sound .ordered)
 
-  pub finish-kept : CanAllFinish clock (deadlinesOf all) → submitted client deadline s ≡ kept client deadline s
+  pub finish-kept : CanFinish head all → submitted client deadline s ≡ kept client deadline s
   unfolding submitted
   finish-kept f =
-      cond-true (hasNoOverfull clock all) (kept client deadline s) (droppedAt (victimPlace client deadline s) client deadline s)
-      (feasible-test clock all (finish-feasible clock all f))
+      cond-true (hasNoOverfull head all) (kept client deadline s) (droppedAt (victimPlace client deadline s) client deadline s)
+      (feasible-test head all (finish-feasible head all f))
 
-  pub unfinished-dropped : (CanAllFinish clock (deadlinesOf all) → ⊥)
+  pub unfinished-dropped : (CanFinish head all → ⊥)
       → submitted client deadline s ≡ droppedAt (victimPlace client deadline s) client deadline s
   unfolding submitted
   unfinished-dropped f =
-      cond-false (hasNoOverfull clock all) (kept client deadline s) (droppedAt (victimPlace client deadline s) client deadline s)
-      (elim (value (hasNoOverfull clock all)) [
-        | is-true e ↦ absurd (f (feasible-finish clock all new-ordered (feasible-facts clock all e)))
+      cond-false (hasNoOverfull head all) (kept client deadline s) (droppedAt (victimPlace client deadline s) client deadline s)
+      (elim (value (hasNoOverfull head all)) [
+        | is-true e ↦ absurd (f (feasible-finish head all new-ordered (feasible-facts head all e)))
         | is-false e ↦ e
       ])
 
-  pub victim-helps : CanAllFinish clock (deadlinesOf (removeAt (victimPlace client deadline s) all))
+  pub victim-helps : CanFinish head (removeAt (victimPlace client deadline s) all)
   victim-helps =
-      candidate-finish clock all (victimPlace client deadline s) new-ordered (victim-place client deadline s r .1)
+      candidate-finish head all (victimPlace client deadline s) new-ordered (victim-place client deadline s r .1)
 
   -- the waiting ones have room, so with the new one there is at most one too many
-  spare : (D : ℕ) → dueBy D all ≤ suc (room clock D)
+  spare : (D : ℕ) → dueBy D all ≤ suc (roomTo head D)
   spare D =
       omega (
         arith,
@@ -117,14 +131,14 @@ module _ (client deadline : ℕ) (s : State) (r : SubmitReady client deadline s)
       )
 
   -- where D is the smallest overfull deadline, those with deadlines up to it help
-  pub helps-exactly : (D : ℕ) → room clock D < dueBy D all → ((x : ℕ) → x < D → dueBy x all ≤ room clock x) → (j : ℕ)
-      → j < length all → CanAllFinish clock (deadlinesOf (removeAt j all)) ↔ (getD all j zeroRequest .deadline ≤ D)
+  pub helps-exactly : (D : ℕ) → roomTo head D < dueBy D all → ((x : ℕ) → x < D → dueBy x all ≤ roomTo head x) → (j : ℕ)
+      → j < length all → CanFinish head (removeAt j all) ↔ (getD all j zeroRequest .deadline ≤ D)
   helps-exactly D h g j i = (early, late)
     where
       w : Request
       w = getD all j zeroRequest
 
-      early : CanAllFinish clock (deadlinesOf (removeAt j all)) → w .deadline ≤ D
+      early : CanFinish head (removeAt j all) → w .deadline ≤ D
       early f =
           elim (order (w .deadline) D) [
             | le k ↦ k
@@ -132,13 +146,13 @@ module _ (client deadline : ℕ) (s : State) (r : SubmitReady client deadline s)
               arith,
               dueBy-remove D j zeroRequest all i,
               due-no D w k,
-              finish-feasible clock (removeAt j all) f D,
+              finish-feasible head (removeAt j all) f D,
             ))
           ]
 
-      late : w .deadline ≤ D → CanAllFinish clock (deadlinesOf (removeAt j all))
+      late : w .deadline ≤ D → CanFinish head (removeAt j all)
       late k =
-          feasible-finish clock (removeAt j all) (order-remove j all new-ordered)
+          feasible-finish head (removeAt j all) (order-remove j all new-ordered)
           (λ x. elim (order D x) [
             | le m ↦ omega (arith, dueBy-remove x j zeroRequest all i, due-yes x w (omega arith), spare x)
             | gt m ↦ omega (arith, dueBy-remove x j zeroRequest all i, g x m)

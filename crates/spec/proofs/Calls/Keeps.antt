@@ -7,9 +7,9 @@ use mathlib.Core.List.{List, [], _∷_}
 use native.Mathlib.Omega.{arith}
 use borrow.Author.Tests.{le-ltb, eq-eqb}
 use lib.ListN.{length, getD, replicate, length-replicate, getD-replicate}
-use Rattle.slots.proofs.Room.{room-back, room-step, room-split}
 use Rattle.slots.proofs.Laws.Tests.{le, gt, order}
 use Rattle.slots.proofs.Laws.Sums.{All, all-imp}
+use Rattle.spec.specs.declared.types.Head.{Head}
 use Rattle.spec.specs.declared.types.Request.{Request}
 use Rattle.spec.specs.declared.types.Counts.{Counts}
 use Rattle.spec.specs.Every.{mapFrom}
@@ -26,10 +26,11 @@ use Rattle.spec.specs.Lists.{Call, opening, submit, tick, report, chart,
 use Rattle.spec.proofs.Demands.Words.{refusalsOf}
 use Rattle.spec.proofs.Laws.Clients.{of-yes, of-no, waitingOf-none, waitingOf-put, waitingOf-remove, Changed, changes}
 use Rattle.spec.proofs.Laws.Clients.{stays, changed, length-change}
+use Rattle.spec.proofs.Laws.Room.{capacity-one, room-back, room-step, room-split, room-next}
 use Rattle.spec.proofs.Laws.Every.{all-two, Value, is-true, is-false, value, length-mapFrom, getD-mapFrom, all-remove}
 use Rattle.spec.proofs.Laws.Every.{length-remove}
 use Rattle.spec.proofs.Laws.Order.{InOrder, Before, before-deadline, order-put, order-remove, all-put, length-put}
-use Rattle.spec.proofs.Laws.Feasible.{Feasible, feasible-facts, due-yes, dueBy-cons, dueBy-none, dueBy-self}
+use Rattle.spec.proofs.Laws.Feasible.{FeasibleAt, Feasible, feasible-facts, due-yes, dueBy-cons, dueBy-none, dueBy-self}
 use Rattle.spec.proofs.Laws.Sound.{within-test, Shaped, Ahead, Given, Owned, Balanced}
 use Rattle.spec.proofs.Laws.Accepted.{Ready, OpenReady, open-ready, SubmitReady, submit-ready, TickReady, tick-ready}
 use Rattle.spec.proofs.Laws.Accepted.{report-ready, chart-ready, waiting-length, next-waiting, next-behind, next-length}
@@ -58,8 +59,8 @@ tidy s r =
 
 -- a state that a call leaves is sound where its requests and counts are
 pub next-ready : (clock last : ℕ) (ws : List Request) (cs : List Counts) (s : State) → Ready s → clock ≤ clockEnd
-    → last ≤ numberEnd → length ws ≤ length (s .waitingTable) → Tidy clock last (s .head .clients) ws cs → Feasible clock ws
-    → Ready (nextState clock last ws cs s)
+    → last ≤ numberEnd → length ws ≤ length (s .waitingTable) → Tidy clock last (s .head .clients) ws cs
+    → FeasibleAt (s .head) clock ws → Ready (nextState clock last ws cs s)
 unfolding nextState
 next-ready clock last ws cs s r c l n t f =
     record {
@@ -85,7 +86,7 @@ next-ready clock last ws cs s r c l n t f =
             ahead = rw (next-waiting clock last ws cs s) (t .ahead);
             given = rw (next-waiting clock last ws cs s) (t .given);
             owned = rw (next-waiting clock last ws cs s) (t .owned);
-            feasible = rw (next-waiting clock last ws cs s) f;
+            feasible = rw (next-waiting clock last ws cs s) (λ D. omega (arith, f D, room-next clock last ws cs s clock D));
             zeros = rw (next-behind clock last ws cs s, length-replicate);
             balanced = rw (next-waiting clock last ws cs s) (t .balanced);
           };
@@ -215,14 +216,14 @@ module _ (client deadline : ℕ) (s : State) (r : SubmitReady client deadline s)
       let shape = r .ready .shape in
       omega (arith, length-put (newRequest client deadline s) (waiting s), waiting-length s shape, shape .waits, r .free)
 
-  pub kept-keeps : Feasible (s .head .clock) (withNew client deadline s) → Ready (kept client deadline s .after)
+  pub kept-keeps : Feasible (s .head) (withNew client deadline s) → Ready (kept client deadline s .after)
   unfolding kept
   kept-keeps f =
       next-ready (s .head .clock) (suc (s .head .last)) (withNew client deadline s) (countedIn client s) s (r .ready)
       (r .ready .sound .headed .clock) number-left record-left (tidy-put client deadline s r) f
 
   pub dropped-keeps : (k : ℕ) → k < length (withNew client deadline s)
-      → isCandidate (s .head .clock) (withNew client deadline s) k ≡ true → Ready (droppedAt k client deadline s .after)
+      → isCandidate (s .head) (withNew client deadline s) k ≡ true → Ready (droppedAt k client deadline s .after)
   unfolding droppedAt isCandidate
   dropped-keeps k n e =
       next-ready (s .head .clock) (suc (s .head .last)) (removeAt k (withNew client deadline s))
@@ -230,23 +231,23 @@ module _ (client deadline : ℕ) (s : State) (r : SubmitReady client deadline s)
       (r .ready .sound .headed .clock) number-left (omega (arith, record-left, length-remove k (withNew client deadline s) n))
       (tidy-remove oneMoreDropped dropped-ends k (s .head .clock) (suc (s .head .last)) (s .head .clients)
       (withNew client deadline s) (countedIn client s) n (tidy-put client deadline s r))
-      (feasible-facts (s .head .clock) (removeAt k (withNew client deadline s)) e)
+      (feasible-facts (s .head) (removeAt k (withNew client deadline s)) e)
 
 pub submit-keeps : (client deadline : ℕ) (s : State) → SubmitReady client deadline s → Ready (submitted client deadline s .after)
 unfolding submitted
-submit-keeps client deadline s r = go (value (hasNoOverfull (s .head .clock) (withNew client deadline s)))
+submit-keeps client deadline s r = go (value (hasNoOverfull (s .head) (withNew client deadline s)))
   where
-    go : Value (hasNoOverfull (s .head .clock) (withNew client deadline s)) → Ready (submitted client deadline s .after)
-    go (is-true e) = rw e (kept-keeps client deadline s r (feasible-facts (s .head .clock) (withNew client deadline s) e))
+    go : Value (hasNoOverfull (s .head) (withNew client deadline s)) → Ready (submitted client deadline s .after)
+    go (is-true e) = rw e (kept-keeps client deadline s r (feasible-facts (s .head) (withNew client deadline s) e))
     go (is-false e) =
         let v = victim-place client deadline s r in
         rw e (dropped-keeps client deadline s r (victimPlace client deadline s) (v .0) (v .1))
 
 -- ---- tick
 -- where there is room from the next slot on, no deadline is past
-pub tidy-later : (clock last clients : ℕ) (ws : List Request) (cs : List Counts) → Feasible (suc clock) ws
+pub tidy-later : (head : Head) (clock last clients : ℕ) (ws : List Request) (cs : List Counts) → FeasibleAt head (suc clock) ws
     → Tidy clock last clients ws cs → Tidy (suc clock) last clients ws cs
-tidy-later clock last clients ws cs f t =
+tidy-later head clock last clients ws cs f t =
     record {
       ordered = t .ordered;
       ahead =
@@ -261,7 +262,7 @@ tidy-later clock last clients ws cs f t =
     later : (w : Request) → 1 ≤ dueBy (w .deadline) ws → suc (suc clock) ≤ w .deadline
     later w d =
         elim (order (w .deadline) (suc clock)) [
-          | le h ↦ absurd (omega (arith, f (w .deadline), room-back (suc clock) (w .deadline) h))
+          | le h ↦ absurd (omega (arith, f (w .deadline), room-back head (suc clock) (w .deadline) h))
           | gt h ↦ h
         ]
 
@@ -288,16 +289,23 @@ tidy-restart period start clock last clients ws cs t = go (isPeriodStart period 
     go false = t
 
 -- the first waiting request served in the slot at the clock, there is room for the others from the next slot on
-pub feasible-later : (clock : ℕ) (w : Request) (ws : List Request) → InOrder (w ∷ ws) → Feasible clock (w ∷ ws)
-    → Feasible (suc clock) ws
-feasible-later clock w ws o f D =
+pub feasible-later : (head : Head) (w : Request) (ws : List Request) → InOrder (w ∷ ws) → Feasible head (w ∷ ws)
+    → FeasibleAt head (suc (head .clock)) ws
+feasible-later head w ws o f D =
     elim (order (w .deadline) D) [
       | le h ↦
-          elim (order D clock) [
-            | le g ↦ absurd (omega (arith, f D, dueBy-cons D w ws, due-yes D w h, room-back clock D g))
+          elim (order D (head .clock)) [
+            | le g ↦ absurd (omega (arith, f D, dueBy-cons D w ws, due-yes D w h, room-back head (head .clock) D g))
             | gt g ↦
-                omega
-                (arith, f D, dueBy-cons D w ws, due-yes D w h, room-split clock (suc clock) D (omega arith) g, room-step clock)
+                omega (
+                  arith,
+                  f D,
+                  dueBy-cons D w ws,
+                  due-yes D w h,
+                  room-split head (head .clock) (suc (head .clock)) D (omega arith) g,
+                  room-step head (head .clock),
+                  capacity-one head (head .clock),
+                )
           ]
       | gt h ↦
           omega (
@@ -308,14 +316,14 @@ feasible-later clock w ws o f D =
     ]
 
 later-ready : (ws : List Request) (cs : List Counts) (s : State) → TickReady s → length ws ≤ length (s .waitingTable)
-    → Tidy (s .head .clock) (s .head .last) (s .head .clients) ws cs → Feasible (suc (s .head .clock)) ws
-    → Ready (oneLater ws cs s)
+    → Tidy (s .head .clock) (s .head .last) (s .head .clients) ws cs
+    → FeasibleAt (s .head) (suc (s .head .clock)) ws → Ready (oneLater ws cs s)
 later-ready ws cs s r n t f =
     let clock = suc (s .head .clock) in
     next-ready clock (s .head .last) ws (countsAfter (s .head .period) clock ws cs) s (r .ready)
     (omega (arith, r .ready .sound .headed .clock, r .ticking)) (r .ready .sound .headed .last) n
     (tidy-restart (s .head .period) clock clock (s .head .last) (s .head .clients) ws cs
-    (tidy-later (s .head .clock) (s .head .last) (s .head .clients) ws cs f t)) f
+    (tidy-later (s .head) (s .head .clock) (s .head .last) (s .head .clients) ws cs f t)) f
 
 pub tick-keeps : (s : State) → TickReady s → Ready (ticked (waiting s) s .after)
 unfolding ticked removeAt
@@ -324,14 +332,14 @@ tick-keeps s r =
     (r .ready .sound .feasible)
   where
     go : (ws : List Request) → length ws ≤ length (s .waitingTable)
-        → Tidy (s .head .clock) (s .head .last) (s .head .clients) ws (s .clientTable) → Feasible (s .head .clock) ws
+        → Tidy (s .head .clock) (s .head .last) (s .head .clients) ws (s .clientTable) → Feasible (s .head) ws
         → Ready (ticked ws s .after)
     go [] n t f = later-ready [] (s .clientTable) s r n t (λ D. omega (arith, dueBy-none D [] tt))
     go (w ∷ ws) n t f =
         later-ready ws (change oneMoreServed (w .client) (s .clientTable)) s r (omega arith)
         (tidy-remove oneMoreServed served-ends 0 (s .head .clock) (s .head .last) (s .head .clients) (w ∷ ws) (s .clientTable)
         (omega arith) t)
-        (feasible-later (s .head .clock) w ws (t .ordered) f)
+        (feasible-later (s .head) w ws (t .ordered) f)
 
 -- ---- every call
 accepted-keeps : (c : Call) (s : State) → firstMatch (refusalsOf c s) ≡ 0 → Ready (acceptedOf c s .after)

@@ -7,22 +7,25 @@ use mathlib.Core.List.{List, [], _∷_}
 use native.Mathlib.Omega.{arith}
 use lib.Dec.{eqb}
 use lib.ListN.{drop}
-use Rattle.slots.specs.Room.{room}
 use Rattle.slots.proofs.Laws.Tests.{Same, same-yes, same-no, same}
 use Rattle.slots.proofs.Laws.Sums.{All, all-imp}
+use Rattle.spec.specs.declared.types.Head.{Head}
 use Rattle.spec.specs.declared.types.Request.{Request}
 use Rattle.spec.specs.Tables.{State, waiting}
-use Rattle.spec.specs.Chart.{startBefore, startsOf, Segment, joinLeft, segmentsOf, dueBy}
+use Rattle.spec.specs.Chart.{room, roomTo, startBefore, startsOf, Segment, joinLeft, segmentsOf, dueBy}
 use Rattle.spec.proofs.Demands.Words.{Ascending, Pairs, Finish, ChartFits, slotsOfAll, Apart}
 use Rattle.spec.proofs.Laws.Order.{before-deadline, InOrder}
 use Rattle.spec.proofs.Laws.Feasible.{due-yes, dueBy-cons, Feasible}
 use Rattle.spec.proofs.Laws.Accepted.{Ready}
 
 -- ---- the chart of requests that have room from the clock on
-module _ (clock : ℕ) where
+module _ (head : Head) where
+  abbrev clock : ℕ
+  clock = head .clock
+
   -- w and those behind it have room besides n requests that come before
   abbrev Behind : ℕ → Request → List Request → Type 0
-  Behind n w ws = (D : ℕ) → w .deadline ≤ D → n + dueBy D (w ∷ ws) ≤ room clock D
+  Behind n w ws = (D : ℕ) → w .deadline ≤ D → n + dueBy D (w ∷ ws) ≤ roomTo head D
 
   own-room : (n : ℕ) (w : Request) (ws : List Request) → Behind n w ws → suc (clock + n) ≤ w .deadline
   unfolding room
@@ -63,15 +66,16 @@ module _ (clock : ℕ) where
             );
           }
 
-pub starts-chart : (clock : ℕ) (ws : List Request) → InOrder ws → Feasible clock ws → ChartFits clock ws (startsOf ws)
+pub starts-chart : (head : Head) (ws : List Request) → InOrder ws → Feasible head ws → ChartFits (head .clock) ws (startsOf ws)
 unfolding startsOf
-starts-chart clock [] o f = record { ended = tt; ahead = tt; ascending = tt }
-starts-chart clock (w ∷ ws) o f =
-    let e : clock + 0 ≡ clock = omega arith in rw e at (chart-from clock 0 w ws o (λ D h. omega (arith, f D)))
+starts-chart head [] o f = record { ended = tt; ahead = tt; ascending = tt }
+starts-chart head (w ∷ ws) o f =
+    let e : head .clock + 0 ≡ head .clock = omega arith in
+    rw e at (chart-from head 0 w ws o (λ D h. omega (arith, f D)))
 
 -- so in sound tables
 pub ready-chart : (s : State) → Ready s → ChartFits (s .head .clock) (waiting s) (startsOf (waiting s))
-ready-chart s r = starts-chart (s .head .clock) (waiting s) (r .sound .ordered) (r .sound .feasible)
+ready-chart s r = starts-chart (s .head) (waiting s) (r .sound .ordered) (r .sound .feasible)
 
 -- "From the last record to the first, a request ends at the smaller of its deadline and the start of the record behind it, and
 -- starts one slot earlier.": each starts at the latest slot at which it and all later ones finish, in chart order

@@ -44,7 +44,7 @@ outcome-decided c s = rw (outcome-unless c s) at (decided (refusalsOf c s) s (ac
 pub accepted-answer : (c : Call) (s : State) → isRefused (acceptedOf c s .answer) ≡ false
 unfolding opened submitted kept droppedAt ticked reported charted
 accepted-answer (opening clients period) s = refl
-accepted-answer (submit client deadline) s = go (hasNoOverfull (s .head .clock) (withNew client deadline s))
+accepted-answer (submit client deadline) s = go (hasNoOverfull (s .head) (withNew client deadline s))
   where
     go : (x : Bool)
         → isRefused (cond x (kept client deadline s) (droppedAt (victimPlace client deadline s) client deadline s) .answer) ≡ false

@@ -12,6 +12,7 @@ use lib.ListN.{length, getD}
 use lib.Seq.{getD-set-same, getD-set-other}
 use Rattle.slots.proofs.Laws.Tests.{Test, holds, fails, test, Same, same-yes, same-no, same}
 use Rattle.slots.proofs.Laws.Sums.{All}
+use Rattle.spec.specs.declared.types.Head.{Head}
 use Rattle.spec.specs.declared.types.Request.{Request}
 use Rattle.spec.specs.declared.types.Counts.{Counts}
 use Rattle.spec.specs.Every.{toNumber}
@@ -30,71 +31,71 @@ use Rattle.spec.proofs.Laws.Sound.{Owned}
 use Rattle.spec.proofs.Laws.Accepted.{SubmitReady}
 
 -- ---- the candidates: what holds of the places of all candidates holds of each in the list, and the other way round
-from-all : (p : ℕ → Type 0) (clock : ℕ) (all : List Request) (i : ℕ) (ws : List Request)
-    → ((k : ℕ) → k < length ws → isCandidate clock all (i + k) ≡ true → p (i + k)) → All p (candidatesFrom clock all i ws)
+from-all : (p : ℕ → Type 0) (head : Head) (all : List Request) (i : ℕ) (ws : List Request)
+    → ((k : ℕ) → k < length ws → isCandidate head all (i + k) ≡ true → p (i + k)) → All p (candidatesFrom head all i ws)
 unfolding candidatesFrom
-from-all p clock all i [] f = tt
-from-all p clock all i (w ∷ ws) f =
-    go (isCandidate clock all i) first (from-all p clock all (suc i) ws (λ k h. rest k (f (suc k) (omega arith))))
+from-all p head all i [] f = tt
+from-all p head all i (w ∷ ws) f =
+    go (isCandidate head all i) first (from-all p head all (suc i) ws (λ k h. rest k (f (suc k) (omega arith))))
   where
     later : List ℕ
-    later = candidatesFrom clock all (suc i) ws
+    later = candidatesFrom head all (suc i) ws
 
-    first : isCandidate clock all i ≡ true → p i
+    first : isCandidate head all i ≡ true → p i
     first = let e : i + 0 ≡ i = omega arith in rw e at (f 0 (omega arith))
 
-    rest : (k : ℕ) → (isCandidate clock all (i + suc k) ≡ true → p (i + suc k))
-        → isCandidate clock all (suc i + k) ≡ true → p (suc i + k)
+    rest : (k : ℕ) → (isCandidate head all (i + suc k) ≡ true → p (i + suc k))
+        → isCandidate head all (suc i + k) ≡ true → p (suc i + k)
     rest k g = let e : i + suc k ≡ suc i + k = omega arith in rw e at g
 
     go : (x : Bool) → (x ≡ true → p i) → All p later → All p (keepIf x i later)
     go true h a = (h refl, a)
     go false h a = a
 
-from-each : (p : ℕ → Type 0) (clock : ℕ) (all : List Request) (i : ℕ) (ws : List Request) → All p (candidatesFrom clock all i ws)
-    → (k : ℕ) → k < length ws → isCandidate clock all (i + k) ≡ true → p (i + k)
+from-each : (p : ℕ → Type 0) (head : Head) (all : List Request) (i : ℕ) (ws : List Request) → All p (candidatesFrom head all i ws)
+    → (k : ℕ) → k < length ws → isCandidate head all (i + k) ≡ true → p (i + k)
 unfolding candidatesFrom
-from-each p clock all i [] a k h = absurd (omega arith)
-from-each p clock all i (w ∷ ws) a zero h =
-    let e : i + 0 ≡ i = omega arith in rw e (go (isCandidate clock all i) a)
+from-each p head all i [] a k h = absurd (omega arith)
+from-each p head all i (w ∷ ws) a zero h =
+    let e : i + 0 ≡ i = omega arith in rw e (go (isCandidate head all i) a)
   where
-    go : (x : Bool) → All p (keepIf x i (candidatesFrom clock all (suc i) ws)) → x ≡ true → p i
+    go : (x : Bool) → All p (keepIf x i (candidatesFrom head all (suc i) ws)) → x ≡ true → p i
     go true a e = a .0
     go false a e = absurd (let z : _≡_ {A = ℕ} 0 1 = ap toNumber e in omega arith)
-from-each p clock all i (w ∷ ws) a (suc k) h =
+from-each p head all i (w ∷ ws) a (suc k) h =
     let e : i + suc k ≡ suc i + k = omega arith in
-    rw e (from-each p clock all (suc i) ws (go (isCandidate clock all i) a) k (omega arith))
+    rw e (from-each p head all (suc i) ws (go (isCandidate head all i) a) k (omega arith))
   where
-    go : (x : Bool) → All p (keepIf x i (candidatesFrom clock all (suc i) ws)) → All p (candidatesFrom clock all (suc i) ws)
+    go : (x : Bool) → All p (keepIf x i (candidatesFrom head all (suc i) ws)) → All p (candidatesFrom head all (suc i) ws)
     go true a = a .1
     go false a = a
 
 -- "Candidates are the requests .. whose removal leaves no overfull deadline.": k is in the list of candidates just where k is a
 -- request's place and passes the test
-pub candidates-are : (p : ℕ → Type 0) (clock : ℕ) (ws : List Request)
-    → ((k : ℕ) → k < length ws → isCandidate clock ws k ≡ true → p k) ↔ All p (candidates clock ws)
-candidates-are p clock ws = (
-  (λ f. from-all p clock ws 0 ws (λ k. rw zero-add (f k))),
-  (λ a k. rw zero-add at (from-each p clock ws 0 ws a k)),
+pub candidates-are : (p : ℕ → Type 0) (head : Head) (ws : List Request)
+    → ((k : ℕ) → k < length ws → isCandidate head ws k ≡ true → p k) ↔ All p (candidates head ws)
+candidates-are p head ws = (
+  (λ f. from-all p head ws 0 ws (λ k. rw zero-add (f k))),
+  (λ a k. rw zero-add at (from-each p head ws 0 ws a k)),
 )
 
-from-ascending : (clock : ℕ) (all : List Request) (i : ℕ) (ws : List Request) → Ascending (candidatesFrom clock all i ws)
+from-ascending : (head : Head) (all : List Request) (i : ℕ) (ws : List Request) → Ascending (candidatesFrom head all i ws)
 unfolding candidatesFrom
-from-ascending clock all i [] = tt
-from-ascending clock all i (w ∷ ws) =
-    go (isCandidate clock all i)
-    (from-all (λ (k : ℕ). i < k) clock all (suc i) ws (λ k h e. omega arith)) (from-ascending clock all (suc i) ws)
+from-ascending head all i [] = tt
+from-ascending head all i (w ∷ ws) =
+    go (isCandidate head all i)
+    (from-all (λ (k : ℕ). i < k) head all (suc i) ws (λ k h e. omega arith)) (from-ascending head all (suc i) ws)
   where
     later : List ℕ
-    later = candidatesFrom clock all (suc i) ws
+    later = candidatesFrom head all (suc i) ws
 
     go : (x : Bool) → All (λ (k : ℕ). i < k) later → Ascending later → Ascending (keepIf x i later)
     go true a o = (a, o)
     go false a o = o
 
 -- the places stand in chart order
-pub candidates-ascending : (clock : ℕ) (ws : List Request) → Ascending (candidates clock ws)
-candidates-ascending clock ws = from-ascending clock ws 0 ws
+pub candidates-ascending : (head : Head) (ws : List Request) → Ascending (candidates head ws)
+candidates-ascending head ws = from-ascending head ws 0 ws
 
 -- ---- the miss ratio: the ratio of a is not greater than that of b
 abbrev pub AtMost : Counts → Counts → Type 0
@@ -192,23 +193,23 @@ module _ (cs : List Counts) (ws : List Request) where
 
 -- ---- the victim, where there is a candidate
 module _
-    (clock : ℕ) (cs : List Counts) (ws : List Request)
-    (k : ℕ) (inside : k < length ws) (fit : isCandidate clock ws k ≡ true) where
+    (head : Head) (cs : List Counts) (ws : List Request)
+    (k : ℕ) (inside : k < length ws) (fit : isCandidate head ws k ≡ true) where
   -- it is one of the candidates
-  pub victim-among : (p : ℕ → Type 0) → ((j : ℕ) → j < length ws → isCandidate clock ws j ≡ true → p j) → p (victimOf clock cs ws)
+  pub victim-among : (p : ℕ → Type 0) → ((j : ℕ) → j < length ws → isCandidate head ws j ≡ true → p j) → p (victimOf head cs ws)
   unfolding victimOf
   victim-among p f =
-      go (candidates clock ws) (candidates-are p clock ws .0 f) (λ a. candidates-are (λ j. ⊥) clock ws .1 a k inside fit)
+      go (candidates head ws) (candidates-are p head ws .0 f) (λ a. candidates-are (λ j. ⊥) head ws .1 a k inside fit)
     where
       go : (xs : List ℕ) → All p xs → (All (λ (j : ℕ). ⊥) xs → ⊥) → p (smallestOf cs ws xs)
       go [] a none = absurd (none tt)
       go (x ∷ xs) a none = smallest-among cs ws p x xs a
 
-  victim-wins : ((j : ℕ) → j < length ws → 1 ≤ countsAt cs ws j .submitted) → Wins cs ws (victimOf clock cs ws) k
+  victim-wins : ((j : ℕ) → j < length ws → 1 ≤ countsAt cs ws j .submitted) → Wins cs ws (victimOf head cs ws) k
   unfolding victimOf
   victim-wins c =
-      candidates-are (Wins cs ws (smallestOf cs ws (candidates clock ws))) clock ws .1
-      (go (candidates clock ws) (candidates-ascending clock ws) (candidates-are (Counted cs ws) clock ws .0 (λ j h e. c j h)))
+      candidates-are (Wins cs ws (smallestOf cs ws (candidates head ws))) head ws .1
+      (go (candidates head ws) (candidates-ascending head ws) (candidates-are (Counted cs ws) head ws .0 (λ j h e. c j h)))
       k inside fit
     where
       go : (xs : List ℕ) → Ascending xs → All (Counted cs ws) xs → All (Wins cs ws (smallestOf cs ws xs)) xs
@@ -217,22 +218,22 @@ module _
 
   -- "The smallest wins;": the candidate at k has no smaller ratio
   pub victim-least : ((j : ℕ) → j < length ws → 1 ≤ countsAt cs ws j .submitted)
-      → hasSmallerRatio (countsAt cs ws k) (countsAt cs ws (victimOf clock cs ws)) ≡ false
-  victim-least c = at-most-test (countsAt cs ws (victimOf clock cs ws)) (countsAt cs ws k) (victim-wins c .0)
+      → hasSmallerRatio (countsAt cs ws k) (countsAt cs ws (victimOf head cs ws)) ≡ false
+  victim-least c = at-most-test (countsAt cs ws (victimOf head cs ws)) (countsAt cs ws k) (victim-wins c .0)
 
   -- ".. among equals, the last in chart order."
   pub victim-last : ((j : ℕ) → j < length ws → 1 ≤ countsAt cs ws j .submitted)
-      → hasSmallerRatio (countsAt cs ws (victimOf clock cs ws)) (countsAt cs ws k) ≡ false → k ≤ victimOf clock cs ws
-  victim-last c e = victim-wins c .1 (at-most-facts (countsAt cs ws k) (countsAt cs ws (victimOf clock cs ws)) e)
+      → hasSmallerRatio (countsAt cs ws (victimOf head cs ws)) (countsAt cs ws k) ≡ false → k ≤ victimOf head cs ws
+  victim-last c e = victim-wins c .1 (at-most-facts (countsAt cs ws k) (countsAt cs ws (victimOf head cs ws)) e)
 
 -- ---- of an accepted submit
 -- without the new request all have room: it is a candidate
 pub new-candidate : (client deadline : ℕ) (s : State) → SubmitReady client deadline s
-    → isCandidate (s .head .clock) (withNew client deadline s) (placeOf (newRequest client deadline s) (waiting s)) ≡ true
+    → isCandidate (s .head) (withNew client deadline s) (placeOf (newRequest client deadline s) (waiting s)) ≡ true
 unfolding isCandidate
 new-candidate client deadline s r =
     rw (remove-put (newRequest client deadline s) (waiting s))
-    (feasible-test (s .head .clock) (waiting s) (r .ready .sound .feasible))
+    (feasible-test (s .head) (waiting s) (r .ready .sound .feasible))
 
 pub new-inside : (client deadline : ℕ) (s : State)
     → placeOf (newRequest client deadline s) (waiting s) < length (withNew client deadline s)
@@ -242,11 +243,11 @@ new-inside client deadline s =
 -- the victim is a candidate
 pub victim-place : (client deadline : ℕ) (s : State) → SubmitReady client deadline s
     → (victimPlace client deadline s < length (withNew client deadline s))
-    × (isCandidate (s .head .clock) (withNew client deadline s) (victimPlace client deadline s) ≡ true)
+    × (isCandidate (s .head) (withNew client deadline s) (victimPlace client deadline s) ≡ true)
 victim-place client deadline s r =
-    victim-among (s .head .clock) (countedIn client s) (withNew client deadline s)
+    victim-among (s .head) (countedIn client s) (withNew client deadline s)
     (placeOf (newRequest client deadline s) (waiting s)) (new-inside client deadline s) (new-candidate client deadline s r)
-    (λ (j : ℕ). (j < length (withNew client deadline s)) × (isCandidate (s .head .clock) (withNew client deadline s) j ≡ true))
+    (λ (j : ℕ). (j < length (withNew client deadline s)) × (isCandidate (s .head) (withNew client deadline s) j ≡ true))
     (λ j h e. (h, e))
 
 -- "the new request already counted in submitted": no ratio has the divisor 0

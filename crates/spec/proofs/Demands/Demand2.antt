@@ -9,7 +9,6 @@ use mathlib.Core.Bool.{true, false}
 use mathlib.Core.List.{List, [], _∷_}
 use native.Mathlib.Omega.{arith}
 use lib.ListN.{length}
-use Rattle.slots.specs.Plan.{CanAllFinish}
 use Rattle.slots.proofs.Laws.Sums.{All}
 use Rattle.spec.specs.declared.types.Request.{Request}
 use Rattle.spec.specs.declared.types.Counts.{Counts}
@@ -21,7 +20,7 @@ use Rattle.spec.specs.Victim.{hasSmallerRatio, countsAt}
 use Rattle.spec.specs.Calls.{Outcome, kept, droppedAt, requestAt, newRequest, countedIn, withNew, requestAt, kept}
 use Rattle.spec.specs.Calls.{victimPlace, submitted, submitOf, ticked, tickOf}
 use Rattle.spec.specs.Lists.{submit, tick, outcomeOf, isRefused}
-use Rattle.spec.proofs.Demands.Words.{deadlinesOf}
+use Rattle.spec.proofs.Demands.Words.{CanFinish}
 use Rattle.spec.proofs.Laws.Order.{getD-put, remove-put, order-test, InOrder, first-earliest}
 use Rattle.spec.proofs.Laws.Feasible.{overfull-test, roomy-test, Verdict, fine, over, verdict}
 use Rattle.spec.proofs.Laws.Accepted.{kept-waiting, dropped-waiting, ticked-waiting, SubmitReady, submit-ready}
@@ -34,11 +33,11 @@ use Rattle.spec.proofs.Calls.Fair.{unfinished-dropped, victim-helps, he
 -- ---- submit. Among the waiting requests and the new one, in chart order, a request is named by its place j
 -- "every request can still finish"
 abbrev pub AllFinish : ℕ → ℕ → State → Type 0
-AllFinish client deadline s = CanAllFinish (s .head .clock) (deadlinesOf (withNew client deadline s))
+AllFinish client deadline s = CanFinish (s .head) (withNew client deadline s)
 
 -- all but the one at j can finish: its removal helps
 abbrev pub OthersFinish : ℕ → ℕ → ℕ → State → Type 0
-OthersFinish j client deadline s = CanAllFinish (s .head .clock) (deadlinesOf (removeAt j (withNew client deadline s)))
+OthersFinish j client deadline s = CanFinish (s .head) (removeAt j (withNew client deadline s))
 
 -- the counts of its client, "the new request already counted in submitted"
 abbrev pub countsOf : ℕ → ℕ → ℕ → State → Counts
@@ -128,17 +127,17 @@ fair-submit client deadline s e =
       helps = victim-helps client deadline s r;
       counted = some;
       fair =
-          λ j h f. victim-least (s .head .clock) (countedIn client s) (withNew client deadline s) j h
-          (finish-candidate (s .head .clock) (withNew client deadline s) j f) some;
+          λ j h f. victim-least (s .head) (countedIn client s) (withNew client deadline s) j h
+          (finish-candidate (s .head) (withNew client deadline s) j f) some;
       last =
-          λ j h f. victim-last (s .head .clock) (countedIn client s) (withNew client deadline s) j h
-          (finish-candidate (s .head .clock) (withNew client deadline s) j f) some;
+          λ j h f. victim-last (s .head) (countedIn client s) (withNew client deadline s) j h
+          (finish-candidate (s .head) (withNew client deadline s) j f) some;
     }
 
 -- "These are exactly those with deadlines up to the smallest overfull one; later ones in the same segment do not help."
 pub record Candidates (client deadline D : ℕ) (s : State) : Type 0 where
-  pub overfull : isOverfull (s .head .clock) (withNew client deadline s) D ≡ true
-  pub smallest : (x : ℕ) → x < D → isOverfull (s .head .clock) (withNew client deadline s) x ≡ false
+  pub overfull : isOverfull (s .head) (withNew client deadline s) D ≡ true
+  pub smallest : (x : ℕ) → x < D → isOverfull (s .head) (withNew client deadline s) x ≡ false
   pub exactly : (j : ℕ) → j < length (withNew client deadline s)
       → OthersFinish j client deadline s ↔ (requestAt j client deadline s .deadline ≤ D)
 
@@ -148,19 +147,19 @@ Searched client deadline s nothing = AllFinish client deadline s
 Searched client deadline s (found D) = (AllFinish client deadline s → ⊥) × Candidates client deadline D s
 
 pub searched : (client deadline : ℕ) (s : State) → isRefused (submitOf client deadline s .answer) ≡ false
-    → Searched client deadline s (firstOverfull (s .head .clock) (withNew client deadline s))
-searched client deadline s e = go (verdict (s .head .clock) (withNew client deadline s) (new-ordered client deadline s r))
+    → Searched client deadline s (firstOverfull (s .head) (withNew client deadline s))
+searched client deadline s e = go (verdict (s .head) (withNew client deadline s) (new-ordered client deadline s r))
   where
     r : SubmitReady client deadline s
     r = accepted-submit client deadline s e .0
 
-    go : {f : Search} → Verdict (s .head .clock) (withNew client deadline s) f → Searched client deadline s f
-    go (fine f) = feasible-finish (s .head .clock) (withNew client deadline s) (new-ordered client deadline s r) f
+    go : {f : Search} → Verdict (s .head) (withNew client deadline s) f → Searched client deadline s f
+    go (fine f) = feasible-finish (s .head) (withNew client deadline s) (new-ordered client deadline s r) f
     go (over D h g) = (
-      (λ f. absurd (omega (arith, finish-feasible (s .head .clock) (withNew client deadline s) f D))),
+      (λ f. absurd (omega (arith, finish-feasible (s .head) (withNew client deadline s) f D))),
       record {
-        overfull = overfull-test (s .head .clock) (withNew client deadline s) D h;
-        smallest = λ x l. roomy-test (s .head .clock) (withNew client deadline s) x (g x l);
+        overfull = overfull-test (s .head) (withNew client deadline s) D h;
+        smallest = λ x l. roomy-test (s .head) (withNew client deadline s) x (g x l);
         exactly = helps-exactly client deadline s r D h g;
       },
     )

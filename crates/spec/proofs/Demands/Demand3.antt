@@ -3,23 +3,35 @@
 -- in Lists/, and why they hold in crate slots. Assumes nothing.
 use Prim.Native.Nat.{ℕ, _+_, _≤_}
 use mathlib.Core.Path.{_≡_, sym, ap, _∙_, subst}
+use mathlib.Core.Logic.{_↔_}
 use mathlib.Core.Bool.{false}
 use mathlib.Core.List.{List, [], map}
 use native.Mathlib.Omega.{arith}
 use lib.ListN.{length}
-use Rattle.slots.specs.Plan.{Slot, at, Plan, size}
+use Rattle.slots.specs.Plan.{Window, Fits, Slot, at, Plan, size}
 use Rattle.slots.proofs.Laws.Sums.{All, total}
-use Rattle.slots.proofs.Plain.{largest, reached}
+use Rattle.slots.proofs.Single.{Distinct, distinct, distinct-plan}
+use Rattle.slots.proofs.Largest.{largest, reached}
+use Rattle.spec.specs.declared.types.Head.{Head}
 use Rattle.spec.specs.declared.types.Request.{Request}
 use Rattle.spec.specs.Every.{exists}
 use Rattle.spec.specs.Tables.{State, waiting}
+use Rattle.spec.specs.Chart.{capacityOf}
 use Rattle.spec.specs.Calls.{Outcome, openOf}
 use Rattle.spec.specs.Lists.{asked, Call, run, Event, history, isRefused, isOpened, ticks, Booking, bookings}
 use Rattle.spec.specs.Lists.{servedRequests, waitingRequests, windows, slotFor, ownBookings, ownPlan}
 use Rattle.spec.proofs.Demands.Words.{Numbered}
+use Rattle.spec.proofs.Laws.Room.{capacity-one}
 use Rattle.spec.proofs.Laws.Accepted.{waiting-length}
 use Rattle.spec.proofs.Lists.Trace.{Traced, traced-open, waiting-as-many, served-as-many, along, accepted-open}
 use Rattle.spec.proofs.Lists.Largest.{Follows, queueOf, follows-open, follows-step, own-plan, as-many-both, slots-booked}
+
+-- "no slot to two of them": with what a slot can take now, a plan is just an entry for each request that fits and shares no slot
+pub plans-are : (head : Head) (R : List Window) (P : List Slot) → Plan (capacityOf head) R P ↔ (Fits R P × Distinct P)
+plans-are head R P = (
+  (λ p. (p .fits, distinct (capacityOf head) (capacity-one head) R P p)),
+  (λ d. distinct-plan (capacityOf head) (capacity-one head) R P (d .0) (d .1)),
+)
 
 -- what holds after a list of calls, of its calls and answers and the state that it leaves
 pub record Largest (es : List Event) (s : State) : Type 0 where
@@ -36,15 +48,17 @@ pub record Largest (es : List Event) (s : State) : Type 0 where
   -- "Served since open are the requests that the answers to the list's ticks name as served.": each answer names another
   pub served-once : length (servedRequests es) ≡ length (bookings es)
   -- a plan with that many requests: the served ones in their slots and the waiting ones at the start slots that chart writes
-  pub reached : Plan (windows es) (ownPlan es s)
+  pub reached : Plan (capacityOf (s .head)) (windows es) (ownPlan es s)
   pub as-many : size (ownPlan es s) ≡ length (servedRequests es) + length (waitingRequests es)
   -- and for each of these the plan has the slot of its booking
   pub in-place : All (λ (b : Booking). slotFor (ownBookings es s) (b .number) ≡ at (b .slot)) (ownBookings es s)
   -- ".. and is not bound by what the queue served or dropped.": no plan of the list's requests has more
-  pub largest : (P : List Slot) → Plan (windows es) P → size P ≤ length (servedRequests es) + length (waitingRequests es)
+  pub largest : (P : List Slot) → Plan (capacityOf (s .head)) (windows es) P
+      → size P ≤ length (servedRequests es) + length (waitingRequests es)
 
 largest-of : (es : List Event) (s : State) → Traced es s → Follows es s → Largest es s
 largest-of es s T B =
+    let heads = capacityOf (s .head) in
     record {
       clock = T .clock;
       last = T .last;
@@ -52,10 +66,10 @@ largest-of es s T B =
       held = T .sums;
       counted = omega (arith, waiting-length s (T .ready .shape), waiting-as-many es s T);
       served-once = served-as-many es s T;
-      reached = subst (Plan (windows es)) (own-plan es s (T .numbered)) (reached (queueOf es s) B .0);
-      as-many = ap size (sym (own-plan es s (T .numbered))) ∙ reached (queueOf es s) B .1 ∙ as-many-both es s T B;
+      reached = subst (Plan heads (windows es)) (own-plan es s (T .numbered)) (reached heads (queueOf es s) B .0);
+      as-many = ap size (sym (own-plan es s (T .numbered))) ∙ reached heads (queueOf es s) B .1 ∙ as-many-both es s T B;
       in-place = slots-booked es s T B;
-      largest = λ P p. omega (arith, largest (queueOf es s) B P p, as-many-both es s T B);
+      largest = λ P p. omega (arith, largest heads (queueOf es s) B P p, as-many-both es s T B);
     }
 
 -- "The list starts from the head and tables that an accepted open left, whatever its arguments and whatever lengths of table it took."

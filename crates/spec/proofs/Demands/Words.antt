@@ -5,11 +5,12 @@ use mathlib.Core.Path.{_≡_}
 use mathlib.Core.Bool.{true, false}
 use mathlib.Core.List.{List, [], _∷_, _++_, map}
 use lib.ListN.{length}
-use Rattle.slots.specs.Plan.{EndedBy}
+use Rattle.slots.specs.Plan.{EndedBy, CanAllFinish}
 use Rattle.slots.proofs.Laws.Sums.{All}
+use Rattle.spec.specs.declared.types.Head.{Head}
 use Rattle.spec.specs.declared.types.Request.{Request}
 use Rattle.spec.specs.Tables.{State}
-use Rattle.spec.specs.Chart.{Segment}
+use Rattle.spec.specs.Chart.{capacityOf, Segment}
 use Rattle.spec.specs.Refusals.{Refusal, openRefusals, submitRefusals, tickRefusals, reportRefusals, chartRefusals}
 use Rattle.spec.specs.Lists.{Asked, Call, opening, submit, tick, report, chart}
 
@@ -43,6 +44,10 @@ Pairs p (x ∷ xs) (y ∷ ys) = p x y × Pairs p xs ys
 -- the requests' deadlines
 abbrev pub deadlinesOf : List Request → List ℕ
 deadlinesOf ws = map (λ w. w .deadline) ws
+
+-- "every request can still finish": these requests, all from the head's clock on
+abbrev pub CanFinish : Head → List Request → Type 0
+CanFinish head ws = CanAllFinish (capacityOf head) (head .clock) (deadlinesOf ws)
 
 -- ---- the chart
 -- a slot for each of these requests, ended by its deadline

@@ -7,14 +7,15 @@ use native.Mathlib.Omega.{arith}
 use borrow.Author.Tests.{ltb-true, ltb-false, le-ltb, lt-ltb, not-true}
 use lib.Dec.{leb}
 use lib.ListN.{length, getD}
-use Rattle.slots.specs.Room.{room}
-use Rattle.slots.proofs.Room.{room-mono}
 use Rattle.slots.proofs.Laws.Tests.{Test, holds, fails, test, le, gt, order}
 use Rattle.slots.proofs.Laws.Sums.{All, all-each, all-imp, total, total-le}
+use Rattle.spec.specs.declared.types.Head.{Head}
 use Rattle.spec.specs.declared.types.Request.{Request}
 use Rattle.spec.specs.Every.{toNumber, countIf}
 use Rattle.spec.specs.Order.{putInOrder, removeAt}
-use Rattle.spec.specs.Chart.{dueBy, isOverfull, hasNoOverfull, Search, nothing, found, searchOverfull, firstOverfull}
+use Rattle.spec.specs.Chart.{room, roomTo, dueBy, isOverfull, hasNoOverfull, Search, nothing, found, searchOverfull}
+use Rattle.spec.specs.Chart.{firstOverfull}
+use Rattle.spec.proofs.Laws.Room.{room-mono}
 use Rattle.spec.proofs.Laws.Every.{every-facts, every-test, count-total, to-number-most, total-remove}
 use Rattle.spec.proofs.Laws.Order.{InOrder, Before, before-deadline, total-put}
 
@@ -82,25 +83,28 @@ dueBy-self (w ∷ ws) = (
       (λ v h. omega (arith, dueBy-cons (v .deadline) w ws)) (dueBy-self ws),
 )
 
--- ---- there is room for all that are due by any D
-abbrev pub Feasible : ℕ → List Request → Type 0
-Feasible clock ws = (D : ℕ) → dueBy D ws ≤ room clock D
+-- ---- there is room for all that are due by any D: from a clock on, or from the head's
+abbrev pub FeasibleAt : Head → ℕ → List Request → Type 0
+FeasibleAt head clock ws = (D : ℕ) → dueBy D ws ≤ room head clock D
 
-pub overfull-facts : (clock : ℕ) (ws : List Request) (D : ℕ) → isOverfull clock ws D ≡ true → room clock D < dueBy D ws
-unfolding isOverfull
-overfull-facts clock ws D e = ltb-true (room clock D) (dueBy D ws) e
+abbrev pub Feasible : Head → List Request → Type 0
+Feasible head ws = FeasibleAt head (head .clock) ws
 
-pub roomy-facts : (clock : ℕ) (ws : List Request) (D : ℕ) → isOverfull clock ws D ≡ false → dueBy D ws ≤ room clock D
+pub overfull-facts : (head : Head) (ws : List Request) (D : ℕ) → isOverfull head ws D ≡ true → roomTo head D < dueBy D ws
 unfolding isOverfull
-roomy-facts clock ws D e = ltb-false (room clock D) (dueBy D ws) e
+overfull-facts head ws D e = ltb-true (roomTo head D) (dueBy D ws) e
 
-pub roomy-test : (clock : ℕ) (ws : List Request) (D : ℕ) → dueBy D ws ≤ room clock D → isOverfull clock ws D ≡ false
+pub roomy-facts : (head : Head) (ws : List Request) (D : ℕ) → isOverfull head ws D ≡ false → dueBy D ws ≤ roomTo head D
 unfolding isOverfull
-roomy-test clock ws D h = le-ltb (room clock D) (dueBy D ws) h
+roomy-facts head ws D e = ltb-false (roomTo head D) (dueBy D ws) e
 
-pub overfull-test : (clock : ℕ) (ws : List Request) (D : ℕ) → room clock D < dueBy D ws → isOverfull clock ws D ≡ true
+pub roomy-test : (head : Head) (ws : List Request) (D : ℕ) → dueBy D ws ≤ roomTo head D → isOverfull head ws D ≡ false
 unfolding isOverfull
-overfull-test clock ws D h = lt-ltb (room clock D) (dueBy D ws) h
+roomy-test head ws D h = le-ltb (roomTo head D) (dueBy D ws) h
+
+pub overfull-test : (head : Head) (ws : List Request) (D : ℕ) → roomTo head D < dueBy D ws → isOverfull head ws D ≡ true
+unfolding isOverfull
+overfull-test head ws D h = lt-ltb (roomTo head D) (dueBy D ws) h
 
 -- of those that are due by D one is the last, and all of those are due by its deadline; p holds of it
 pub data Last (p : Request → Type 0) (D : ℕ) (ws : List Request) : Type 0 where
@@ -149,73 +153,74 @@ last p D (w ∷ ws) a = go (last p D ws (a .1))
         ]
 
 -- where the last that is due by D has room, D has
-roomy-last : (clock D : ℕ) (ws : List Request) → Last (λ (w : Request). dueBy (w .deadline) ws ≤ room clock (w .deadline)) D ws
-    → dueBy D ws ≤ room clock D
-roomy-last clock D ws (none-due h) = omega arith
-roomy-last clock D ws (last-due w p l h) = omega (arith, room-mono clock (w .deadline) D l)
+roomy-last : (head : Head) (D : ℕ) (ws : List Request)
+    → Last (λ (w : Request). dueBy (w .deadline) ws ≤ roomTo head (w .deadline)) D ws
+    → dueBy D ws ≤ roomTo head D
+roomy-last head D ws (none-due h) = omega arith
+roomy-last head D ws (last-due w p l h) = omega (arith, room-mono head (head .clock) (w .deadline) D l)
 
-pub feasible-facts : (clock : ℕ) (ws : List Request) → hasNoOverfull clock ws ≡ true → Feasible clock ws
+pub feasible-facts : (head : Head) (ws : List Request) → hasNoOverfull head ws ≡ true → Feasible head ws
 unfolding hasNoOverfull
-feasible-facts clock ws e D =
-    roomy-last clock D ws (last ok D ws (all-imp passed ok ws each (every-facts (λ w. not (isOverfull clock ws (w .deadline))) ws e)))
+feasible-facts head ws e D =
+    roomy-last head D ws (last ok D ws (all-imp passed ok ws each (every-facts (λ w. not (isOverfull head ws (w .deadline))) ws e)))
   where
     ok : Request → Type 0
-    ok w = dueBy (w .deadline) ws ≤ room clock (w .deadline)
+    ok w = dueBy (w .deadline) ws ≤ roomTo head (w .deadline)
 
     passed : Request → Type 0
-    passed w = not (isOverfull clock ws (w .deadline)) ≡ true
+    passed w = not (isOverfull head ws (w .deadline)) ≡ true
 
     each : (w : Request) → passed w → ok w
-    each w p = roomy-facts clock ws (w .deadline) (not-true (isOverfull clock ws (w .deadline)) p)
+    each w p = roomy-facts head ws (w .deadline) (not-true (isOverfull head ws (w .deadline)) p)
 
-pub feasible-test : (clock : ℕ) (ws : List Request) → Feasible clock ws → hasNoOverfull clock ws ≡ true
+pub feasible-test : (head : Head) (ws : List Request) → Feasible head ws → hasNoOverfull head ws ≡ true
 unfolding hasNoOverfull
-feasible-test clock ws f =
-    every-test (λ w. not (isOverfull clock ws (w .deadline))) ws
-    (all-each (λ (w : Request). not (isOverfull clock ws (w .deadline)) ≡ true) ws
-    (λ w. ap not (roomy-test clock ws (w .deadline) (f (w .deadline)))))
+feasible-test head ws f =
+    every-test (λ w. not (isOverfull head ws (w .deadline))) ws
+    (all-each (λ (w : Request). not (isOverfull head ws (w .deadline)) ≡ true) ws
+    (λ w. ap not (roomy-test head ws (w .deadline) (f (w .deadline)))))
 
 -- ---- the search: the deadline that it yields is the smallest overfull one
-data Scan (clock : ℕ) (all ys : List Request) : Search → Type 0 where
-  clear : All (λ (w : Request). dueBy (w .deadline) all ≤ room clock (w .deadline)) ys → Scan clock all ys nothing
+data Scan (head : Head) (all ys : List Request) : Search → Type 0 where
+  clear : All (λ (w : Request). dueBy (w .deadline) all ≤ roomTo head (w .deadline)) ys → Scan head all ys nothing
   hit :
-      (D : ℕ) → room clock D < dueBy D all
-      → All (λ (w : Request). w .deadline < D → dueBy (w .deadline) all ≤ room clock (w .deadline)) ys → Scan clock all ys (found D)
+      (D : ℕ) → roomTo head D < dueBy D all
+      → All (λ (w : Request). w .deadline < D → dueBy (w .deadline) all ≤ roomTo head (w .deadline)) ys → Scan head all ys (found D)
 
-scan : (clock : ℕ) (all ys : List Request) → InOrder ys → Scan clock all ys (searchOverfull clock all ys)
+scan : (head : Head) (all ys : List Request) → InOrder ys → Scan head all ys (searchOverfull head all ys)
 unfolding searchOverfull
-scan clock all [] o = clear tt
-scan clock all (w ∷ ys) o =
-    go (isOverfull clock all (w .deadline)) (overfull-facts clock all (w .deadline)) (roomy-facts clock all (w .deadline))
-    (scan clock all ys (o .1))
+scan head all [] o = clear tt
+scan head all (w ∷ ys) o =
+    go (isOverfull head all (w .deadline)) (overfull-facts head all (w .deadline)) (roomy-facts head all (w .deadline))
+    (scan head all ys (o .1))
   where
-    go : (x : Bool) → (x ≡ true → room clock (w .deadline) < dueBy (w .deadline) all)
-        → (x ≡ false → dueBy (w .deadline) all ≤ room clock (w .deadline)) → {f : Search} → Scan clock all ys f
-        → Scan clock all (w ∷ ys) (cond x (found (w .deadline)) f)
+    go : (x : Bool) → (x ≡ true → roomTo head (w .deadline) < dueBy (w .deadline) all)
+        → (x ≡ false → dueBy (w .deadline) all ≤ roomTo head (w .deadline)) → {f : Search} → Scan head all ys f
+        → Scan head all (w ∷ ys) (cond x (found (w .deadline)) f)
     go true t u r =
         hit (w .deadline) (t refl) (
           (λ h. absurd (omega arith)),
-          all-imp (Before w) (λ (v : Request). v .deadline < w .deadline → dueBy (v .deadline) all ≤ room clock (v .deadline)) ys
+          all-imp (Before w) (λ (v : Request). v .deadline < w .deadline → dueBy (v .deadline) all ≤ roomTo head (v .deadline)) ys
               (λ v b h. absurd (omega (arith, before-deadline w v b))) (o .0),
         )
     go false t u (clear a) = clear (u refl, a)
     go false t u (hit D h a) = hit D h ((λ g. u refl), a)
 
-pub data Verdict (clock : ℕ) (ws : List Request) : Search → Type 0 where
-  fine : Feasible clock ws → Verdict clock ws nothing
+pub data Verdict (head : Head) (ws : List Request) : Search → Type 0 where
+  fine : Feasible head ws → Verdict head ws nothing
   over :
-      (D : ℕ) → room clock D < dueBy D ws → ((x : ℕ) → x < D → dueBy x ws ≤ room clock x) → Verdict clock ws (found D)
+      (D : ℕ) → roomTo head D < dueBy D ws → ((x : ℕ) → x < D → dueBy x ws ≤ roomTo head x) → Verdict head ws (found D)
 
-pub verdict : (clock : ℕ) (ws : List Request) → InOrder ws → Verdict clock ws (firstOverfull clock ws)
-verdict clock ws o = go (scan clock ws ws o)
+pub verdict : (head : Head) (ws : List Request) → InOrder ws → Verdict head ws (firstOverfull head ws)
+verdict head ws o = go (scan head ws ws o)
   where
     ok : Request → Type 0
-    ok w = dueBy (w .deadline) ws ≤ room clock (w .deadline)
+    ok w = dueBy (w .deadline) ws ≤ roomTo head (w .deadline)
 
     below : (D x : ℕ) → x < D → Last (λ (w : Request). w .deadline < D → ok w) x ws → Last ok x ws
     below D x h (none-due e) = none-due e
     below D x h (last-due w p l e) = last-due w (p (omega arith)) l e
 
-    go : {f : Search} → Scan clock ws ws f → Verdict clock ws f
-    go (clear a) = fine (λ D. roomy-last clock D ws (last ok D ws a))
-    go (hit D h a) = over D h (λ x l. roomy-last clock x ws (below D x l (last (λ (w : Request). w .deadline < D → ok w) x ws a)))
+    go : {f : Search} → Scan head ws ws f → Verdict head ws f
+    go (clear a) = fine (λ D. roomy-last head D ws (last ok D ws a))
+    go (hit D h a) = over D h (λ x l. roomy-last head x ws (below D x l (last (λ (w : Request). w .deadline < D → ok w) x ws a)))

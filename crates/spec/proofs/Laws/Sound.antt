@@ -115,7 +115,7 @@ pub record Sound (s : State) : Type 0 where
   pub ahead : All (Ahead (s .head .clock)) (waiting s)
   pub given : All (Given (s .head .last)) (waiting s)
   pub owned : All (Owned (s .head .clients)) (waiting s)
-  pub feasible : Feasible (s .head .clock) (waiting s)
+  pub feasible : Feasible (s .head) (waiting s)
   pub zeros : behind s ≡ replicate (length (behind s)) zeroRequest
   pub balanced : (c : ℕ) → c < length (s .clientTable) → Balanced (waiting s) c (getD (s .clientTable) c zeroCounts)
 
@@ -152,7 +152,7 @@ sound-facts s e =
           all-imp (λ (w : Request). isClient (s .head .clients) (w .client) ≡ true) (Owned (s .head .clients)) (waiting s)
           (λ w h. ltb-true (w .client) (s .head .clients) h)
           (every-facts (λ w. isClient (s .head .clients) (w .client)) (waiting s) (p .0 .0 .0 .1));
-      feasible = feasible-facts (s .head .clock) (waiting s) (p .0 .0 .1);
+      feasible = feasible-facts (s .head) (waiting s) (p .0 .0 .1);
       zeros = zeros-facts (behind s) (p .0 .1);
       balanced =
           λ c h. balanced-facts (waiting s) c (getD (s .clientTable) c zeroCounts)
@@ -174,7 +174,7 @@ sound-test s f =
       every-test (λ w. isClient (s .head .clients) (w .client)) (waiting s)
           (all-imp (Owned (s .head .clients)) (λ (w : Request). isClient (s .head .clients) (w .client) ≡ true) (waiting s)
           (λ w h. lt-ltb (w .client) (s .head .clients) h) (f .owned)),
-      feasible-test (s .head .clock) (waiting s) (f .feasible),
+      feasible-test (s .head) (waiting s) (f .feasible),
       zeros-all (behind s) (f .zeros),
       everyFrom-test (isBalanced (waiting s)) (s .clientTable) zeroCounts
           (λ c h. balanced-test (waiting s) c (getD (s .clientTable) c zeroCounts) (f .balanced c h)),

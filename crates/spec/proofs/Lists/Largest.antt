@@ -1,33 +1,35 @@
 -- The tables follow the queue of crate slots, of which it is proved that served plus waiting is as many as the largest plan has.
 -- Document 01, "Lists and plans". Assumes nothing.
 use Prim.Native.Nat.{ℕ, suc, _+_, _-_, _≤_, _<_, min}
-use mathlib.Core.Path.{_≡_, refl, sym, ap, _∙_, subst}
+use mathlib.Core.Path.{_≡_, refl, sym, ap, _∙_, subst, subst₂}
 use mathlib.Core.Bool.{true, false, cond, true≢false}
 use mathlib.Core.List.{List, [], _∷_, _++_, map, map-append}
 use native.Mathlib.Omega.{arith}
 use lib.Dec.{eqb}
 use lib.ListN.{length, take, drop, length-map}
-use Rattle.slots.specs.Room.{capacity, room}
+use Rattle.slots.proofs.Room.{room as roomOf}
 use Rattle.slots.specs.Plan.{Slot, at}
 use Rattle.slots.proofs.Laws.Tests.{le, gt, order}
 use Rattle.slots.proofs.Laws.Sums.{All, all-imp, all-map, total, total-map}
 use Rattle.slots.proofs.Queue.{Entry, Booking as Booked, Queue, arrival, asking, serve, ticked as tickedQueue, Joined, Swapped}
 use Rattle.slots.proofs.Laws.Sorted.{due as dueEntry, upto}
-use Rattle.slots.proofs.Reached.Chart.{lookup, book}
-use Rattle.slots.proofs.Both.{Both, both-empty, both-ticked}
-use Rattle.slots.proofs.Reached.Agree.{Booked as IsBooked}
-use Rattle.slots.proofs.Plain.{room-kept, room-dropped, end, slots, booked, own, own-booked}
+use Rattle.slots.proofs.Reached.Chart.{plan, lookup, book}
+use Rattle.slots.proofs.Both.{bookings as booking, Both, both-empty, both-ticked}
+use Rattle.slots.proofs.Reached.Agree.{Booked as IsBooked, as-booked}
+use Rattle.slots.proofs.Largest.{room-kept, room-dropped}
+use Rattle.slots.proofs.Single.{end, slots, booked, bookings-booked}
 use Rattle.spec.specs.declared.types.Request.{Request}
 use Rattle.spec.specs.Every.{countIf}
 use Rattle.spec.specs.Tables.{zeroRequest, State, waiting, nextState}
 use Rattle.spec.specs.Order.{removeAt}
-use Rattle.spec.specs.Chart.{endOf, startsOf, dueBy, hasNoOverfull, Search}
+use Rattle.spec.specs.Chart.{capacityOf, roomTo, endOf, startsOf, dueBy, hasNoOverfull, Search}
 use Rattle.spec.specs.Victim.{isCandidate}
-use Rattle.spec.specs.Calls.{Outcome, opened, submitted, kept, droppedAt, withNew, newRequest, requestAt, victimPlace}
-use Rattle.spec.specs.Calls.{ticked}
+use Rattle.spec.specs.Calls.{change, oneMoreDropped, oneMoreServed, countsAfter, countedIn, Outcome, opened, submitted}
+use Rattle.spec.specs.Calls.{kept, droppedAt, withNew, newRequest, requestAt, victimPlace, ticked}
 use Rattle.spec.specs.Lists.{submit, tick, Event, ticks, Asked, asked, Booking, bookings, servedRequests, waitingRequests}
 use Rattle.spec.specs.Lists.{windowOf, windows, charts, slotFor, ownBookings, ownPlan}
 use Rattle.spec.proofs.Demands.Words.{Numbered}
+use Rattle.spec.proofs.Laws.Room.{capacity-one, room-capacity, capacity-next}
 use Rattle.spec.proofs.Laws.Entries.{entryOf, upto-entries, sorted-entries}
 use Rattle.spec.proofs.Laws.Every.{total-remove, all-remove}
 use Rattle.spec.proofs.Laws.Order.{InOrder, total-put, all-put, order-remove}
@@ -53,10 +55,13 @@ all-unmap p g (x ∷ xs) a = (a .0, all-unmap p g xs (a .1))
 
 -- the queue of crate slots has what its steps keep
 abbrev pub Follows : List Event → State → Type 0
-Follows es s = Both capacity (queueOf es s)
+Follows es s = Both (capacityOf (s .head)) (queueOf es s)
 
 -- ---- submit
 module _ (client deadline : ℕ) (s : State) (es : List Event) (r : SubmitReady client deadline s) (T : Traced es s) where
+  abbrev heads : ℕ → ℕ
+  heads = capacityOf (s .head)
+
   abbrev q : Queue
   q = queueOf es s
 
@@ -95,8 +100,8 @@ module _ (client deadline : ℕ) (s : State) (es : List Event) (r : SubmitReady 
   same-clock : ticks es ≡ 0 + ticks es
   same-clock = omega arith
 
-  same-room : (D : ℕ) → room (s .head .clock) D ≡ room (ticks es) D
-  same-room D = ap (λ (t : ℕ). room t D) (T .clock)
+  same-room : (D : ℕ) → roomTo (s .head) D ≡ roomOf heads (ticks es) D
+  same-room D = room-capacity (s .head) (s .head .clock) D ∙ ap (λ (t : ℕ). roomOf heads t D) (T .clock)
 
   -- ---- it is kept
   kept-queue : asking deadline (map entryOf together) q
@@ -111,18 +116,22 @@ module _ (client deadline : ℕ) (s : State) (es : List Event) (r : SubmitReady 
         asked = record { release = ticks es; deadline = deadline } ∷ windows es;
       }
 
-  follows-kept : Follows es s → hasNoOverfull (s .head .clock) together ≡ true
+  kept-heads : heads ≡ capacityOf (kept client deadline s .after .head)
+  unfolding kept
+  kept-heads = sym (capacity-next (s .head .clock) (suc (s .head .last)) together (countedIn client s) s)
+
+  follows-kept : Follows es s → hasNoOverfull (s .head) together ≡ true
       → Then Follows (submit client deadline) (kept client deadline s) es
   follows-kept B e =
-      subst (Both capacity) kept-queue
-      (room-kept deadline q (map entryOf together) late joined (sorted-entries together ordered)
-      (λ D h. omega (arith, upto-entries D together, feasible-facts (s .head .clock) together e D, same-room D)) B)
+      subst₂ Both kept-heads kept-queue
+      (room-kept heads deadline q (map entryOf together) late joined (sorted-entries together ordered)
+      (λ D h. omega (arith, upto-entries D together, feasible-facts (s .head) together e D, same-room D)) B)
     where
       joined : Joined (arrival deadline q) (map entryOf (waiting s)) (map entryOf together)
       joined = record { sums = new-total; lifts = λ p h a. all-map p entryOf together (new-lifts p h a) }
 
   -- ---- one is dropped, at the place k
-  module _ (k : ℕ) (h : k < length together) (c : isCandidate (s .head .clock) together k ≡ true) where
+  module _ (k : ℕ) (h : k < length together) (c : isCandidate (s .head) together k ≡ true) where
     abbrev others : List Request
     others = removeAt k together
 
@@ -142,10 +151,16 @@ module _ (client deadline : ℕ) (s : State) (es : List Event) (r : SubmitReady 
           asked = record { release = ticks es; deadline = deadline } ∷ windows es;
         }
 
+    dropped-heads : heads ≡ capacityOf (droppedAt k client deadline s .after .head)
+    unfolding droppedAt
+    dropped-heads =
+        sym (capacity-next (s .head .clock) (suc (s .head .last)) others
+        (change oneMoreDropped (victim .client) (countedIn client s)) s)
+
     -- without the victim there is room
-    room-left : Feasible (s .head .clock) others
+    room-left : Feasible (s .head) others
     unfolding isCandidate
-    room-left = feasible-facts (s .head .clock) others c
+    room-left = feasible-facts (s .head) others c
 
     swapped : Swapped (arrival deadline q) (entryOf victim) (map entryOf (waiting s)) (map entryOf others)
     swapped =
@@ -168,21 +183,21 @@ module _ (client deadline : ℕ) (s : State) (es : List Event) (r : SubmitReady 
     all-due D = sym (new-total (dueEntry D)) ∙ upto-entries D together
 
     -- a victim with a later deadline would leave D overfull
-    picked : (D : ℕ) → room (s .head .clock) D < dueBy D together → victim .deadline ≤ D
+    picked : (D : ℕ) → roomTo (s .head) D < dueBy D together → victim .deadline ≤ D
     picked D g =
         elim (order (victim .deadline) D) [
           | le l ↦ l
           | gt l ↦ absurd (omega (arith, room-left D, dueBy-remove D k zeroRequest together h, due-no D victim l))
         ]
 
-    follows-dropped : Follows es s → hasNoOverfull (s .head .clock) together ≡ false
+    follows-dropped : Follows es s → hasNoOverfull (s .head) together ≡ false
         → Then Follows (submit client deadline) (droppedAt k client deadline s) es
-    follows-dropped B e = subst (Both capacity) dropped-queue (go (verdict (s .head .clock) together ordered))
+    follows-dropped B e = subst₂ Both dropped-heads dropped-queue (go (verdict (s .head) together ordered))
       where
-        go : {f : Search} → Verdict (s .head .clock) together f → Both capacity (asking deadline (map entryOf others) q)
-        go (fine f) = absurd (true≢false (sym (feasible-test (s .head .clock) together f) ∙ e))
+        go : {f : Search} → Verdict (s .head) together f → Both heads (asking deadline (map entryOf others) q)
+        go (fine f) = absurd (true≢false (sym (feasible-test (s .head) together f) ∙ e))
         go (over D g u) =
-            room-dropped deadline q (entryOf victim) (map entryOf others) D late swapped
+            room-dropped heads deadline q (entryOf victim) (map entryOf others) D late swapped
             (sorted-entries others (order-remove k together ordered)) (picked D g) (omega (arith, all-due D, same-room D))
             (λ x l m. omega (arith, all-due x, same-room x, u x m)) B
 
@@ -193,7 +208,7 @@ module _ (client deadline : ℕ) (s : State) (es : List Event) (r : SubmitReady 
       k = victimPlace client deadline s
 
       go : {o : Outcome} → Submitted client deadline s o
-          → (k < length together) × (isCandidate (s .head .clock) together k ≡ true) → Then Follows (submit client deadline) o es
+          → (k < length together) × (isCandidate (s .head) together k ≡ true) → Then Follows (submit client deadline) o es
       go (keeps e) p = follows-kept B e
       go (drops e) p = follows-dropped k (p .0) (p .1) B e
 
@@ -202,32 +217,51 @@ module _ (s : State) (es : List Event) (T : Traced es s) where
   later-clock : suc (ticks es) ≡ 1 + ticks es
   later-clock = omega arith
 
+  abbrev serving : ℕ → ℕ
+  serving = capacityOf (s .head)
+
+  -- one is served
+  one : serving (ticks es) ≡ 1
+  one = capacity-one (s .head) (ticks es)
+
   tick-queue : (ws : List Request) → waiting s ≡ ws
-      → tickedQueue capacity (queueOf es s) ≡ queueOf (event tick (ticked ws s .answer) ∷ es) (ticked ws s .after)
+      → tickedQueue serving (queueOf es s) ≡ queueOf (event tick (ticked ws s .answer) ∷ es) (ticked ws s .after)
   unfolding ticked nextState ticks countIf asked bookings
   tick-queue [] e =
       λ i.
       record {
         clock = later-clock i;
-        log = serve (ticks es) (take 1 (map entryOf (e i))) (map bookedOf (bookings es));
-        waiting = drop 1 (map entryOf (e i));
+        log = serve (ticks es) (take (one i) (map entryOf (e i))) (map bookedOf (bookings es));
+        waiting = drop (one i) (map entryOf (e i));
         asked = windows es;
       }
   tick-queue (w ∷ ws) e =
       λ i.
       record {
         clock = later-clock i;
-        log = serve (sym (T .clock) i) (take 1 (map entryOf (e i))) (map bookedOf (bookings es));
+        log = serve (sym (T .clock) i) (take (one i) (map entryOf (e i))) (map bookedOf (bookings es));
         waiting = rest i;
         asked = windows es;
       }
     where
-      rest : drop 1 (map entryOf (waiting s)) ≡ map entryOf (waiting (ticked (w ∷ ws) s .after))
+      rest : drop (serving (ticks es)) (map entryOf (waiting s)) ≡ map entryOf (waiting (ticked (w ∷ ws) s .after))
       rest =
-          ap (λ (l : List Request). drop 1 (map entryOf l)) e ∙ ap (map entryOf) (sym (ticked-waiting (w ∷ ws) s))
+          ap (λ (n : ℕ). drop n (map entryOf (waiting s))) one
+          ∙ ap (λ (l : List Request). drop 1 (map entryOf l)) e
+          ∙ ap (map entryOf) (sym (ticked-waiting (w ∷ ws) s))
+
+  tick-heads : (ws : List Request) → serving ≡ capacityOf (ticked ws s .after .head)
+  unfolding ticked
+  tick-heads [] =
+      sym (capacity-next (suc (s .head .clock)) (s .head .last) []
+      (countsAfter (s .head .period) (suc (s .head .clock)) [] (s .clientTable)) s)
+  tick-heads (w ∷ ws) =
+      sym (capacity-next (suc (s .head .clock)) (s .head .last) ws
+      (countsAfter (s .head .period) (suc (s .head .clock)) ws (change oneMoreServed (w .client) (s .clientTable))) s)
 
   follows-tick : Follows es s → Then Follows tick (ticked (waiting s) s) es
-  follows-tick B = subst (Both capacity) (tick-queue (waiting s) refl) (both-ticked capacity (queueOf es s) B)
+  follows-tick B =
+      subst₂ Both (tick-heads (waiting s)) (tick-queue (waiting s) refl) (both-ticked serving (queueOf es s) B)
 
 -- ---- every step
 pub follows-step : (s : State) (e : Event) (t : State) (es : List Event) → Step s e t → Traced es s → Follows es s
@@ -270,9 +304,15 @@ booked-own es s =
     ap (λ (bs : List Booked). map bookedOf (bookings es) ++ bs) (sym (slots-chart (waiting s)))
     ∙ sym (map-append bookedOf (bookings es) (charts (waiting s) (startsOf (waiting s))))
 
-pub own-plan : (es : List Event) (s : State) → Numbered (asked es) → own (queueOf es s) ≡ ownPlan es s
+-- with one served in each slot, as the queue of crate slots has it
+booked-here : (es : List Event) (s : State) → booking (capacityOf (s .head)) (queueOf es s) ≡ map bookedOf (ownBookings es s)
+booked-here es s =
+    bookings-booked (capacityOf (s .head)) (capacity-one (s .head)) (queueOf es s) ∙ booked-own es s
+
+pub own-plan : (es : List Event) (s : State) → Numbered (asked es) → plan (capacityOf (s .head)) (queueOf es s) ≡ ownPlan es s
 unfolding ownPlan
-own-plan es s n = ap (book (length (windows es))) (booked-own es s) ∙ book-numbered (ownBookings es s) (asked es) n
+own-plan es s n =
+    ap (book (length (windows es))) (booked-here es s) ∙ book-numbered (ownBookings es s) (asked es) n
 
 -- ---- what demand 3 says of them
 module _ (es : List Event) (s : State) (T : Traced es s) (B : Follows es s) where
@@ -293,7 +333,7 @@ module _ (es : List Event) (s : State) (T : Traced es s) (B : Follows es s) wher
       all-imp (λ (b : Booking). IsBooked (map bookedOf bs) (bookedOf b)) (λ (b : Booking). slotFor bs (b .number) ≡ at (b .slot)) bs
       (λ b e. lookup-slot (b .number) bs ∙ e)
       (all-unmap (IsBooked (map bookedOf bs)) bookedOf bs
-      (subst (λ (l : List Booked). All (IsBooked l) l) (booked-own es s) (own-booked (queueOf es s) B)))
+      (subst (λ (l : List Booked). All (IsBooked l) l) (booked-here es s) (as-booked (capacityOf (s .head)) (queueOf es s) B)))
     where
       bs : List Booking
       bs = ownBookings es s
@@ -301,4 +341,4 @@ module _ (es : List Event) (s : State) (T : Traced es s) (B : Follows es s) wher
 -- ---- from an accepted open on
 pub follows-open : (clients period : ℕ) (s : State) → Follows [] (opened clients period s .after)
 unfolding opened ticks countIf asked bookings
-follows-open clients period s = both-empty capacity
+follows-open clients period s = both-empty (capacityOf (record { clients = clients; period = period; clock = 0; last = 0; waiting = 0 }))

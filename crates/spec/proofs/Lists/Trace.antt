@@ -324,17 +324,17 @@ traced-open clients period s r =
 -- kept, or one dropped
 pub data Submitted (client deadline : ℕ) (s : State) : Outcome → Type 0 where
   keeps :
-      hasNoOverfull (s .head .clock) (withNew client deadline s) ≡ true
+      hasNoOverfull (s .head) (withNew client deadline s) ≡ true
       → Submitted client deadline s (kept client deadline s)
   drops :
-      hasNoOverfull (s .head .clock) (withNew client deadline s) ≡ false
+      hasNoOverfull (s .head) (withNew client deadline s) ≡ false
       → Submitted client deadline s (droppedAt (victimPlace client deadline s) client deadline s)
 
 pub submitted-cases : (client deadline : ℕ) (s : State) → Submitted client deadline s (submitted client deadline s)
 unfolding submitted
-submitted-cases client deadline s = go (hasNoOverfull (s .head .clock) (withNew client deadline s)) refl
+submitted-cases client deadline s = go (hasNoOverfull (s .head) (withNew client deadline s)) refl
   where
-    go : (x : Bool) → hasNoOverfull (s .head .clock) (withNew client deadline s) ≡ x → Submitted client deadline s
+    go : (x : Bool) → hasNoOverfull (s .head) (withNew client deadline s) ≡ x → Submitted client deadline s
         (cond x (kept client deadline s) (droppedAt (victimPlace client deadline s) client deadline s))
     go true e = keeps e
     go false e = drops e

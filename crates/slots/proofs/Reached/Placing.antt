@@ -4,10 +4,10 @@ use mathlib.Core.Path.{_≡_, refl}
 use mathlib.Core.List.{List, [], _∷_, map}
 use native.Mathlib.Omega.{arith}
 use lib.ListN.{length}
-use Rattle.slots.specs.Plan.{since, Slot, none, at, Fits, planned, size}
+use Rattle.slots.specs.Plan.{since, Slot, none, at, Fits, isAt, Plan, planned, size}
 use Rattle.slots.proofs.Laws.Sums.{total, total-map, total-one}
-use Rattle.slots.proofs.Queue.{opens, Entry, Booking, is, Placed}
-use Rattle.slots.proofs.Laws.Count.{size-total, before, below, pigeon}
+use Rattle.slots.proofs.Queue.{opens, Entry, Booking}
+use Rattle.slots.proofs.Laws.Count.{size-total, uses-total, before, below, pigeon}
 use Rattle.slots.proofs.Laws.Sorted.{Sorted, sorted-low, dueBy}
 use Rattle.slots.proofs.Upper.{Feasible}
 use Rattle.slots.proofs.Reached.Chart.{chart}
@@ -33,18 +33,25 @@ module _ (t : ℕ) where
   due-below D (d ∷ ds) (at s ∷ P) f = omega (arith, due-below D ds P (f .2))
 
 module _ (heads : ℕ → ℕ) (t : ℕ) where
-  pub placed-feasible : (ds : List ℕ) (P : List Slot) → Placed heads (map (since t) ds) P → size P ≡ length ds
+  pub placed-feasible : (ds : List ℕ) (P : List Slot) → Plan heads (map (since t) ds) P → size P ≡ length ds
       → (D : ℕ) → t ≤ D → total (dueBy D) ds + opens heads t ≤ opens heads D
   placed-feasible ds P p e D h =
-      omega (arith, due-below t D ds P (p .fits), none-before t ds P (p .fits), pigeon heads P (p .slots) t D h)
+      omega (arith, due-below t D ds P (p .fits), none-before t ds P (p .fits), pigeon heads P (p .shared) t D h)
 
   -- ---- where none is overfull, the chart places all
   pub feasible-placed : (ws : List Entry) → Sorted 0 ws → Feasible heads t ws
-      → Placed heads (map (since t) (map (λ (w : Entry). w .deadline) ws)) (map slotted (chart heads ws))
+      → Plan heads (map (since t) (map (λ (w : Entry). w .deadline) ws)) (map slotted (chart heads ws))
   feasible-placed ws s f =
       record {
         fits = chart-fits heads t 0 (suc t) ws low wide;
-        slots = λ x. omega (arith, total-map (is x) slotted (chart heads ws), rank-heads heads t x (suc t) ws low wide);
+        shared =
+            λ x.
+            omega (
+              arith,
+              uses-total x (map slotted (chart heads ws)),
+              total-map (isAt x) slotted (chart heads ws),
+              rank-heads heads t x (suc t) ws low wide,
+            );
       }
     where
       low : Sorted (suc t) ws
