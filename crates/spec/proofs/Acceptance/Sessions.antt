@@ -151,7 +151,7 @@ dialogues =
     -- digits A to F, values of several bytes, three segments, a chart with a wrong length
     ∷ dialogue
     (
-    "0100020001000A0010"
+    "010002000100010010"
     ∷ "02000100000000000000AF"
     ∷ "02000000000000000000B9"
     ∷ "02000000000000000000B9"
