@@ -182,10 +182,10 @@ windows es = map windowOf (asked es)
 
 -- ---- the queue's own plan: each served request in the slot that served it, each waiting one at the start slot that the chart
 -- call writes for it
-unfoldable pub charts : List Request → List ℕ → List Booking
-charts [] starts = []
-charts (w ∷ ws) [] = []
-charts (w ∷ ws) (s ∷ starts) = record { number = w .number; slot = s; client = w .client } ∷ charts ws starts
+unfoldable pub chartBookings : List Request → List ℕ → List Booking
+chartBookings [] starts = []
+chartBookings (w ∷ ws) [] = []
+chartBookings (w ∷ ws) (s ∷ starts) = record { number = w .number; slot = s; client = w .client } ∷ chartBookings ws starts
 
 -- the slot that the bookings have for a request
 unfoldable pub slotFor : List Booking → ℕ → Slot
@@ -193,7 +193,7 @@ slotFor [] n = none
 slotFor (b ∷ bs) n = cond (eqb n (b .number)) (at (b .slot)) (slotFor bs n)
 
 abbrev pub ownBookings : List Event → State → List Booking
-ownBookings es s = bookings es ++ charts (waiting s) (startsOf (waiting s))
+ownBookings es s = bookings es ++ chartBookings (waiting s) (startsOf (waiting s))
 
 unfoldable pub ownPlan : List Event → State → List Slot
 ownPlan es s = map (λ a. slotFor (ownBookings es s) (a .request .number)) (asked es)

@@ -11,8 +11,8 @@ use Rattle.spec.specs.Every.{exists, select}
 use Rattle.spec.specs.Tables.{zeroRequest, zeroCounts, State}
 use Rattle.spec.specs.Calls.{openOf}
 use Rattle.spec.specs.Lists.{Call, opening, submit, tick, report, chart, outcomeOf, run, Event, history, isOpened, ticks}
-use Rattle.spec.specs.Lists.{Asked, asked, bookings, victims, servedRequests, waitingRequests, slotFor, charts, ownPlan}
-use Rattle.spec.specs.Lists.{waitingBy, sinceStart, countsSince}
+use Rattle.spec.specs.Lists.{Asked, asked, bookings, victims, servedRequests, waitingRequests, slotFor, chartBookings}
+use Rattle.spec.specs.Lists.{ownPlan, waitingBy, sinceStart, countsSince}
 use Rattle.spec.proofs.Acceptance.Computed.{calls}
 
 -- two clients, a period of two slots
@@ -88,7 +88,7 @@ unfolding calls outcomeOf run history exists select ticks asked bookings victims
 lists = tt
 
 pub readings : readOff (history start list) (run start list) ≡ expected
-unfolding lists servedRequests waitingRequests slotFor charts ownPlan waitingBy sinceStart countsSince
+unfolding lists servedRequests waitingRequests slotFor chartBookings ownPlan waitingBy sinceStart countsSince
 readings = refl
 
 -- one more open, which is accepted, is seen as such

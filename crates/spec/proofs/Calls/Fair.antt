@@ -7,7 +7,7 @@ use mathlib.Core.Bool.{true}
 use mathlib.Core.List.{List, map, map-map}
 use native.Mathlib.Omega.{arith}
 use lib.ListN.{length, getD, length-map}
-use Rattle.slots.specs.Plan.{Slot, since, Plan, size}
+use Rattle.slots.specs.Plan.{Slot, since, Plan, size, CanAllFinish}
 use Rattle.slots.proofs.Laws.Tests.{le, gt, order}
 use Rattle.slots.proofs.Laws.Sums.{all-imp, total}
 use Rattle.slots.proofs.Laws.Sorted.{dueBy as dueOf, upto, upto-deadlines}
@@ -27,8 +27,8 @@ use Rattle.spec.proofs.Demands.Words.{deadlinesOf, CanFinish}
 use Rattle.spec.proofs.Laws.Room.{room-capacity}
 use Rattle.spec.proofs.Laws.Every.{is-true, is-false, value, cond-true, cond-false}
 use Rattle.spec.proofs.Laws.Order.{InOrder, order-remove, order-put}
-use Rattle.spec.proofs.Laws.Feasible.{due-yes, due-no, due-most, dueBy-put, dueBy-remove, Feasible, feasible-facts}
-use Rattle.spec.proofs.Laws.Feasible.{feasible-test}
+use Rattle.spec.proofs.Laws.Feasible.{FeasibleAt, due-yes, due-no, due-most, dueBy-put, dueBy-remove, Feasible}
+use Rattle.spec.proofs.Laws.Feasible.{feasible-facts, feasible-test}
 use Rattle.spec.proofs.Laws.Entries.{entryOf, upto-entries, sorted-entries}
 use Rattle.spec.proofs.Laws.Sound.{Given}
 use Rattle.spec.proofs.Laws.Accepted.{SubmitReady}
@@ -43,14 +43,19 @@ due-deadlines : (D : ℕ) (ws : List Request) → dueBy D ws ≡ total (dueOf D)
 due-deadlines D ws =
     sym (upto-entries D ws) ∙ upto-deadlines D (map entryOf ws) ∙ ap (total (dueOf D)) (entry-deadlines ws)
 
-pub finish-feasible : (head : Head) (ws : List Request) → CanFinish head ws → Feasible head ws
-finish-feasible head ws f D =
+-- from a slot t on
+pub finish-feasible-at : (head : Head) (t : ℕ) (ws : List Request) → CanAllFinish (capacityOf head) t (deadlinesOf ws)
+    → FeasibleAt head t ws
+finish-feasible-at head t ws f D =
     omega (
       arith,
       due-deadlines D ws,
-      room-capacity head (head .clock) D,
-      placing-room (capacityOf head) (head .clock) (deadlinesOf ws) (f .0) (f .1) (f .2) D,
+      room-capacity head t D,
+      placing-room (capacityOf head) t (deadlinesOf ws) (f .0) (f .1) (f .2) D,
     )
+
+pub finish-feasible : (head : Head) (ws : List Request) → CanFinish head ws → Feasible head ws
+finish-feasible head ws f = finish-feasible-at head (head .clock) ws f
 
 pub feasible-finish : (head : Head) (ws : List Request) → InOrder ws → Feasible head ws → CanFinish head ws
 feasible-finish head ws o f = (

@@ -1,31 +1,34 @@
 -- The occupancy chart: its slots are the latest in chart order, and what its segments are. Document 01, "Chart and victim".
 -- Assumes nothing.
 use Prim.Native.Nat.{ℕ, zero, suc, _+_, _-_, _≤_, _<_, min}
-use mathlib.Core.Path.{_≡_, refl, ap, _∙_}
+use mathlib.Core.Path.{_≡_, refl, sym, ap, _∙_}
 use mathlib.Core.Bool.{Bool, true, false, cond}
-use mathlib.Core.List.{List, [], _∷_}
+use mathlib.Core.List.{List, [], _∷_, map}
+use mathlib.Core.Logic.{_↔_}
 use native.Mathlib.Omega.{arith}
 use lib.Dec.{eqb}
-use lib.ListN.{drop}
+use lib.ListN.{length, getD, drop}
+use Rattle.slots.specs.Plan.{at, EndedBy, Fits, uses, since, size, CanAllFinish}
+use Rattle.slots.proofs.Laws.Count.{isAt-no}
 use Rattle.slots.proofs.Laws.Tests.{Same, same-yes, same-no, same}
 use Rattle.slots.proofs.Laws.Sums.{All, all-imp}
 use Rattle.spec.specs.declared.types.Head.{Head}
 use Rattle.spec.specs.declared.types.Request.{Request}
 use Rattle.spec.specs.Tables.{State, waiting}
-use Rattle.spec.specs.Chart.{room, roomTo, startBefore, startsOf, Segment, joinLeft, segmentsOf, dueBy}
-use Rattle.spec.proofs.Demands.Words.{Ascending, Pairs, Finish, ChartFits, slotsOfAll, Apart}
-use Rattle.spec.proofs.Laws.Order.{before-deadline, InOrder}
-use Rattle.spec.proofs.Laws.Feasible.{due-yes, dueBy-cons, Feasible}
+use Rattle.spec.specs.Chart.{capacityOf, room, startBefore, startsOf, Segment, joinLeft, segmentsOf, dueBy}
+use Rattle.spec.proofs.Demands.Words.{Ascending, Pairs, deadlinesOf, Finish, ChartFits, slotsOfAll, Apart}
+use Rattle.spec.proofs.Laws.Order.{order-drop, before-deadline, InOrder}
+use Rattle.spec.proofs.Laws.Feasible.{FeasibleAt, due-yes, dueBy-cons}
+use Rattle.spec.proofs.Laws.Room.{capacity-one}
+use Rattle.spec.proofs.Calls.Refused.{length-starts}
+use Rattle.spec.proofs.Calls.Fair.{finish-feasible-at}
 use Rattle.spec.proofs.Laws.Accepted.{Ready}
 
 -- ---- the chart of requests that have room from the clock on
-module _ (head : Head) where
-  abbrev clock : ℕ
-  clock = head .clock
-
+module _ (head : Head) (clock : ℕ) where
   -- w and those behind it have room besides n requests that come before
   abbrev Behind : ℕ → Request → List Request → Type 0
-  Behind n w ws = (D : ℕ) → w .deadline ≤ D → n + dueBy D (w ∷ ws) ≤ roomTo head D
+  Behind n w ws = (D : ℕ) → w .deadline ≤ D → n + dueBy D (w ∷ ws) ≤ room head clock D
 
   own-room : (n : ℕ) (w : Request) (ws : List Request) → Behind n w ws → suc (clock + n) ≤ w .deadline
   unfolding room
@@ -66,16 +69,17 @@ module _ (head : Head) where
             );
           }
 
-pub starts-chart : (head : Head) (ws : List Request) → InOrder ws → Feasible head ws → ChartFits (head .clock) ws (startsOf ws)
+pub starts-chart : (head : Head) (clock : ℕ) (ws : List Request) → InOrder ws → FeasibleAt head clock ws
+    → ChartFits clock ws (startsOf ws)
 unfolding startsOf
-starts-chart head [] o f = record { ended = tt; ahead = tt; ascending = tt }
-starts-chart head (w ∷ ws) o f =
-    let e : head .clock + 0 ≡ head .clock = omega arith in
-    rw e at (chart-from head 0 w ws o (λ D h. omega (arith, f D)))
+starts-chart head clock [] o f = record { ended = tt; ahead = tt; ascending = tt }
+starts-chart head clock (w ∷ ws) o f =
+    let e : clock + 0 ≡ clock = omega arith in
+    rw e at (chart-from head clock 0 w ws o (λ D h. omega (arith, f D)))
 
 -- so in sound tables
 pub ready-chart : (s : State) → Ready s → ChartFits (s .head .clock) (waiting s) (startsOf (waiting s))
-ready-chart s r = starts-chart (s .head) (waiting s) (r .sound .ordered) (r .sound .feasible)
+ready-chart s r = starts-chart (s .head) (s .head .clock) (waiting s) (r .sound .ordered) (r .sound .feasible)
 
 -- "From the last record to the first, a request ends at the smaller of its deadline and the start of the record behind it, and
 -- starts one slot earlier.": each starts at the latest slot at which it and all later ones finish, in chart order
@@ -100,6 +104,96 @@ unfolding startsOf
 starts-drop zero ws = refl
 starts-drop (suc k) [] = refl
 starts-drop (suc k) (w ∷ ws) = starts-drop k ws
+
+-- ---- a chart is a plan that places all
+uses-none : (x : ℕ) (slots : List ℕ) → All (λ (s : ℕ). x < s) slots → uses x (map at slots) ≡ 0
+unfolding uses
+uses-none x [] a = refl
+uses-none x (s ∷ slots) a = omega (arith, isAt-no x s (λ e. omega (arith, a .0)), uses-none x slots (a .1))
+
+uses-once : (x : ℕ) (slots : List ℕ) → Ascending slots → uses x (map at slots) ≤ 1
+unfolding uses
+uses-once x [] a = omega arith
+uses-once x (s ∷ slots) a = go (eqb x s) (same x s) (uses-once x slots (a .1))
+  where
+    go : (b : Bool) → Same x s b → uses x (map at slots) ≤ 1 → cond b 1 0 + uses x (map at slots) ≤ 1
+    go true (same-yes e) r = omega (arith, uses-none x slots (rw (sym e) at (a .0)))
+    go false (same-no n) r = omega arith
+
+chart-fit : (t : ℕ) (ws : List Request) (slots : List ℕ) → Finish ws slots → All (λ (s : ℕ). t ≤ s) slots
+    → Fits (map (since t) (deadlinesOf ws)) (map at slots)
+chart-fit t [] [] f a = tt
+chart-fit t [] (s ∷ slots) f a = absurd f
+chart-fit t (w ∷ ws) [] f a = absurd f
+chart-fit t (w ∷ ws) (s ∷ slots) f a = (a .0, f .0, chart-fit t ws slots (f .1) (a .1))
+
+chart-size : (ws : List Request) (slots : List ℕ) → Finish ws slots → size (map at slots) ≡ length (deadlinesOf ws)
+unfolding size
+chart-size [] [] f = refl
+chart-size [] (s ∷ slots) f = absurd f
+chart-size (w ∷ ws) [] f = absurd f
+chart-size (w ∷ ws) (s ∷ slots) f = omega (arith, chart-size ws slots (f .1))
+
+chart-finish : (head : Head) (t : ℕ) (ws : List Request) (slots : List ℕ) → ChartFits t ws slots
+    → CanAllFinish (capacityOf head) t (deadlinesOf ws)
+chart-finish head t ws slots c = (
+  map at slots,
+  record {
+    fits = chart-fit t ws slots (c .ended) (c .ahead);
+    shared = λ x. omega (arith, uses-once x slots (c .ascending), capacity-one head x);
+  },
+  chart-size ws slots (c .ended),
+)
+
+-- ---- the last part of a chart
+pairs-drop : {A B : Type 0} (p : A → B → Type 0) (k : ℕ) (xs : List A) (ys : List B) → Pairs p xs ys
+    → Pairs p (drop k xs) (drop k ys)
+pairs-drop p zero xs ys a = a
+pairs-drop p (suc k) [] [] a = tt
+pairs-drop p (suc k) [] (y ∷ ys) a = absurd a
+pairs-drop p (suc k) (x ∷ xs) [] a = absurd a
+pairs-drop p (suc k) (x ∷ xs) (y ∷ ys) a = pairs-drop p k xs ys (a .1)
+
+ascending-drop : (k : ℕ) (xs : List ℕ) → Ascending xs → Ascending (drop k xs)
+ascending-drop zero xs a = a
+ascending-drop (suc k) [] a = tt
+ascending-drop (suc k) (x ∷ xs) a = ascending-drop k xs (a .1)
+
+-- what holds from t on holds of the first, and the other way round
+ahead-first : (t k d : ℕ) (xs : List ℕ) → k < length xs → All (λ (s : ℕ). t ≤ s) (drop k xs) → t ≤ getD xs k d
+ahead-first t k d [] h a = absurd (omega arith)
+ahead-first t zero d (x ∷ xs) h a = a .0
+ahead-first t (suc k) d (x ∷ xs) h a = ahead-first t k d xs (omega arith) a
+
+first-ahead : (t k d : ℕ) (xs : List ℕ) → k < length xs → Ascending xs → t ≤ getD xs k d → All (λ (s : ℕ). t ≤ s) (drop k xs)
+first-ahead t k d [] h a l = absurd (omega arith)
+first-ahead t zero d (x ∷ xs) h a l = (l, all-imp (λ (y : ℕ). x < y) (λ (s : ℕ). t ≤ s) xs (λ y g. omega arith) (a .0))
+first-ahead t (suc k) d (x ∷ xs) h a l = first-ahead t k d xs (omega arith) (a .1) l
+
+-- the request at k and all later ones can finish from t on just where t is not after its start
+pub latest-start : (head : Head) (clock : ℕ) (ws : List Request) (k : ℕ) → InOrder ws → FeasibleAt head clock ws → k < length ws
+    → (t : ℕ) → CanAllFinish (capacityOf head) t (deadlinesOf (drop k ws)) ↔ (t ≤ getD (startsOf ws) k 0)
+latest-start head clock ws k o f h t = (to, from-start)
+  where
+    c : ChartFits clock ws (startsOf ws)
+    c = starts-chart head clock ws o f
+
+    inside : k < length (startsOf ws)
+    inside = omega (arith, length-starts ws)
+
+    to : CanAllFinish (capacityOf head) t (deadlinesOf (drop k ws)) → t ≤ getD (startsOf ws) k 0
+    to g =
+        let later = starts-chart head t (drop k ws) (order-drop k ws o) (finish-feasible-at head t (drop k ws) g) .ahead in
+        ahead-first t k 0 (startsOf ws) inside (rw (starts-drop k ws) at later)
+
+    from-start : t ≤ getD (startsOf ws) k 0 → CanAllFinish (capacityOf head) t (deadlinesOf (drop k ws))
+    from-start l =
+        chart-finish head t (drop k ws) (drop k (startsOf ws))
+        (record {
+          ended = pairs-drop (λ (w : Request) (s : ℕ). EndedBy (w .deadline) s) k ws (startsOf ws) (c .ended);
+          ahead = first-ahead t k 0 (startsOf ws) inside (c .ascending) l;
+          ascending = ascending-drop k (startsOf ws) (c .ascending);
+        })
 
 -- ---- segments
 abbrev pub Proper : Segment → Type 0

@@ -9,23 +9,25 @@ use mathlib.Core.List.{List}
 use native.Mathlib.Omega.{arith}
 use lib.ListN.{length, getD, take, drop, length-append, length-drop}
 use lib.Seq.{take-append-seam, drop-append-seam}
+use Rattle.slots.specs.Plan.{CanAllFinish}
 use Rattle.spec.specs.declared.types.Answer.the-variants.{Charted, Refused}
 use Rattle.spec.specs.Every.{exists}
 use Rattle.spec.specs.Tables.{zeroCounts, State, waiting}
-use Rattle.spec.specs.Chart.{startsOf, segmentsOf}
+use Rattle.spec.specs.Chart.{capacityOf, startsOf, segmentsOf}
 use Rattle.spec.specs.Sound.{isSound}
 use Rattle.spec.specs.Refusals.{firstMatch, refusal4, chartRefusals}
 use Rattle.spec.specs.Calls.{Outcome, openOf, reportOf, reportAnswer, charted, chartOf, chartOutput}
 use Rattle.spec.specs.Lists.{Call, chart, outcomeOf, run, Event, history, isRefused, isOpened, waitingBy, countsSince}
-use Rattle.spec.proofs.Demands.Words.{refusalsOf, FirstHolds, Ascending, Pairs, Finish, ChartFits, from, slotsOfAll}
-use Rattle.spec.proofs.Demands.Words.{Apart}
+use Rattle.spec.proofs.Demands.Words.{deadlinesOf, refusalsOf, FirstHolds, Ascending, Pairs, Finish, ChartFits, from}
+use Rattle.spec.proofs.Demands.Words.{slotsOfAll, Apart}
 use Rattle.spec.proofs.Laws.Sound.{sound-test}
 use Rattle.spec.proofs.Laws.Accepted.{Decided, accepts, refuses, decided, ChartReady, chart-ready, waiting-length}
 use Rattle.spec.proofs.Calls.Refused.{accepted-same, acceptedOf, outcome-decided, accepted-answer, accepted-none}
 use Rattle.spec.proofs.Calls.Refused.{first-holds, first-match, first-number, numbered, length-starts, Written}
 use Rattle.spec.proofs.Calls.Refused.{untouched, written, output-written}
 use Rattle.spec.proofs.Calls.Keeps.{keeps, shaped-test}
-use Rattle.spec.proofs.Calls.Latest.{ready-chart, starts-latest, starts-drop, segments-slots, segments-apart}
+use Rattle.spec.proofs.Calls.Latest.{latest-start, ready-chart, starts-latest, starts-drop, segments-slots}
+use Rattle.spec.proofs.Calls.Latest.{segments-apart}
 use Rattle.spec.proofs.Lists.Trace.{traced}
 use Rattle.spec.proofs.Lists.Counts.{counted, reported-counts}
 
@@ -137,7 +139,10 @@ chart-written output s p = go (output-written output s)
 pub record Latest (s : State) : Type 0 where
   -- the start slots ascend from the clock on, each ended by its request's deadline
   pub fits : ChartFits (s .head .clock) (waiting s) (startsOf (waiting s))
-  -- each is the latest at which the request at k and all later ones finish in chart order
+  -- each is the latest slot from which on the request at k and all later ones can finish
+  pub begins : (k : ℕ) → k < length (waiting s) → (t : ℕ)
+      → CanAllFinish (capacityOf (s .head)) t (deadlinesOf (drop k (waiting s))) ↔ (t ≤ getD (startsOf (waiting s)) k 0)
+  -- and the latest for it where they are served in chart order
   pub latest : (k : ℕ) (slots : List ℕ) → Ascending slots → Finish (drop k (waiting s)) slots
       → Pairs (λ slot start. slot ≤ start) slots (drop k (startsOf (waiting s)))
   -- "Segments are the longest runs of touching intervals": from the left their slots are the start slots, and no two touch
@@ -147,9 +152,12 @@ pub record Latest (s : State) : Type 0 where
 pub chart-latest : (output : List ℕ) (s : State) → isRefused (chartOf output s .answer) ≡ false → Latest s
 unfolding outcomeOf
 chart-latest output s e =
-    let c = ready-chart s (chart-ready output s (accepted-none (chart output) s e) .ready) in
+    let r = chart-ready output s (accepted-none (chart output) s e) .ready in
+    let c = ready-chart s r in
     record {
       fits = c;
+      begins =
+          λ k h. latest-start (s .head) (s .head .clock) (waiting s) k (r .sound .ordered) (r .sound .feasible) h;
       latest = λ k slots a f. rw (starts-drop k (waiting s)) at (starts-latest (drop k (waiting s)) slots a f);
       slots = segments-slots (startsOf (waiting s));
       apart = segments-apart (startsOf (waiting s)) (c .ascending);

@@ -5,7 +5,7 @@ use mathlib.Core.Bool.{Bool, true, false, cond, _&&_, _||_, false≢true}
 use mathlib.Core.List.{List, [], _∷_}
 use native.Mathlib.Omega.{arith}
 use lib.Dec.{ltb, eqb}
-use lib.ListN.{length, getD}
+use lib.ListN.{length, getD, drop}
 use Rattle.slots.proofs.Laws.Tests.{Test, holds, fails, test, Same, same-yes, same-no, same}
 use Rattle.slots.proofs.Laws.Sums.{All, all-imp, total}
 use Rattle.spec.specs.declared.types.Request.{Request}
@@ -102,6 +102,11 @@ order-remove zero [] o = tt
 order-remove (suc k) [] o = tt
 order-remove zero (w ∷ ws) o = o .1
 order-remove (suc k) (w ∷ ws) o = (all-remove (Before w) k ws (o .0), order-remove k ws (o .1))
+
+pub order-drop : (k : ℕ) (ws : List Request) → InOrder ws → InOrder (drop k ws)
+order-drop zero ws o = o
+order-drop (suc k) [] o = tt
+order-drop (suc k) (w ∷ ws) o = order-drop k ws (o .1)
 
 -- ---- a request put in
 pub place-most : (r : Request) (ws : List Request) → placeOf r ws ≤ length ws

@@ -27,7 +27,7 @@ use Rattle.spec.specs.Victim.{isCandidate}
 use Rattle.spec.specs.Calls.{change, oneMoreDropped, oneMoreServed, countsAfter, countedIn, Outcome, opened, submitted}
 use Rattle.spec.specs.Calls.{kept, droppedAt, withNew, newRequest, requestAt, victimPlace, ticked}
 use Rattle.spec.specs.Lists.{submit, tick, Event, ticks, Asked, asked, Booking, bookings, servedRequests, waitingRequests}
-use Rattle.spec.specs.Lists.{windowOf, windows, charts, slotFor, ownBookings, ownPlan}
+use Rattle.spec.specs.Lists.{windowOf, windows, chartBookings, slotFor, ownBookings, ownPlan}
 use Rattle.spec.proofs.Demands.Words.{Numbered}
 use Rattle.spec.proofs.Laws.Room.{capacity-one, room-capacity, capacity-next}
 use Rattle.spec.proofs.Laws.Entries.{entryOf, upto-entries, sorted-entries}
@@ -282,8 +282,8 @@ unfolding startsOf
 end-chart w [] = refl
 end-chart w (v ∷ ws) = ap (λ (n : ℕ). min (w .deadline) (n - 1)) (end-chart v ws)
 
-slots-chart : (ws : List Request) → map bookedOf (charts ws (startsOf ws)) ≡ slots (map entryOf ws)
-unfolding startsOf charts
+slots-chart : (ws : List Request) → map bookedOf (chartBookings ws (startsOf ws)) ≡ slots (map entryOf ws)
+unfolding startsOf chartBookings
 slots-chart [] = refl
 slots-chart (w ∷ ws) = λ i. record { number = w .number; slot = end-chart w ws i - 1 } ∷ slots-chart ws i
 
@@ -302,7 +302,7 @@ book-numbered bs (a ∷ rs) n = λ i. first i ∷ book-numbered bs rs (n .1) i
 booked-own : (es : List Event) (s : State) → booked (queueOf es s) ≡ map bookedOf (ownBookings es s)
 booked-own es s =
     ap (λ (bs : List Booked). map bookedOf (bookings es) ++ bs) (sym (slots-chart (waiting s)))
-    ∙ sym (map-append bookedOf (bookings es) (charts (waiting s) (startsOf (waiting s))))
+    ∙ sym (map-append bookedOf (bookings es) (chartBookings (waiting s) (startsOf (waiting s))))
 
 -- with one served in each slot, as the queue of crate slots has it
 booked-here : (es : List Event) (s : State) → booking (capacityOf (s .head)) (queueOf es s) ≡ map bookedOf (ownBookings es s)
