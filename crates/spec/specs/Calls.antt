@@ -1,5 +1,5 @@
--- The five calls: arguments and state in, answer and state out, for every state and all arguments. Document 01, "Calls".
--- Assumes nothing.
+-- The five calls: arguments and state in, answer and state out, for every state and all arguments. Document 01, "Calls". Each call
+-- is its list of refusals and, where none matches, its accepted part. Assumes nothing.
 use Prim.Native.Nat.{ℕ, suc, _%_}
 use mathlib.Core.Bool.{Bool, cond}
 use mathlib.Core.List.{List, [], _∷_, _++_}
@@ -44,8 +44,8 @@ change f client cs = set cs client (f (getD cs client zeroCounts))
 
 -- ---- open
 -- "Open takes clients and period, sets clock, last number and waiting count to 0 and every record to zero."
-unfoldable pub opened : ℕ → ℕ → State → Outcome
-opened clients period s =
+unfoldable pub openAccepted : ℕ → ℕ → State → Outcome
+openAccepted clients period s =
     record {
       answer = Opened;
       after =
@@ -57,7 +57,7 @@ opened clients period s =
     }
 
 unfoldable pub openOf : ℕ → ℕ → State → Outcome
-openOf clients period s = unlessRefused (openRefusals clients period s) s (opened clients period s)
+openOf clients period s = unlessRefused (openRefusals clients period s) s (openAccepted clients period s)
 
 -- ---- submit
 -- "It gives the next request number"
@@ -101,14 +101,14 @@ droppedAt k client deadline s =
 abbrev pub victimPlace : ℕ → ℕ → State → ℕ
 victimPlace client deadline s = victimOf (s .head) (countedIn client s) (withNew client deadline s)
 
-unfoldable pub submitted : ℕ → ℕ → State → Outcome
-submitted client deadline s =
+unfoldable pub submitAccepted : ℕ → ℕ → State → Outcome
+submitAccepted client deadline s =
     cond (hasNoOverfull (s .head) (withNew client deadline s))
     (kept client deadline s)
     (droppedAt (victimPlace client deadline s) client deadline s)
 
 unfoldable pub submitOf : ℕ → ℕ → State → Outcome
-submitOf client deadline s = unlessRefused (submitRefusals client deadline s) s (submitted client deadline s)
+submitOf client deadline s = unlessRefused (submitRefusals client deadline s) s (submitAccepted client deadline s)
 
 -- ---- tick
 -- "Then the clock rises by 1. If it is now a multiple of the period, .."
@@ -129,39 +129,39 @@ oneLater ws cs s =
 
 -- "Tick serves the first waiting record in the slot that starts at the clock, takes it out, and adds 1 to that client's served;
 -- with none waiting it answers idle."
-unfoldable pub ticked : List Request → State → Outcome
-ticked [] s = record { answer = Idle (s .head .clock); after = oneLater [] (s .clientTable) s }
-ticked (w ∷ ws) s =
+unfoldable pub tickAccepted : List Request → State → Outcome
+tickAccepted [] s = record { answer = Idle (s .head .clock); after = oneLater [] (s .clientTable) s }
+tickAccepted (w ∷ ws) s =
     record {
       answer = Served (s .head .clock) (w .number) (w .client);
       after = oneLater ws (change oneMoreServed (w .client) (s .clientTable)) s;
     }
 
 unfoldable pub tickOf : State → Outcome
-tickOf s = unlessRefused (tickRefusals s) s (ticked (waiting s) s)
+tickOf s = unlessRefused (tickRefusals s) s (tickAccepted (waiting s) s)
 
 -- ---- report
 -- "Report gives a client's three counts and its waiting count."
 abbrev pub reportAnswer : ℕ → Counts → ℕ → Answer
 reportAnswer client k waits = Reported client (k .submitted) (k .served) (k .dropped) waits
 
-unfoldable pub reported : ℕ → State → Outcome
-reported client s =
+unfoldable pub reportAccepted : ℕ → State → Outcome
+reportAccepted client s =
     record {
       answer = reportAnswer client (getD (s .clientTable) client zeroCounts) (waitingOf client (waiting s));
       after = s;
     }
 
 unfoldable pub reportOf : ℕ → State → Outcome
-reportOf client s = unlessRefused (reportRefusals client s) s (reported client s)
+reportOf client s = unlessRefused (reportRefusals client s) s (reportAccepted client s)
 
 -- ---- chart
 -- "Chart writes one start slot a waiting record, in chart order, into a lent output table and answers their count"
-unfoldable pub charted : State → Outcome
-charted s = record { answer = Charted (s .head .waiting); after = s }
+unfoldable pub chartAccepted : State → Outcome
+chartAccepted s = record { answer = Charted (s .head .waiting); after = s }
 
 unfoldable pub chartOf : List ℕ → State → Outcome
-chartOf output s = unlessRefused (chartRefusals output s) s (charted s)
+chartOf output s = unlessRefused (chartRefusals output s) s (chartAccepted s)
 
 -- ".. entries beyond are untouched.": the output table after the call
 unfoldable pub chartOutput : List ℕ → State → List ℕ

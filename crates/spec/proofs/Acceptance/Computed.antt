@@ -6,8 +6,8 @@ use Rattle.spec.specs.Chart.{room, startsOf, segmentsOf, dueBy, isOverfu
 use Rattle.spec.specs.Victim.{isCandidate, candidatesFrom, hasSmallerRatio, smallestOf, victimOf}
 use Rattle.spec.specs.Sound.{isHeadWithin, isZeroRequest, waitingOf, isBalanced, isSound}
 use Rattle.spec.specs.Refusals.{firstMatch, openRefusals, submitRefusals, tickRefusals, reportRefusals, chartRefusals}
-use Rattle.spec.specs.Calls.{openOf, opened, change, kept, droppedAt, submitted, submitOf, ticked, tickOf, reported}
-use Rattle.spec.specs.Calls.{reportOf, charted, chartOf}
+use Rattle.spec.specs.Calls.{openOf, openAccepted, change, kept, droppedAt, submitAccepted, submitOf, tickAccepted, tickOf, reportAccepted}
+use Rattle.spec.specs.Calls.{reportOf, chartAccepted, chartOf}
 
 unfoldable pub charts : Unit {0}
 unfolding room every countIf startsOf segmentsOf dueBy isOverfull hasNoOverfull
@@ -22,9 +22,9 @@ unfolding charts everyFrom comesBefore isInOrder isHeadWithin isZeroRequest wait
 refusals = tt
 
 unfoldable pub submits : Unit {0}
-unfolding victims refusals submitRefusals change nextState kept droppedAt submitted submitOf
+unfolding victims refusals submitRefusals change nextState kept droppedAt submitAccepted submitOf
 submits = tt
 
 unfoldable pub calls : Unit {0}
-unfolding submits mapFrom openRefusals opened openOf ticked tickOf reportRefusals reported reportOf chartRefusals charted chartOf
+unfolding submits mapFrom openRefusals openAccepted openOf tickAccepted tickOf reportRefusals reportAccepted reportOf chartRefusals chartAccepted chartOf
 calls = tt

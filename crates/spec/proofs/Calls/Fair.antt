@@ -22,7 +22,7 @@ use Rattle.spec.specs.Tables.{zeroRequest, State, waiting}
 use Rattle.spec.specs.Order.{removeAt}
 use Rattle.spec.specs.Chart.{capacityOf, roomTo, dueBy, hasNoOverfull}
 use Rattle.spec.specs.Victim.{isCandidate}
-use Rattle.spec.specs.Calls.{newRequest, withNew, kept, droppedAt, victimPlace, submitted}
+use Rattle.spec.specs.Calls.{newRequest, withNew, kept, droppedAt, victimPlace, submitAccepted}
 use Rattle.spec.proofs.Demands.Words.{deadlinesOf, CanFinish}
 use Rattle.spec.proofs.Laws.Room.{room-capacity}
 use Rattle.spec.proofs.Laws.Every.{is-true, is-false, value, cond-true, cond-false}
@@ -105,15 +105,15 @@ module _ (client deadline : ℕ) (s : State) (r : SubmitReady client deadline s)
       (λ w g. omega arith) (r .ready .sound .given))
       (r .ready .sound .ordered)
 
-  pub finish-kept : CanFinish head all → submitted client deadline s ≡ kept client deadline s
-  unfolding submitted
+  pub finish-kept : CanFinish head all → submitAccepted client deadline s ≡ kept client deadline s
+  unfolding submitAccepted
   finish-kept f =
       cond-true (hasNoOverfull head all) (kept client deadline s) (droppedAt (victimPlace client deadline s) client deadline s)
       (feasible-test head all (finish-feasible head all f))
 
   pub unfinished-dropped : (CanFinish head all → ⊥)
-      → submitted client deadline s ≡ droppedAt (victimPlace client deadline s) client deadline s
-  unfolding submitted
+      → submitAccepted client deadline s ≡ droppedAt (victimPlace client deadline s) client deadline s
+  unfolding submitAccepted
   unfinished-dropped f =
       cond-false (hasNoOverfull head all) (kept client deadline s) (droppedAt (victimPlace client deadline s) client deadline s)
       (elim (value (hasNoOverfull head all)) [

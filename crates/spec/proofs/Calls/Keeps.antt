@@ -19,9 +19,9 @@ use Rattle.spec.specs.Order.{removeAt}
 use Rattle.spec.specs.Chart.{dueBy, hasNoOverfull}
 use Rattle.spec.specs.Victim.{isCandidate}
 use Rattle.spec.specs.Refusals.{firstMatch, refusal4}
-use Rattle.spec.specs.Calls.{change, oneMoreSubmitted, oneMoreServed, oneMoreDropped, opened, newRequest, countedIn}
-use Rattle.spec.specs.Calls.{withNew, kept, requestAt, droppedAt, victimPlace, submitted, isPeriodStart, restarted}
-use Rattle.spec.specs.Calls.{countsAfter, oneLater, ticked, reported, charted}
+use Rattle.spec.specs.Calls.{change, oneMoreSubmitted, oneMoreServed, oneMoreDropped, openAccepted, newRequest, countedIn}
+use Rattle.spec.specs.Calls.{withNew, kept, requestAt, droppedAt, victimPlace, submitAccepted, isPeriodStart, restarted}
+use Rattle.spec.specs.Calls.{countsAfter, oneLater, tickAccepted, reportAccepted, chartAccepted}
 use Rattle.spec.specs.Lists.{Call, opening, submit, tick, report, chart, outcomeOf, isRefused}
 use Rattle.spec.proofs.Demands.Words.{refusalsOf}
 use Rattle.spec.proofs.Laws.Clients.{of-yes, of-no, waitingOf-none, waitingOf-put, waitingOf-remove, Changed, changes}
@@ -93,8 +93,8 @@ next-ready clock last ws cs s r c l n t f =
     }
 
 -- ---- open
-pub open-keeps : (clients period : ℕ) (s : State) → OpenReady clients period s → Ready (opened clients period s .after)
-unfolding opened
+pub open-keeps : (clients period : ℕ) (s : State) → OpenReady clients period s → Ready (openAccepted clients period s .after)
+unfolding openAccepted
 open-keeps clients period s r =
     record {
       shape =
@@ -233,11 +233,11 @@ module _ (client deadline : ℕ) (s : State) (r : SubmitReady client deadline s)
       (withNew client deadline s) (countedIn client s) n (tidy-put client deadline s r))
       (feasible-facts (s .head) (removeAt k (withNew client deadline s)) e)
 
-pub submit-keeps : (client deadline : ℕ) (s : State) → SubmitReady client deadline s → Ready (submitted client deadline s .after)
-unfolding submitted
+pub submit-keeps : (client deadline : ℕ) (s : State) → SubmitReady client deadline s → Ready (submitAccepted client deadline s .after)
+unfolding submitAccepted
 submit-keeps client deadline s r = go (value (hasNoOverfull (s .head) (withNew client deadline s)))
   where
-    go : Value (hasNoOverfull (s .head) (withNew client deadline s)) → Ready (submitted client deadline s .after)
+    go : Value (hasNoOverfull (s .head) (withNew client deadline s)) → Ready (submitAccepted client deadline s .after)
     go (is-true e) = rw e (kept-keeps client deadline s r (feasible-facts (s .head) (withNew client deadline s) e))
     go (is-false e) =
         let v = victim-place client deadline s r in
@@ -325,15 +325,15 @@ later-ready ws cs s r n t f =
     (tidy-restart (s .head .period) clock clock (s .head .last) (s .head .clients) ws cs
     (tidy-later (s .head) (s .head .clock) (s .head .last) (s .head .clients) ws cs f t)) f
 
-pub tick-keeps : (s : State) → TickReady s → Ready (ticked (waiting s) s .after)
-unfolding ticked removeAt
+pub tick-keeps : (s : State) → TickReady s → Ready (tickAccepted (waiting s) s .after)
+unfolding tickAccepted removeAt
 tick-keeps s r =
     go (waiting s) (omega (arith, waiting-length s (r .ready .shape), r .ready .shape .waits)) (tidy s (r .ready))
     (r .ready .sound .feasible)
   where
     go : (ws : List Request) → length ws ≤ length (s .waitingTable)
         → Tidy (s .head .clock) (s .head .last) (s .head .clients) ws (s .clientTable) → Feasible (s .head) ws
-        → Ready (ticked ws s .after)
+        → Ready (tickAccepted ws s .after)
     go [] n t f = later-ready [] (s .clientTable) s r n t (λ D. omega (arith, dueBy-none D [] tt))
     go (w ∷ ws) n t f =
         later-ready ws (change oneMoreServed (w .client) (s .clientTable)) s r (omega arith)
@@ -343,7 +343,7 @@ tick-keeps s r =
 
 -- ---- every call
 accepted-keeps : (c : Call) (s : State) → firstMatch (refusalsOf c s) ≡ 0 → Ready (acceptedOf c s .after)
-unfolding reported charted
+unfolding reportAccepted chartAccepted
 accepted-keeps (opening clients period) s e = open-keeps clients period s (open-ready clients period s e)
 accepted-keeps (submit client deadline) s e = submit-keeps client deadline s (submit-ready client deadline s e)
 accepted-keeps tick s e = tick-keeps s (tick-ready s e)

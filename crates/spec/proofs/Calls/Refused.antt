@@ -14,8 +14,8 @@ use Rattle.spec.specs.Tables.{State, waiting}
 use Rattle.spec.specs.Chart.{startsOf, hasNoOverfull}
 use Rattle.spec.specs.Refusals.{Refusal, firstMatch, openRefusals, submitRefusals, tickRefusals, reportRefusals}
 use Rattle.spec.specs.Refusals.{chartRefusals}
-use Rattle.spec.specs.Calls.{Outcome, unlessRefused, opened, openOf, kept, droppedAt, victimPlace, withNew, submitted}
-use Rattle.spec.specs.Calls.{submitOf, ticked, tickOf, reported, reportOf, charted, chartOf, chartOutput}
+use Rattle.spec.specs.Calls.{Outcome, unlessRefused, openAccepted, openOf, kept, droppedAt, victimPlace, withNew, submitAccepted}
+use Rattle.spec.specs.Calls.{submitOf, tickAccepted, tickOf, reportAccepted, reportOf, chartAccepted, chartOf, chartOutput}
 use Rattle.spec.specs.Lists.{Call, opening, submit, tick, report, chart, outcomeOf, isRefused}
 use Rattle.spec.proofs.Demands.Words.{refusalsOf, FirstHolds, here, further}
 use Rattle.spec.proofs.Laws.Accepted.{Decided, accepts, refuses, decided}
@@ -23,11 +23,11 @@ use Rattle.spec.proofs.Laws.Accepted.{Decided, accepts, refuses, decide
 -- ---- each call is its refusals and what it does where none holds
 -- what an accepted call comes to
 abbrev pub acceptedOf : Call → State → Outcome
-acceptedOf (opening clients period) s = opened clients period s
-acceptedOf (submit client deadline) s = submitted client deadline s
-acceptedOf tick s = ticked (waiting s) s
-acceptedOf (report client) s = reported client s
-acceptedOf (chart output) s = charted s
+acceptedOf (opening clients period) s = openAccepted clients period s
+acceptedOf (submit client deadline) s = submitAccepted client deadline s
+acceptedOf tick s = tickAccepted (waiting s) s
+acceptedOf (report client) s = reportAccepted client s
+acceptedOf (chart output) s = chartAccepted s
 
 outcome-unless : (c : Call) (s : State) → unlessRefused (refusalsOf c s) s (acceptedOf c s) ≡ outcomeOf c s
 unfolding outcomeOf openOf submitOf tickOf reportOf chartOf
@@ -42,7 +42,7 @@ outcome-decided c s = rw (outcome-unless c s) at (decided (refusalsOf c s) s (ac
 
 -- no answer of an accepted call is a refusal
 pub accepted-answer : (c : Call) (s : State) → isRefused (acceptedOf c s .answer) ≡ false
-unfolding opened submitted kept droppedAt ticked reported charted
+unfolding openAccepted submitAccepted kept droppedAt tickAccepted reportAccepted chartAccepted
 accepted-answer (opening clients period) s = refl
 accepted-answer (submit client deadline) s = go (hasNoOverfull (s .head) (withNew client deadline s))
   where
@@ -52,7 +52,7 @@ accepted-answer (submit client deadline) s = go (hasNoOverfull (s .head) (withNe
     go false = refl
 accepted-answer tick s = go (waiting s)
   where
-    go : (ws : List Request) → isRefused (ticked ws s .answer) ≡ false
+    go : (ws : List Request) → isRefused (tickAccepted ws s .answer) ≡ false
     go [] = refl
     go (w ∷ ws) = refl
 accepted-answer (report client) s = refl

@@ -16,7 +16,7 @@ use Rattle.spec.specs.Tables.{zeroCounts, State, waiting}
 use Rattle.spec.specs.Chart.{capacityOf, startsOf, segmentsOf}
 use Rattle.spec.specs.Sound.{isSound}
 use Rattle.spec.specs.Refusals.{firstMatch, refusal4, chartRefusals}
-use Rattle.spec.specs.Calls.{Outcome, openOf, reportOf, reportAnswer, charted, chartOf, chartOutput}
+use Rattle.spec.specs.Calls.{Outcome, openOf, reportOf, reportAnswer, chartAccepted, chartOf, chartOutput}
 use Rattle.spec.specs.Lists.{Call, chart, outcomeOf, run, Event, history, isRefused, isOpened, waitingBy, countsSince}
 use Rattle.spec.proofs.Demands.Words.{deadlinesOf, refusalsOf, FirstHolds, Ascending, Pairs, Finish, ChartFits, from}
 use Rattle.spec.proofs.Demands.Words.{slotsOfAll, Apart}
@@ -58,9 +58,9 @@ refused-same c s = go (outcome-decided c s)
 pub chart-refused-same : (output : List ℕ) (s : State) → isRefused (chartOf output s .answer) ≡ true
     → chartOutput output s ≡ output
 unfolding chartOf
-chart-refused-same output s = go (decided (chartRefusals output s) s (charted s)) (output-written output s)
+chart-refused-same output s = go (decided (chartRefusals output s) s (chartAccepted s)) (output-written output s)
   where
-    go : {o : Outcome} {l : List ℕ} → Decided (chartRefusals output s) s (charted s) o → Written output s l
+    go : {o : Outcome} {l : List ℕ} → Decided (chartRefusals output s) s (chartAccepted s) o → Written output s l
         → isRefused (o .answer) ≡ true → l ≡ output
     go (accepts e) w p = absurd (true≢false (sym p ∙ accepted-answer (chart output) s))
     go (refuses e) (untouched f) p = refl
@@ -109,7 +109,7 @@ pub record Charts (output : List ℕ) (s : State) (l : List ℕ) : Type 0 where
 
 pub chart-written : (output : List ℕ) (s : State) → isRefused (chartOf output s .answer) ≡ false
     → Charts output s (chartOutput output s)
-unfolding outcomeOf charted
+unfolding outcomeOf chartAccepted
 chart-written output s p = go (output-written output s)
   where
     none : firstMatch (chartRefusals output s) ≡ 0

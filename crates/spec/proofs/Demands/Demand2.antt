@@ -18,7 +18,7 @@ use Rattle.spec.specs.Order.{isInOrder, placeOf, removeAt}
 use Rattle.spec.specs.Chart.{isOverfull, Search, nothing, found, firstOverfull}
 use Rattle.spec.specs.Victim.{hasSmallerRatio, countsAt}
 use Rattle.spec.specs.Calls.{Outcome, kept, droppedAt, requestAt, newRequest, countedIn, withNew, requestAt, kept}
-use Rattle.spec.specs.Calls.{victimPlace, submitted, submitOf, ticked, tickOf}
+use Rattle.spec.specs.Calls.{victimPlace, submitAccepted, submitOf, tickAccepted, tickOf}
 use Rattle.spec.specs.Lists.{submit, tick, outcomeOf, isRefused}
 use Rattle.spec.proofs.Demands.Words.{CanFinish}
 use Rattle.spec.proofs.Laws.Order.{getD-put, remove-put, order-test, InOrder, first-earliest}
@@ -83,7 +83,7 @@ pub record FairSubmit (client deadline : ℕ) (s : State) : Type 0 where
       → j ≤ victimPlace client deadline s
 
 accepted-submit : (client deadline : ℕ) (s : State) → isRefused (submitOf client deadline s .answer) ≡ false
-    → SubmitReady client deadline s × (submitOf client deadline s ≡ submitted client deadline s)
+    → SubmitReady client deadline s × (submitOf client deadline s ≡ submitAccepted client deadline s)
 unfolding outcomeOf
 accepted-submit client deadline s e = (
   submit-ready client deadline s (accepted-none (submit client deadline) s e),
@@ -178,10 +178,10 @@ pub earliest-served : (s : State) → isRefused (tickOf s .answer) ≡ false →
 unfolding outcomeOf
 earliest-served s e = go (waiting s) (accepted-same tick s e) (tick-ready s (accepted-none tick s e) .ready .sound .ordered)
   where
-    go : (ws : List Request) → tickOf s ≡ ticked ws s → InOrder ws → Serves s ws
-    go [] same o = ap (λ (r : Outcome). r .answer) same ∙ unfold ticked in refl
+    go : (ws : List Request) → tickOf s ≡ tickAccepted ws s → InOrder ws → Serves s ws
+    go [] same o = ap (λ (r : Outcome). r .answer) same ∙ unfold tickAccepted in refl
     go (w ∷ ws) same o = (
-      ap (λ (r : Outcome). r .answer) same ∙ unfold ticked in refl,
+      ap (λ (r : Outcome). r .answer) same ∙ unfold tickAccepted in refl,
       ap (λ (r : Outcome). waiting (r .after)) same ∙ ticked-waiting (w ∷ ws) s,
       first-earliest w ws (o .0),
     )

@@ -21,7 +21,7 @@ use Rattle.spec.specs.Sound.{isClient, isSound}
 use Rattle.spec.specs.Refusals.{Refusal, firstMatch, isMisshapen, refusal2, refusal3, refusal4Open, refusal4, refusal5}
 use Rattle.spec.specs.Refusals.{refusal6, refusal7, refusal8, refusal9, refusal10, refusal11, refusal12, openRefusals}
 use Rattle.spec.specs.Refusals.{submitRefusals, tickRefusals, reportRefusals, chartRefusals}
-use Rattle.spec.specs.Calls.{kept, droppedAt, ticked, withNew, countedIn, requestAt, change, oneMoreDropped}
+use Rattle.spec.specs.Calls.{kept, droppedAt, tickAccepted, withNew, countedIn, requestAt, change, oneMoreDropped}
 use Rattle.spec.specs.Calls.{oneMoreServed, countsAfter, Outcome, unlessRefused}
 use Rattle.spec.proofs.Laws.Every.{or-none}
 use Rattle.spec.proofs.Laws.Sound.{within-facts, Shaped, Sound, sound-facts}
@@ -217,8 +217,8 @@ dropped-waiting k client deadline s =
     next-waiting (s .head .clock) (suc (s .head .last)) (removeAt k (withNew client deadline s))
     (change oneMoreDropped (requestAt k client deadline s .client) (countedIn client s)) s
 
-pub ticked-waiting : (ws : List Request) (s : State) → waiting (ticked ws s .after) ≡ drop 1 ws
-unfolding ticked nextState
+pub ticked-waiting : (ws : List Request) (s : State) → waiting (tickAccepted ws s .after) ≡ drop 1 ws
+unfolding tickAccepted nextState
 ticked-waiting [] s = refl
 ticked-waiting (w ∷ ws) s =
     next-waiting (suc (s .head .clock)) (s .head .last) ws

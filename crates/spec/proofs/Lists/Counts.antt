@@ -16,8 +16,8 @@ use Rattle.spec.specs.declared.types.Answer.the-variants.{Served, Idle}
 use Rattle.spec.specs.Every.{toNumber, exists, countIf, mapFrom}
 use Rattle.spec.specs.Tables.{zeroCounts, State, waiting, nextState}
 use Rattle.spec.specs.Sound.{waitingOf}
-use Rattle.spec.specs.Calls.{Outcome, openOf, opened, change, oneMoreSubmitted, oneMoreServed, oneMoreDropped}
-use Rattle.spec.specs.Calls.{isPeriodStart, restarted, oneLater, kept, droppedAt, submitted, ticked, reported, reportOf}
+use Rattle.spec.specs.Calls.{Outcome, openOf, openAccepted, change, oneMoreSubmitted, oneMoreServed, oneMoreDropped}
+use Rattle.spec.specs.Calls.{isPeriodStart, restarted, oneLater, kept, droppedAt, submitAccepted, tickAccepted, reportAccepted, reportOf}
 use Rattle.spec.specs.Calls.{reportAnswer, victimPlace, requestAt}
 use Rattle.spec.specs.Lists.{Call, submit, tick, report, outcomeOf, run, history, Event, isRefused, isOpened, isTick}
 use Rattle.spec.specs.Lists.{ticks, Asked, Victim, waitingRequests, waitingBy, submitters, servedClients, victimClients}
@@ -225,9 +225,9 @@ module _ (period : ℕ) (es : List Event) (s : State) (C : Counted period es s) 
             ∙ sym (since-starts period c e es (sym starts-same ∙ p))
         table false p c h = f c h ∙ sym (since-adds period c e es (sym starts-same ∙ p))
 
-  counted-tick : (ws : List Request) → s .head .clock ≡ ticks es → Then Traced tick (ticked ws s) es
-      → Then (Counted period) tick (ticked ws s) es
-  unfolding ticked
+  counted-tick : (ws : List Request) → s .head .clock ≡ ticks es → Then Traced tick (tickAccepted ws s) es
+      → Then (Counted period) tick (tickAccepted ws s) es
+  unfolding tickAccepted
   counted-tick [] k T =
       counted-later [] (s .clientTable) (Idle (s .head .clock)) refl k T
       (λ c h. C .counts-are c h ∙ sym (rw (named-none c) (adding-none (countsSince period c es))))
@@ -260,8 +260,8 @@ module _ (period : ℕ) (es : List Event) (s : State) (C : Counted period es s) 
       counted-same x (p .no-tick) (ap (map (λ (a : Asked). a .request .client)) (p .none-asked 0))
       (ap (map (λ (v : Victim). v .client)) (p .none-dropped))
 
-counted-open : (clients period : ℕ) (s : State) → Counted period [] (opened clients period s .after)
-unfolding opened countsSince sinceStart
+counted-open : (clients period : ℕ) (s : State) → Counted period [] (openAccepted clients period s .after)
+unfolding openAccepted countsSince sinceStart
 counted-open clients period s =
     record {
       period-is = refl;
@@ -284,7 +284,7 @@ counted clients period s cs a h =
 pub reported-counts : (period client : ℕ) (es : List Event) (s : State) → Traced es s → Counted period es s
     → isRefused (reportOf client s .answer) ≡ false
     → reportOf client s .answer ≡ reportAnswer client (countsSince period client es) (waitingBy client es)
-unfolding reported outcomeOf
+unfolding reportAccepted outcomeOf
 reported-counts period client es s T C a =
     ap (λ (o : Outcome). o .answer) (accepted-same (report client) s a)
     ∙ (λ i. reportAnswer client (C .counts-are client inside i) (sym (waits-counted es s client T) i))

@@ -24,8 +24,8 @@ use Rattle.spec.specs.Tables.{zeroRequest, State, waiting, nextState}
 use Rattle.spec.specs.Order.{removeAt}
 use Rattle.spec.specs.Chart.{capacityOf, roomTo, endOf, startsOf, dueBy, hasNoOverfull, Search}
 use Rattle.spec.specs.Victim.{isCandidate}
-use Rattle.spec.specs.Calls.{change, oneMoreDropped, oneMoreServed, countsAfter, countedIn, Outcome, opened, submitted}
-use Rattle.spec.specs.Calls.{kept, droppedAt, withNew, newRequest, requestAt, victimPlace, ticked}
+use Rattle.spec.specs.Calls.{change, oneMoreDropped, oneMoreServed, countsAfter, countedIn, Outcome, openAccepted, submitAccepted}
+use Rattle.spec.specs.Calls.{kept, droppedAt, withNew, newRequest, requestAt, victimPlace, tickAccepted}
 use Rattle.spec.specs.Lists.{submit, tick, Event, ticks, Asked, asked, Booking, bookings, servedRequests, waitingRequests}
 use Rattle.spec.specs.Lists.{windowOf, windows, chartBookings, slotFor, ownBookings, ownPlan}
 use Rattle.spec.proofs.Demands.Words.{Numbered}
@@ -201,7 +201,7 @@ module _ (client deadline : ℕ) (s : State) (es : List Event) (r : SubmitReady 
             (sorted-entries others (order-remove k together ordered)) (picked D g) (omega (arith, all-due D, same-room D))
             (λ x l m. omega (arith, all-due x, same-room x, u x m)) B
 
-  follows-submit : Follows es s → Then Follows (submit client deadline) (submitted client deadline s) es
+  follows-submit : Follows es s → Then Follows (submit client deadline) (submitAccepted client deadline s) es
   follows-submit B = go (submitted-cases client deadline s) (victim-place client deadline s r)
     where
       k : ℕ
@@ -225,8 +225,8 @@ module _ (s : State) (es : List Event) (T : Traced es s) where
   one = capacity-one (s .head) (ticks es)
 
   tick-queue : (ws : List Request) → waiting s ≡ ws
-      → tickedQueue serving (queueOf es s) ≡ queueOf (event tick (ticked ws s .answer) ∷ es) (ticked ws s .after)
-  unfolding ticked nextState ticks countIf asked bookings
+      → tickedQueue serving (queueOf es s) ≡ queueOf (event tick (tickAccepted ws s .answer) ∷ es) (tickAccepted ws s .after)
+  unfolding tickAccepted nextState ticks countIf asked bookings
   tick-queue [] e =
       λ i.
       record {
@@ -244,14 +244,14 @@ module _ (s : State) (es : List Event) (T : Traced es s) where
         asked = windows es;
       }
     where
-      rest : drop (serving (ticks es)) (map entryOf (waiting s)) ≡ map entryOf (waiting (ticked (w ∷ ws) s .after))
+      rest : drop (serving (ticks es)) (map entryOf (waiting s)) ≡ map entryOf (waiting (tickAccepted (w ∷ ws) s .after))
       rest =
           ap (λ (n : ℕ). drop n (map entryOf (waiting s))) one
           ∙ ap (λ (l : List Request). drop 1 (map entryOf l)) e
           ∙ ap (map entryOf) (sym (ticked-waiting (w ∷ ws) s))
 
-  tick-heads : (ws : List Request) → serving ≡ capacityOf (ticked ws s .after .head)
-  unfolding ticked
+  tick-heads : (ws : List Request) → serving ≡ capacityOf (tickAccepted ws s .after .head)
+  unfolding tickAccepted
   tick-heads [] =
       sym (capacity-next (suc (s .head .clock)) (s .head .last) []
       (countsAfter (s .head .period) (suc (s .head .clock)) [] (s .clientTable)) s)
@@ -259,7 +259,7 @@ module _ (s : State) (es : List Event) (T : Traced es s) where
       sym (capacity-next (suc (s .head .clock)) (s .head .last) ws
       (countsAfter (s .head .period) (suc (s .head .clock)) ws (change oneMoreServed (w .client) (s .clientTable))) s)
 
-  follows-tick : Follows es s → Then Follows tick (ticked (waiting s) s) es
+  follows-tick : Follows es s → Then Follows tick (tickAccepted (waiting s) s) es
   follows-tick B =
       subst₂ Both (tick-heads (waiting s)) (tick-queue (waiting s) refl) (both-ticked serving (queueOf es s) B)
 
@@ -339,6 +339,6 @@ module _ (es : List Event) (s : State) (T : Traced es s) (B : Follows es s) wher
       bs = ownBookings es s
 
 -- ---- from an accepted open on
-pub follows-open : (clients period : ℕ) (s : State) → Follows [] (opened clients period s .after)
-unfolding opened ticks countIf asked bookings
+pub follows-open : (clients period : ℕ) (s : State) → Follows [] (openAccepted clients period s .after)
+unfolding openAccepted ticks countIf asked bookings
 follows-open clients period s = both-empty (capacityOf (record { clients = clients; period = period; clock = 0; last = 0; waiting = 0 }))

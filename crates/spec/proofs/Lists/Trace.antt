@@ -20,8 +20,8 @@ use Rattle.spec.specs.Tables.{zeroRequest, State, waiting, nextState}
 use Rattle.spec.specs.Order.{removeAt}
 use Rattle.spec.specs.Chart.{hasNoOverfull}
 use Rattle.spec.specs.Refusals.{firstMatch}
-use Rattle.spec.specs.Calls.{Outcome, opened, openOf, submitted, kept, droppedAt, withNew, newRequest, requestAt}
-use Rattle.spec.specs.Calls.{victimPlace, ticked, reported, charted}
+use Rattle.spec.specs.Calls.{Outcome, openAccepted, openOf, submitAccepted, kept, droppedAt, withNew, newRequest, requestAt}
+use Rattle.spec.specs.Calls.{victimPlace, tickAccepted, reportAccepted, chartAccepted}
 use Rattle.spec.specs.Lists.{Call, opening, submit, tick, report, chart, outcomeOf, run, Event, history, isRefused}
 use Rattle.spec.specs.Lists.{isOpened, isTick, ticks, Asked, askedBy, asked, Booking, servedIn, bookings, Victim}
 use Rattle.spec.specs.Lists.{victimBy, victims, servedRequests, waitingRequests}
@@ -306,8 +306,8 @@ abbrev pub Then : (List Event → State → Type 0) → Call → Outcome → Lis
 Then p c o es = p (event c (o .answer) ∷ es) (o .after)
 
 -- ---- open
-pub traced-open : (clients period : ℕ) (s : State) → OpenReady clients period s → Traced [] (opened clients period s .after)
-unfolding opened ticks countIf asked bookings victims waitingRequests servedRequests select total
+pub traced-open : (clients period : ℕ) (s : State) → OpenReady clients period s → Traced [] (openAccepted clients period s .after)
+unfolding openAccepted ticks countIf asked bookings victims waitingRequests servedRequests select total
 traced-open clients period s r =
     record {
       ready = open-keeps clients period s r;
@@ -330,8 +330,8 @@ pub data Submitted (client deadline : ℕ) (s : State) : Outcome → Type 0 wher
       hasNoOverfull (s .head) (withNew client deadline s) ≡ false
       → Submitted client deadline s (droppedAt (victimPlace client deadline s) client deadline s)
 
-pub submitted-cases : (client deadline : ℕ) (s : State) → Submitted client deadline s (submitted client deadline s)
-unfolding submitted
+pub submitted-cases : (client deadline : ℕ) (s : State) → Submitted client deadline s (submitAccepted client deadline s)
+unfolding submitAccepted
 submitted-cases client deadline s = go (hasNoOverfull (s .head) (withNew client deadline s)) refl
   where
     go : (x : Bool) → hasNoOverfull (s .head) (withNew client deadline s) ≡ x → Submitted client deadline s
@@ -424,7 +424,7 @@ module _ (client deadline : ℕ) (s : State) (es : List Event) (T : Traced es s)
         named-now n = or-assoc (eqb (requestAt k client deadline s .number) n) (isVictimNumber es n) (isServedNumber es n)
 
 pub traced-submit : (client deadline : ℕ) (s : State) (es : List Event) → SubmitReady client deadline s → Traced es s
-    → Then Traced (submit client deadline) (submitted client deadline s) es
+    → Then Traced (submit client deadline) (submitAccepted client deadline s) es
 traced-submit client deadline s es r T = go (submitted-cases client deadline s) (submit-keeps client deadline s r)
   where
     go : {o : Outcome} → Submitted client deadline s o → Ready (o .after) → Then Traced (submit client deadline) o es
@@ -434,8 +434,8 @@ traced-submit client deadline s es r T = go (submitted-cases client deadline s) 
 
 -- ---- tick
 module _ (s : State) (es : List Event) (T : Traced es s) where
-  traced-ticked : (ws : List Request) → waiting s ≡ ws → Ready (ticked ws s .after) → Then Traced tick (ticked ws s) es
-  unfolding ticked nextState ticks countIf asked bookings victims exists total removeAt
+  traced-ticked : (ws : List Request) → waiting s ≡ ws → Ready (tickAccepted ws s .after) → Then Traced tick (tickAccepted ws s) es
+  unfolding tickAccepted nextState ticks countIf asked bookings victims exists total removeAt
   traced-ticked [] e r =
       record {
         ready = r;
@@ -449,7 +449,7 @@ module _ (s : State) (es : List Event) (T : Traced es s) where
       }
     where
       now : List Event
-      now = event tick (ticked [] s .answer) ∷ es
+      now = event tick (tickAccepted [] s .answer) ∷ es
   traced-ticked (w ∷ ws) e r =
       record {
         ready = r;
@@ -470,7 +470,7 @@ module _ (s : State) (es : List Event) (T : Traced es s) where
       }
     where
       now : List Event
-      now = event tick (ticked (w ∷ ws) s .answer) ∷ es
+      now = event tick (tickAccepted (w ∷ ws) s .answer) ∷ es
 
       old : (f : Request → ℕ) → total (failing (isNamed es) f) (asked es) ≡ total f (w ∷ ws)
       old f = sym (waiting-total f es) ∙ T .sums f ∙ ap (total f) e
@@ -488,7 +488,7 @@ module _ (s : State) (es : List Event) (T : Traced es s) where
           let g : All (Given (s .head .last)) (w ∷ ws) = subst (All (Given (s .head .last))) e (T .ready .sound .given) in
           omega (arith, g .0, T .last)
 
-pub traced-tick : (s : State) (es : List Event) → TickReady s → Traced es s → Then Traced tick (ticked (waiting s) s) es
+pub traced-tick : (s : State) (es : List Event) → TickReady s → Traced es s → Then Traced tick (tickAccepted (waiting s) s) es
 traced-tick s es r T = traced-ticked s es T (waiting s) refl (tick-keeps s r)
 
 -- ---- events that leave the state: refused calls, reports and charts
@@ -550,8 +550,8 @@ module _ (e : Event) (es : List Event) (p : Passing e) where
 pub data Step (s : State) : Event → State → Type 0 where
   submits :
       (client deadline : ℕ) → SubmitReady client deadline s
-      → Step s (event (submit client deadline) (submitted client deadline s .answer)) (submitted client deadline s .after)
-  serves : TickReady s → Step s (event tick (ticked (waiting s) s .answer)) (ticked (waiting s) s .after)
+      → Step s (event (submit client deadline) (submitAccepted client deadline s .answer)) (submitAccepted client deadline s .after)
+  serves : TickReady s → Step s (event tick (tickAccepted (waiting s) s .answer)) (tickAccepted (waiting s) s .after)
   passes : (e : Event) → Passing e → Step s e s
 
 abbrev pub eventOf : Call → State → Event
@@ -559,15 +559,15 @@ eventOf c s = event c (outcomeOf c s .answer)
 
 accepted-step : (c : Call) (s : State) → firstMatch (refusalsOf c s) ≡ 0 → isOpened (event c (acceptedOf c s .answer)) ≡ false
     → Step s (event c (acceptedOf c s .answer)) (acceptedOf c s .after)
-unfolding opened reported charted
+unfolding openAccepted reportAccepted chartAccepted
 accepted-step (opening clients period) s e h = absurd (true≢false h)
 accepted-step (submit client deadline) s e h = submits client deadline (submit-ready client deadline s e)
 accepted-step tick s e h = serves (tick-ready s e)
 accepted-step (report client) s e h =
-    passes (event (report client) (reported client s .answer))
+    passes (event (report client) (reportAccepted client s .answer))
     (record { no-tick = refl; none-asked = λ t. refl; none-served = refl; none-dropped = refl })
 accepted-step (chart output) s e h =
-    passes (event (chart output) (charted s .answer))
+    passes (event (chart output) (chartAccepted s .answer))
     (record { no-tick = refl; none-asked = λ t. refl; none-served = refl; none-dropped = refl })
 
 pub step : (c : Call) (s : State) → isOpened (eventOf c s) ≡ false → Step s (eventOf c s) (outcomeOf c s .after)
@@ -609,7 +609,7 @@ module _ (P : List Event → State → Type 0)
 -- ---- from an accepted open on
 -- what holds of the outcome where open is accepted
 pub accepted-open : (P : Outcome → Type 0) (clients period : ℕ) (s : State) → isRefused (openOf clients period s .answer) ≡ false
-    → (OpenReady clients period s → P (opened clients period s)) → P (openOf clients period s)
+    → (OpenReady clients period s → P (openAccepted clients period s)) → P (openOf clients period s)
 unfolding outcomeOf
 accepted-open P clients period s a f =
     subst P (sym (accepted-same (opening clients period) s a))
