@@ -11,12 +11,11 @@ use Rattle.slots.proofs.Laws.Tests.{le, gt, order}
 use Rattle.slots.proofs.Laws.Sums.{all-imp, total, total-one}
 use Rattle.slots.proofs.Queue.{Entry, Booking, Queue, arrival, asking, Joined, Swapped}
 use Rattle.slots.proofs.Laws.Count.{size-total, uses-total, below-mono}
-use Rattle.slots.proofs.Laws.Sorted.{Sorted, dueBy, due, upto, upto-none}
+use Rattle.slots.proofs.Laws.Sorted.{Sorted, dueBy, due, upto}
 use Rattle.slots.proofs.Upper.{upper}
 use Rattle.slots.proofs.Reached.Chart.{chart, plan}
 use Rattle.slots.proofs.Reached.Book.{book-total, Good, book-fits}
 use Rattle.slots.proofs.Reached.Seat.{slotted, chart-length}
-use Rattle.slots.proofs.Reached.Own.{none-due}
 use Rattle.slots.proofs.Both.{Both, both-kept, both-dropped, bookings, Sound, sound-all, known-all, once-all, heads-all}
 use Rattle.slots.proofs.Reached.Placing.{none-before, due-below, placed-feasible, feasible-placed, chart-size}
 
@@ -37,14 +36,6 @@ module _ (heads : ℕ → ℕ) where
       (λ D h g. fits-opens heads (due D (arrival d q) + upto D (q .waiting)) (q .clock) D h (under D h g)) B
 
   module _ (q : Queue) (B : Both heads q) where
-    -- those that wait have room
-    pub room-waiting : (D : ℕ) → upto D (q .waiting) ≤ room heads (q .clock) D
-    room-waiting D =
-        elim (order (q .clock) D) [
-          | le h ↦ opens-fits heads (upto D (q .waiting)) (q .clock) D (B .inv .feasible D h)
-          | gt h ↦ omega (arith, upto-none D (suc (q .clock)) (q .waiting) (none-due heads q (B .inv)) (omega arith))
-        ]
-
     -- ---- no plan has more requests than were served and wait, and the queue's own has as many
     pub largest : (P : List Slot) → Plan heads (q .asked) P → size P ≤ length (q .log) + length (q .waiting)
     largest = upper heads q (B .inv)

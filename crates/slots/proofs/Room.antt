@@ -14,9 +14,6 @@ module _ (heads : ℕ → ℕ) where
   unfolding room
   room-opens a b = refl
 
-  pub room-none : (a : ℕ) → room heads a a ≡ 0
-  room-none a = omega (arith, room-opens a a)
-
   -- no room lies behind
   pub room-back : (a b : ℕ) → b ≤ a → room heads a b ≡ 0
   room-back a b h = omega (arith, room-opens a b, opens-mono heads b a h)
@@ -32,9 +29,6 @@ module _ (heads : ℕ → ℕ) where
   pub room-mono : (t a b : ℕ) → a ≤ b → room heads t a ≤ room heads t b
   room-mono t a b h = omega (arith, room-opens t a, room-opens t b, opens-mono heads a b h)
 
-  pub room-later : (t u b : ℕ) → t ≤ u → room heads u b ≤ room heads t b
-  room-later t u b h = omega (arith, room-opens t b, room-opens u b, opens-mono heads t u h)
-
   -- ---- n requests have room from a to b, or not, as the queue's steps say it
   pub fits-opens : (n a b : ℕ) → a ≤ b → n ≤ room heads a b → n + opens heads a ≤ opens heads b
   fits-opens n a b h g = omega (arith, room-opens a b, opens-mono heads a b h)
@@ -44,9 +38,6 @@ module _ (heads : ℕ → ℕ) where
 
   pub over-opens : (n a b : ℕ) → room heads a b < n → opens heads b < n + opens heads a
   over-opens n a b h = omega (arith, room-opens a b)
-
-  pub opens-over : (n a b : ℕ) → a ≤ b → opens heads b < n + opens heads a → room heads a b < n
-  opens-over n a b h g = omega (arith, room-opens a b, opens-mono heads a b h)
 
   -- ---- one block in each slot: the room is "D minus the clock"
   module _ (one : (s : ℕ) → heads s ≡ 1) where

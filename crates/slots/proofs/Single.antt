@@ -10,7 +10,7 @@ use Rattle.slots.specs.Plan.{Window, Slot, none, at, Fits, isAt, uses, P
 use Rattle.slots.proofs.Laws.Tests.{Test, holds, fails, test, Same, same-yes, same-no, same, le, gt, order}
 use Rattle.slots.proofs.Queue.{opens, Entry, Booking, Queue}
 use Rattle.slots.proofs.Laws.Count.{isAt-yes}
-use Rattle.slots.proofs.Reached.Chart.{slotOf, ends, place, chart, book, plan}
+use Rattle.slots.proofs.Reached.Chart.{slotOf, ends, place, chart, book}
 use Rattle.slots.proofs.Both.{bookings}
 use Rattle.slots.proofs.Room.{opens-one}
 
@@ -125,6 +125,3 @@ module _ (heads : ℕ → ℕ) (one : (s : ℕ) → heads s ≡ 1) where
 
   pub bookings-booked : (q : Queue) → bookings heads q ≡ booked q
   bookings-booked q = ap (λ (bs : List Booking). q .log ++ bs) (chart-slots (q .waiting))
-
-  pub plan-own : (q : Queue) → plan heads q ≡ own q
-  plan-own q = ap (book (length (q .asked))) (bookings-booked q)

@@ -3,9 +3,9 @@ use Prim.Native.Nat.{ℕ, zero, suc, _-_, _≤_, _<_, min}
 use mathlib.Core.Path.{_≡_, refl, sym}
 use mathlib.Core.List.{List, [], _∷_, map}
 use native.Mathlib.Omega.{arith}
-use lib.ListN.{length, drop}
+use lib.ListN.{drop}
 use Rattle.slots.proofs.Laws.Tests.{le, gt, order}
-use Rattle.slots.proofs.Laws.Sums.{total, total-le, total-map}
+use Rattle.slots.proofs.Laws.Sums.{total, total-map}
 use Rattle.slots.proofs.Queue.{Entry}
 
 -- the deadlines do not fall, and none is before lo
@@ -52,14 +52,6 @@ due-mono x y h w = omega arith
 pub upto-deadlines : (D : ℕ) (ws : List Entry) → upto D ws ≡ total (dueBy D) (map (λ (w : Entry). w .deadline) ws)
 unfolding due
 upto-deadlines D ws = sym (total-map (dueBy D) (λ (w : Entry). w .deadline) ws)
-
-pub upto-mono : (x y : ℕ) (ws : List Entry) → x ≤ y → upto x ws ≤ upto y ws
-upto-mono x y ws h = total-le (due x) (due y) ws (due-mono x y h)
-
-pub upto-length : (D : ℕ) (ws : List Entry) → upto D ws ≤ length ws
-unfolding total
-upto-length D [] = omega arith
-upto-length D (w ∷ ws) = omega (arith, due-one D w, upto-length D ws)
 
 pub upto-none : (D lo : ℕ) (ws : List Entry) → Sorted lo ws → D < lo → upto D ws ≡ 0
 unfolding total

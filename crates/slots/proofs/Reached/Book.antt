@@ -6,7 +6,7 @@ use mathlib.Core.List.{List, [], _∷_}
 use mathlib.Core.Logic.{_≢_}
 use native.Mathlib.Omega.{arith}
 use lib.Dec.{eqb}
-use lib.ListN.{length, getD}
+use lib.ListN.{length}
 use Rattle.slots.specs.Plan.{Window, Slot, none, at, EndedBy, Fits}
 use Rattle.slots.proofs.Laws.Tests.{Same, same-yes, same-no, same}
 use Rattle.slots.proofs.Laws.Sums.{one, one-yes, one-no, All, all-imp, total, total-zero}
@@ -58,19 +58,6 @@ lookup-none i (b ∷ bs) h = lookup-no i b bs other ∙ lookup-none i bs (omega 
   where
     other : i ≢ b .number
     other e = omega (arith, one-yes i (b .number) e)
-
--- what the plan has for the number i: k numbers come after it
-pub book-at : (n i k : ℕ) (bs : List Booking) → 0 < i → i + k ≡ n → getD (book n bs) k none ≡ lookup i bs
-book-at zero i k bs h e = absurd (omega arith)
-book-at (suc n) i zero bs h e = ap (λ (j : ℕ). lookup j bs) (last-of e)
-  where
-    last-of : i + 0 ≡ suc n → suc n ≡ i
-    last-of e = omega arith
-book-at (suc n) i (suc k) bs h e = book-at n i k bs h (omega arith)
-
-pub book-length : (n : ℕ) (bs : List Booking) → length (book n bs) ≡ n
-book-length zero bs = refl
-book-length (suc n) bs = ap suc (book-length n bs)
 
 -- ---- a sum over the plan is the sum over the bookings
 module _ (f : Slot → ℕ) (zero-none : f none ≡ 0) where

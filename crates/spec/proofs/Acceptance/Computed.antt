@@ -6,8 +6,8 @@ use Rattle.spec.specs.Chart.{room, startsOf, segmentsOf, dueBy, isOverfu
 use Rattle.spec.specs.Victim.{isCandidate, candidatesFrom, hasSmallerRatio, smallestOf, victimOf}
 use Rattle.spec.specs.Sound.{isHeadWithin, isZeroRequest, waitingOf, isBalanced, isSound}
 use Rattle.spec.specs.Refusals.{firstMatch, openRefusals, submitRefusals, tickRefusals, reportRefusals, chartRefusals}
-use Rattle.spec.specs.Calls.{openOf, openAccepted, change, kept, droppedAt, submitAccepted, submitOf, tickAccepted, tickOf, reportAccepted}
-use Rattle.spec.specs.Calls.{reportOf, chartAccepted, chartOf}
+use Rattle.spec.specs.Calls.{openOf, openAccepted, change, kept, droppedAt, submitAccepted, submitOf, tickAccepted}
+use Rattle.spec.specs.Calls.{tickOf, reportAccepted, reportOf, chartAccepted, chartOf}
 
 unfoldable pub charts : Unit {0}
 unfolding room every countIf startsOf segmentsOf dueBy isOverfull hasNoOverfull

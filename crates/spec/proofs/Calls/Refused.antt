@@ -14,8 +14,9 @@ use Rattle.spec.specs.Tables.{State, waiting}
 use Rattle.spec.specs.Chart.{startsOf, hasNoOverfull}
 use Rattle.spec.specs.Refusals.{Refusal, firstMatch, openRefusals, submitRefusals, tickRefusals, reportRefusals}
 use Rattle.spec.specs.Refusals.{chartRefusals}
-use Rattle.spec.specs.Calls.{Outcome, unlessRefused, openAccepted, openOf, kept, droppedAt, victimPlace, withNew, submitAccepted}
-use Rattle.spec.specs.Calls.{submitOf, tickAccepted, tickOf, reportAccepted, reportOf, chartAccepted, chartOf, chartOutput}
+use Rattle.spec.specs.Calls.{Outcome, unlessRefused, openAccepted, openOf, kept, droppedAt, victimPlace, withNew}
+use Rattle.spec.specs.Calls.{submitAccepted, submitOf, tickAccepted, tickOf, reportAccepted, reportOf, chartAccepted}
+use Rattle.spec.specs.Calls.{chartOf, chartOutput}
 use Rattle.spec.specs.Lists.{Call, opening, submit, tick, report, chart, outcomeOf, isRefused}
 use Rattle.spec.proofs.Demands.Words.{refusalsOf, FirstHolds, here, further}
 use Rattle.spec.proofs.Laws.Accepted.{Decided, accepts, refuses, decided}

@@ -17,7 +17,7 @@ use Rattle.spec.specs.Every.{toNumber, exists, countIf, mapFrom}
 use Rattle.spec.specs.Tables.{zeroCounts, State, waiting, nextState}
 use Rattle.spec.specs.Sound.{waitingOf}
 use Rattle.spec.specs.Calls.{Outcome, openOf, openAccepted, change, oneMoreSubmitted, oneMoreServed, oneMoreDropped}
-use Rattle.spec.specs.Calls.{isPeriodStart, restarted, oneLater, kept, droppedAt, submitAccepted, tickAccepted, reportAccepted, reportOf}
+use Rattle.spec.specs.Calls.{isPeriodStart, restarted, oneLater, kept, droppedAt, tickAccepted, reportAccepted, reportOf}
 use Rattle.spec.specs.Calls.{reportAnswer, victimPlace, requestAt}
 use Rattle.spec.specs.Lists.{Call, submit, tick, report, outcomeOf, run, history, Event, isRefused, isOpened, isTick}
 use Rattle.spec.specs.Lists.{ticks, Asked, Victim, waitingRequests, waitingBy, submitters, servedClients, victimClients}

@@ -24,8 +24,8 @@ use Rattle.spec.specs.Tables.{zeroRequest, State, waiting, nextState}
 use Rattle.spec.specs.Order.{removeAt}
 use Rattle.spec.specs.Chart.{capacityOf, roomTo, endOf, startsOf, dueBy, hasNoOverfull, Search}
 use Rattle.spec.specs.Victim.{isCandidate}
-use Rattle.spec.specs.Calls.{change, oneMoreDropped, oneMoreServed, countsAfter, countedIn, Outcome, openAccepted, submitAccepted}
-use Rattle.spec.specs.Calls.{kept, droppedAt, withNew, newRequest, requestAt, victimPlace, tickAccepted}
+use Rattle.spec.specs.Calls.{change, oneMoreDropped, oneMoreServed, countsAfter, countedIn, Outcome, openAccepted}
+use Rattle.spec.specs.Calls.{submitAccepted, kept, droppedAt, withNew, newRequest, requestAt, victimPlace, tickAccepted}
 use Rattle.spec.specs.Lists.{submit, tick, Event, ticks, Asked, asked, Booking, bookings, servedRequests, waitingRequests}
 use Rattle.spec.specs.Lists.{windowOf, windows, chartBookings, slotFor, ownBookings, ownPlan}
 use Rattle.spec.proofs.Demands.Words.{Numbered}

@@ -20,8 +20,8 @@ use Rattle.spec.specs.Tables.{zeroRequest, State, waiting, nextState}
 use Rattle.spec.specs.Order.{removeAt}
 use Rattle.spec.specs.Chart.{hasNoOverfull}
 use Rattle.spec.specs.Refusals.{firstMatch}
-use Rattle.spec.specs.Calls.{Outcome, openAccepted, openOf, submitAccepted, kept, droppedAt, withNew, newRequest, requestAt}
-use Rattle.spec.specs.Calls.{victimPlace, tickAccepted, reportAccepted, chartAccepted}
+use Rattle.spec.specs.Calls.{Outcome, openAccepted, openOf, submitAccepted, kept, droppedAt, withNew, newRequest}
+use Rattle.spec.specs.Calls.{requestAt, victimPlace, tickAccepted, reportAccepted, chartAccepted}
 use Rattle.spec.specs.Lists.{Call, opening, submit, tick, report, chart, outcomeOf, run, Event, history, isRefused}
 use Rattle.spec.specs.Lists.{isOpened, isTick, ticks, Asked, askedBy, asked, Booking, servedIn, bookings, Victim}
 use Rattle.spec.specs.Lists.{victimBy, victims, servedRequests, waitingRequests}
