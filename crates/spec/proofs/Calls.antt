@@ -4,3 +4,4 @@ pub mod Victim
 pub mod Keeps
 pub mod Fair
 pub mod Latest
+pub mod Widths

@@ -39,7 +39,7 @@ numberFrom before (d ∷ ds) = numberFrom (before * 16 + digitOf d) ds
 abbrev pub fieldAt : ℕ → ℕ → List ℕ → ℕ
 fieldAt from width line = numberFrom 0 (take (2 * width) (drop (2 * from) line))
 
--- the last digits of a value, so many
+-- the last digits of a value, so many; no answer has a value with more (`Demand1.values-fit`)
 unfoldable pub digits : ℕ → ℕ → List ℕ
 digits zero value = []
 digits (suc n) value = digits n (value / 16) ++ (characterOf (value % 16) ∷ [])

@@ -1,4 +1,4 @@
--- Bounds, records and the whole state of the queue: document 01, "Tables and bounds". Each number of the document stands here once.
+-- Bounds, records and the whole state of the queue: document 01, "Tables and bounds". Each bound stands here once, under a name.
 -- Assumes nothing.
 use Prim.Native.Nat.{ℕ, _-_}
 use mathlib.Core.List.{List, _++_}

@@ -233,7 +233,8 @@ module _ (client deadline : ℕ) (s : State) (r : SubmitReady client deadline s)
       (withNew client deadline s) (countedIn client s) n (tidy-put client deadline s r))
       (feasible-facts (s .head) (removeAt k (withNew client deadline s)) e)
 
-pub submit-keeps : (client deadline : ℕ) (s : State) → SubmitReady client deadline s → Ready (submitAccepted client deadline s .after)
+pub submit-keeps : (client deadline : ℕ) (s : State) → SubmitReady client deadline s
+    → Ready (submitAccepted client deadline s .after)
 unfolding submitAccepted
 submit-keeps client deadline s r = go (value (hasNoOverfull (s .head) (withNew client deadline s)))
   where

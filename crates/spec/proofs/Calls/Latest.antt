@@ -11,7 +11,7 @@ use lib.ListN.{length, getD, drop}
 use Rattle.slots.specs.Plan.{at, EndedBy, Fits, uses, since, size, CanAllFinish}
 use Rattle.slots.proofs.Laws.Count.{isAt-no}
 use Rattle.slots.proofs.Laws.Tests.{Same, same-yes, same-no, same}
-use Rattle.slots.proofs.Laws.Sums.{All, all-imp}
+use Rattle.slots.proofs.Laws.Sums.{All, all-each, all-imp}
 use Rattle.spec.specs.declared.types.Head.{Head}
 use Rattle.spec.specs.declared.types.Request.{Request}
 use Rattle.spec.specs.Tables.{State, waiting}
@@ -203,18 +203,26 @@ Proper g = g .left < g .right
 abbrev besideIf : Bool → ℕ → Segment → List Segment → List Segment
 besideIf x s g gs = cond x (record { left = s; right = g .right } ∷ gs) (record { left = s; right = suc s } ∷ g ∷ gs)
 
-join-proper : (s : ℕ) (gs : List Segment) → All Proper gs → All Proper (joinLeft s gs)
-join-proper s [] a = (omega arith, tt)
-join-proper s (g ∷ gs) a = go (eqb (suc s) (g .left)) (same (suc s) (g .left))
-  where
-    go : (x : Bool) → Same (suc s) (g .left) x → All Proper (besideIf x s g gs)
-    go true (same-yes e) = (omega arith, a .1)
-    go false (same-no e) = (omega arith, a)
-
-pub segments-proper : (starts : List ℕ) → All Proper (segmentsOf starts)
+-- what holds of one start's interval, and of a segment that is joined by the interval on its left, holds of all segments
+pub segments-all : (r : ℕ → Type 0) (p : Segment → Type 0) → ((s : ℕ) → r s → p (record { left = s; right = suc s }))
+    → ((s : ℕ) (g : Segment) → r s → suc s ≡ g .left → p g → p (record { left = s; right = g .right }))
+    → (starts : List ℕ) → All r starts → All p (segmentsOf starts)
 unfolding segmentsOf
-segments-proper [] = tt
-segments-proper (s ∷ starts) = join-proper s (segmentsOf starts) (segments-proper starts)
+segments-all r p one more [] a = tt
+segments-all r p one more (s ∷ starts) a = join (segmentsOf starts) (segments-all r p one more starts (a .1))
+  where
+    join : (gs : List Segment) → All p gs → All p (joinLeft s gs)
+    join [] b = (one s (a .0), tt)
+    join (g ∷ gs) b = go (eqb (suc s) (g .left)) (same (suc s) (g .left))
+      where
+        go : (x : Bool) → Same (suc s) (g .left) x → All p (besideIf x s g gs)
+        go true (same-yes e) = (more s g (a .0) e (b .0), b .1)
+        go false (same-no e) = (one s (a .0), b)
+
+segments-proper : (starts : List ℕ) → All Proper (segmentsOf starts)
+segments-proper starts =
+    segments-all (λ s. Unit {0}) Proper (λ s u. omega arith) (λ s g u e h. omega arith) starts
+    (all-each (λ (s : ℕ). Unit {0}) starts (λ s. tt))
 
 join-slots : (s : ℕ) (gs : List Segment) → All Proper gs → slotsOfAll (joinLeft s gs) ≡ s ∷ slotsOfAll gs
 join-slots s [] a = let one : suc s - s ≡ 1 = omega arith in rw one
@@ -231,19 +239,9 @@ segments-slots [] = refl
 segments-slots (s ∷ starts) =
     join-slots s (segmentsOf starts) (segments-proper starts) ∙ ap (λ (l : List ℕ). s ∷ l) (segments-slots starts)
 
-join-left : (p : ℕ → Type 0) (s : ℕ) (gs : List Segment) → p s → All (λ (g : Segment). p (g .left)) gs
-    → All (λ (g : Segment). p (g .left)) (joinLeft s gs)
-join-left p s [] h a = (h, tt)
-join-left p s (g ∷ gs) h a = go (eqb (suc s) (g .left))
-  where
-    go : (x : Bool) → All (λ (g : Segment). p (g .left)) (besideIf x s g gs)
-    go true = (h, a .1)
-    go false = (h, a)
-
 segments-left : (p : ℕ → Type 0) (starts : List ℕ) → All p starts → All (λ (g : Segment). p (g .left)) (segmentsOf starts)
-unfolding segmentsOf
-segments-left p [] a = tt
-segments-left p (s ∷ starts) a = join-left p s (segmentsOf starts) (a .0) (segments-left p starts (a .1))
+segments-left p starts a =
+    segments-all p (λ (g : Segment). p (g .left)) (λ s h. h) (λ s g h e k. h) starts a
 
 join-apart : (s : ℕ) (gs : List Segment) → All (λ (g : Segment). s < g .left) gs → All Proper gs → Apart gs
     → Apart (joinLeft s gs)

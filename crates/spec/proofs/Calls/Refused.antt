@@ -1,5 +1,5 @@
 -- Refused calls: document 01, "Refusals, first match wins". Assumes nothing.
-use Prim.Native.Nat.{ℕ, suc}
+use Prim.Native.Nat.{ℕ, suc, _≤_}
 use mathlib.Core.Path.{_≡_, refl, ap}
 use mathlib.Core.Logic.{_≢_}
 use mathlib.Core.Bool.{Bool, true, false, cond, true≢false}
@@ -75,21 +75,21 @@ unfolding firstMatch
 first-match (here e) = rw e
 first-match (further e f) = rw e (first-match f)
 
-abbrev pub Numbered : Refusal → Type 0
-Numbered r = r .number ≢ 0
+-- a number of the paper's list
+abbrev pub Listed : ℕ → Type 0
+Listed n = (1 ≤ n) × (n ≤ 12)
 
-pub first-number : {rs : List Refusal} {n : ℕ} → FirstHolds rs n → All Numbered rs → n ≢ 0
-first-number (here e) a = a .0
-first-number (further e f) a = first-number f (a .1)
+pub first-listed : {rs : List Refusal} {n : ℕ} → FirstHolds rs n → All (λ (r : Refusal). Listed (r .number)) rs → Listed n
+first-listed (here e) a = a .0
+first-listed (further e f) a = first-listed f (a .1)
 
-pub numbered : (c : Call) (s : State) → All Numbered (refusalsOf c s)
+pub listed : (c : Call) (s : State) → All (λ (r : Refusal). Listed (r .number)) (refusalsOf c s)
 unfolding openRefusals submitRefusals tickRefusals reportRefusals chartRefusals
-numbered (opening clients period) s = (omega arith, (omega arith, (omega arith, tt)))
-numbered (submit client deadline) s =
-    (omega arith, (omega arith, (omega arith, (omega arith, (omega arith, (omega arith, (omega arith, tt)))))))
-numbered tick s = (omega arith, (omega arith, (omega arith, tt)))
-numbered (report client) s = (omega arith, (omega arith, (omega arith, tt)))
-numbered (chart output) s = (omega arith, (omega arith, (omega arith, tt)))
+listed (opening clients period) s = omega arith
+listed (submit client deadline) s = omega arith
+listed tick s = omega arith
+listed (report client) s = omega arith
+listed (chart output) s = omega arith
 
 -- a call that is not refused meets none of its refusals, and comes to what an accepted call does
 pub accepted-none : (c : Call) (s : State) → isRefused (outcomeOf c s .answer) ≡ false → firstMatch (refusalsOf c s) ≡ 0

@@ -10,22 +10,25 @@ use native.Mathlib.Omega.{arith}
 use lib.ListN.{length, getD, take, drop, length-append, length-drop}
 use lib.Seq.{take-append-seam, drop-append-seam}
 use Rattle.slots.specs.Plan.{CanAllFinish}
+use Rattle.slots.proofs.Laws.Sums.{All}
 use Rattle.spec.specs.declared.types.Answer.the-variants.{Charted, Refused}
 use Rattle.spec.specs.Every.{exists}
 use Rattle.spec.specs.Tables.{zeroCounts, State, waiting}
-use Rattle.spec.specs.Chart.{capacityOf, startsOf, segmentsOf}
+use Rattle.spec.specs.Chart.{Segment, capacityOf, startsOf, segmentsOf}
 use Rattle.spec.specs.Sound.{isSound}
 use Rattle.spec.specs.Refusals.{firstMatch, refusal4, chartRefusals}
 use Rattle.spec.specs.Calls.{Outcome, openOf, reportOf, reportAnswer, chartAccepted, chartOf, chartOutput}
+use Rattle.spec.specs.Frames.{field, valuesOf}
 use Rattle.spec.specs.Lists.{Call, chart, outcomeOf, run, Event, history, isRefused, isOpened, waitingBy, countsSince}
-use Rattle.spec.proofs.Demands.Words.{deadlinesOf, refusalsOf, FirstHolds, Ascending, Pairs, Finish, ChartFits, from}
-use Rattle.spec.proofs.Demands.Words.{slotsOfAll, Apart}
+use Rattle.spec.proofs.Demands.Words.{FitsField, deadlinesOf, refusalsOf, FirstHolds, Ascending, Pairs, Finish}
+use Rattle.spec.proofs.Demands.Words.{ChartFits, from, slotsOfAll, Apart}
 use Rattle.spec.proofs.Laws.Sound.{sound-test}
 use Rattle.spec.proofs.Laws.Accepted.{Decided, accepts, refuses, decided, ChartReady, chart-ready, waiting-length}
 use Rattle.spec.proofs.Calls.Refused.{accepted-same, acceptedOf, outcome-decided, accepted-answer, accepted-none}
-use Rattle.spec.proofs.Calls.Refused.{first-holds, first-match, first-number, numbered, length-starts, Written}
-use Rattle.spec.proofs.Calls.Refused.{untouched, written, output-written}
+use Rattle.spec.proofs.Calls.Refused.{first-holds, first-match, first-listed, listed, length-starts, Written, untouched}
+use Rattle.spec.proofs.Calls.Refused.{written, output-written}
 use Rattle.spec.proofs.Calls.Keeps.{keeps, shaped-test}
+use Rattle.spec.proofs.Calls.Widths.{call-fits, segment-fits, count-fits}
 use Rattle.spec.proofs.Calls.Latest.{latest-start, ready-chart, starts-latest, starts-drop, segments-slots}
 use Rattle.spec.proofs.Calls.Latest.{segments-apart}
 use Rattle.spec.proofs.Lists.Trace.{traced}
@@ -43,7 +46,7 @@ refused-exactly c s n = (to (outcome-decided c s), (λ f. from f (outcome-decide
         rw q at (first-holds (refusalsOf c s) e)
 
     from : {o : Outcome} → FirstHolds (refusalsOf c s) n → Decided (refusalsOf c s) s (acceptedOf c s) o → o .answer ≡ Refused n
-    from f (accepts e) = absurd (first-number f (numbered c s) (sym (first-match f) ∙ e))
+    from f (accepts e) = absurd (omega (arith, first-listed f (listed c s), first-match f, e))
     from f (refuses e) = ap Refused (first-match f)
 
 -- "head, tables and output stay unchanged.": head and tables
@@ -162,3 +165,16 @@ chart-latest output s e =
       slots = segments-slots (startsOf (waiting s));
       apart = segments-apart (startsOf (waiting s)) (c .ascending);
     }
+
+-- ---- lines
+-- "Numbers are big-endian; widths in bytes in brackets.": no value is too large for its field, so that no answer is cut
+pub values-fit : (c : Call) (s : State) → All FitsField (valuesOf (outcomeOf c s .answer))
+values-fit c s = call-fits c s
+
+-- nor any segment's ends, nor their count
+pub segments-fit : (output : List ℕ) (s : State) → isRefused (chartOf output s .answer) ≡ false
+    → All (λ (g : Segment). FitsField (field 8 (g .left)) × FitsField (field 8 (g .right))) (segmentsOf (startsOf (waiting s)))
+    × FitsField (field 2 (length (segmentsOf (startsOf (waiting s)))))
+unfolding outcomeOf
+segments-fit output s e =
+    let r = chart-ready output s (accepted-none (chart output) s e) .ready in (segment-fits s r, count-fits s r)

@@ -1,6 +1,6 @@
 -- The words of the statements that document 01 does not define. Two more, `All` (of each element) and `total` (the sum over a list),
 -- are those of crate slots, proofs/Laws/Sums. Assumes nothing.
-use Prim.Native.Nat.{ℕ, zero, suc, _-_, _≤_, _<_}
+use Prim.Native.Nat.{ℕ, zero, suc, _-_, _≤_, _<_, _^_}
 use mathlib.Core.Path.{_≡_}
 use mathlib.Core.Bool.{true, false}
 use mathlib.Core.List.{List, [], _∷_, _++_, map}
@@ -12,6 +12,7 @@ use Rattle.spec.specs.declared.types.Request.{Request}
 use Rattle.spec.specs.Tables.{State}
 use Rattle.spec.specs.Chart.{capacityOf, Segment}
 use Rattle.spec.specs.Refusals.{Refusal, openRefusals, submitRefusals, tickRefusals, reportRefusals, chartRefusals}
+use Rattle.spec.specs.Frames.{Field}
 use Rattle.spec.specs.Lists.{Asked, Call, opening, submit, tick, report, chart}
 
 -- ---- refusals
@@ -83,3 +84,8 @@ Apart (g ∷ gs) = All (λ (h : Segment). g .right < h .left) gs × Apart gs
 abbrev pub Numbered : List Asked → Type 0
 Numbered [] = Unit {0}
 Numbered (a ∷ rs) = (a .request .number ≡ suc (length rs)) × Numbered rs
+
+-- ---- lines
+-- a value has no more bytes than its field
+abbrev pub FitsField : Field → Type 0
+FitsField f = f .value < 256 ^ (f .width)

@@ -10,7 +10,7 @@ use lib.Dec.{eqb}
 use lib.ListN.{length, getD, set, length-set}
 use lib.Seq.{getD-set-same, getD-set-other}
 use Rattle.slots.proofs.Laws.Tests.{Same, same-yes, same-no, same}
-use Rattle.slots.proofs.Laws.Sums.{All, all-imp, total, total-nil}
+use Rattle.slots.proofs.Laws.Sums.{All, all-imp}
 use Rattle.spec.specs.declared.types.Request.{Request}
 use Rattle.spec.specs.declared.types.Counts.{Counts}
 use Rattle.spec.specs.Every.{toNumber, countIf}
@@ -18,8 +18,8 @@ use Rattle.spec.specs.Tables.{zeroCounts}
 use Rattle.spec.specs.Order.{putInOrder, removeAt}
 use Rattle.spec.specs.Sound.{waitingOf}
 use Rattle.spec.specs.Calls.{change}
-use Rattle.spec.proofs.Laws.Every.{count-total, total-remove}
-use Rattle.spec.proofs.Laws.Order.{total-put}
+use Rattle.spec.proofs.Laws.Every.{number-yes, number-no}
+use Rattle.spec.proofs.Laws.Order.{count-put, count-remove}
 
 -- ---- one request of a client, counted
 unfoldable pub of : ℕ → Request → ℕ
@@ -27,26 +27,15 @@ of client w = toNumber (eqb (w .client) client)
 
 pub of-yes : (client : ℕ) (w : Request) → client ≡ w .client → of client w ≡ 1
 unfolding of
-of-yes client w h = go (eqb (w .client) client) (same (w .client) client)
-  where
-    go : (x : Bool) → Same (w .client) client x → toNumber x ≡ 1
-    go true (same-yes e) = refl
-    go false (same-no e) = absurd (e (sym h))
+of-yes client w h = number-yes (eqb (w .client) client) (eq-eqb (w .client) client (sym h))
 
 pub of-no : (client : ℕ) (w : Request) → client ≢ w .client → of client w ≡ 0
 unfolding of
-of-no client w h = go (eqb (w .client) client) (same (w .client) client)
-  where
-    go : (x : Bool) → Same (w .client) client x → toNumber x ≡ 0
-    go true (same-yes e) = absurd (h (sym e))
-    go false (same-no e) = refl
-
-pub waitingOf-total : (client : ℕ) (ws : List Request) → waitingOf client ws ≡ total (of client) ws
-unfolding waitingOf of
-waitingOf-total client ws = count-total (λ w. eqb (w .client) client) ws
+of-no client w h = number-no (eqb (w .client) client) (ne-eqb (w .client) client (λ e. h (sym e)))
 
 pub waitingOf-none : (client : ℕ) → waitingOf client [] ≡ 0
-waitingOf-none client = omega (arith, waitingOf-total client [], total-nil (of client))
+unfolding waitingOf countIf
+waitingOf-none client = refl
 
 pub waitingOf-cons : (client : ℕ) (w : Request) (ws : List Request)
     → waitingOf client (w ∷ ws) ≡ of client w + waitingOf client ws
@@ -55,13 +44,13 @@ waitingOf-cons client w ws = refl
 
 pub waitingOf-put : (client : ℕ) (r : Request) (ws : List Request)
     → waitingOf client (putInOrder r ws) ≡ of client r + waitingOf client ws
-waitingOf-put client r ws =
-    omega (arith, waitingOf-total client (putInOrder r ws), waitingOf-total client ws, total-put (of client) r ws)
+unfolding waitingOf of
+waitingOf-put client r ws = count-put (λ w. eqb (w .client) client) r ws
 
 pub waitingOf-remove : (client k : ℕ) (z : Request) (ws : List Request) → k < length ws
     → waitingOf client ws ≡ of client (getD ws k z) + waitingOf client (removeAt k ws)
-waitingOf-remove client k z ws h =
-    omega (arith, waitingOf-total client (removeAt k ws), waitingOf-total client ws, total-remove (of client) k z ws h)
+unfolding waitingOf of
+waitingOf-remove client k z ws h = count-remove (λ w. eqb (w .client) client) k z ws h
 
 -- each request is one of its client's
 pub waiting-self : (ws : List Request) → All (λ (w : Request). 1 ≤ waitingOf (w .client) ws) ws

@@ -41,6 +41,17 @@ cond-true b x y e = rw e
 pub cond-false : {A : Type 0} (b : Bool) (x y : A) → b ≡ false → cond b x y ≡ y
 cond-false b x y e = rw e
 
+-- ---- a test as a number
+pub number-yes : (b : Bool) → b ≡ true → toNumber b ≡ 1
+number-yes b e = rw e
+
+pub number-no : (b : Bool) → b ≡ false → toNumber b ≡ 0
+number-no b e = rw e
+
+pub number-most : (b : Bool) → toNumber b ≤ 1
+number-most true = omega arith
+number-most false = omega arith
+
 -- ---- what holds of each
 module _ {A : Type 0} where
   pub all-at : (p : A → Type 0) (xs : List A) (k : ℕ) (d : A) → k < length xs → All p xs → p (getD xs k d)
@@ -103,6 +114,11 @@ module _ {A : Type 0} where
   count-total test [] = refl
   count-total test (x ∷ xs) = ap (λ (n : ℕ). toNumber (test x) + n) (count-total test xs)
 
+  pub count-most : (test : A → Bool) (xs : List A) → countIf test xs ≤ length xs
+  unfolding countIf
+  count-most test [] = omega arith
+  count-most test (x ∷ xs) = omega (arith, number-most (test x), count-most test xs)
+
   -- a sum by parts
   pub total-same : (f g : A → ℕ) (xs : List A) → ((x : A) → f x ≡ g x) → total f xs ≡ total g xs
   total-same f g xs h = ap (λ (k : A → ℕ). total k xs) (fun-ext h)
@@ -146,10 +162,6 @@ module _ {A B : Type 0} where
   pub getD-mapFrom : (f : ℕ → A → B) (xs : List A) (k : ℕ) (a : A) (b : B) → k < length xs
       → getD (mapFrom f 0 xs) k b ≡ f k (getD xs k a)
   getD-mapFrom f xs k a b h = rw zero-add at (from-getD f 0 xs k a b h)
-
-pub to-number-most : (b : Bool) → toNumber b ≤ 1
-to-number-most true = omega arith
-to-number-most false = omega arith
 
 -- ---- a request put in at a place, or taken out there
 pub total-insert : (f : Request → ℕ) (k : ℕ) (r : Request) (ws : List Request) → total f (insertAt k r ws) ≡ f r + total f ws

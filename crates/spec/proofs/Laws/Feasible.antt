@@ -4,10 +4,10 @@ use mathlib.Core.Path.{_≡_, refl, ap}
 use mathlib.Core.Bool.{Bool, true, false, not, cond}
 use mathlib.Core.List.{List, [], _∷_}
 use native.Mathlib.Omega.{arith}
-use borrow.Author.Tests.{ltb-true, ltb-false, le-ltb, lt-ltb, not-true}
+use borrow.Author.Tests.{le-leb, lt-leb, ltb-true, ltb-false, le-ltb, lt-ltb, not-true}
 use lib.Dec.{leb}
 use lib.ListN.{length, getD}
-use Rattle.slots.proofs.Laws.Tests.{Test, holds, fails, test, le, gt, order}
+use Rattle.slots.proofs.Laws.Tests.{le, gt, order}
 use Rattle.slots.proofs.Laws.Sums.{All, all-each, all-imp, total, total-le}
 use Rattle.spec.specs.declared.types.Head.{Head}
 use Rattle.spec.specs.declared.types.Request.{Request}
@@ -16,8 +16,8 @@ use Rattle.spec.specs.Order.{putInOrder, removeAt}
 use Rattle.spec.specs.Chart.{room, roomTo, dueBy, isOverfull, hasNoOverfull, Search, nothing, found, searchOverfull}
 use Rattle.spec.specs.Chart.{firstOverfull}
 use Rattle.spec.proofs.Laws.Room.{room-mono}
-use Rattle.spec.proofs.Laws.Every.{every-facts, every-test, count-total, to-number-most, total-remove}
-use Rattle.spec.proofs.Laws.Order.{InOrder, Before, before-deadline, total-put}
+use Rattle.spec.proofs.Laws.Every.{number-yes, number-no, every-facts, every-test, count-total, number-most}
+use Rattle.spec.proofs.Laws.Order.{count-put, count-remove, InOrder, Before, before-deadline}
 
 -- ---- one request due by D, counted
 unfoldable pub due : ℕ → Request → ℕ
@@ -25,23 +25,15 @@ due D w = toNumber (leb (w .deadline) D)
 
 pub due-most : (D : ℕ) (w : Request) → due D w ≤ 1
 unfolding due
-due-most D w = to-number-most (leb (w .deadline) D)
+due-most D w = number-most (leb (w .deadline) D)
 
 pub due-yes : (D : ℕ) (w : Request) → w .deadline ≤ D → due D w ≡ 1
 unfolding due
-due-yes D w h = go (leb (w .deadline) D) (test (w .deadline) D)
-  where
-    go : (x : Bool) → Test (w .deadline) D x → toNumber x ≡ 1
-    go true (holds g) = refl
-    go false (fails g) = absurd (omega arith)
+due-yes D w h = number-yes (leb (w .deadline) D) (le-leb (w .deadline) D h)
 
 pub due-no : (D : ℕ) (w : Request) → D < w .deadline → due D w ≡ 0
 unfolding due
-due-no D w h = go (leb (w .deadline) D) (test (w .deadline) D)
-  where
-    go : (x : Bool) → Test (w .deadline) D x → toNumber x ≡ 0
-    go true (holds g) = absurd (omega arith)
-    go false (fails g) = refl
+due-no D w h = number-no (leb (w .deadline) D) (lt-leb (w .deadline) D h)
 
 pub due-mono : (x y : ℕ) → x ≤ y → (w : Request) → due x w ≤ due y w
 due-mono x y h w =
@@ -62,11 +54,13 @@ pub dueBy-mono : (x y : ℕ) (ws : List Request) → x ≤ y → dueBy x ws ≤ 
 dueBy-mono x y ws h = omega (arith, dueBy-total x ws, dueBy-total y ws, total-le (due x) (due y) ws (due-mono x y h))
 
 pub dueBy-put : (D : ℕ) (r : Request) (ws : List Request) → dueBy D (putInOrder r ws) ≡ due D r + dueBy D ws
-dueBy-put D r ws = omega (arith, dueBy-total D (putInOrder r ws), dueBy-total D ws, total-put (due D) r ws)
+unfolding dueBy due
+dueBy-put D r ws = count-put (λ w. leb (w .deadline) D) r ws
 
 pub dueBy-remove : (D k : ℕ) (z : Request) (ws : List Request) → k < length ws
     → dueBy D ws ≡ due D (getD ws k z) + dueBy D (removeAt k ws)
-dueBy-remove D k z ws h = omega (arith, dueBy-total D (removeAt k ws), dueBy-total D ws, total-remove (due D) k z ws h)
+unfolding dueBy due
+dueBy-remove D k z ws h = count-remove (λ w. leb (w .deadline) D) k z ws h
 
 -- none is due before the first in order
 pub dueBy-none : (D : ℕ) (ws : List Request) → All (λ (w : Request). D < w .deadline) ws → dueBy D ws ≡ 0

@@ -9,9 +9,10 @@ use lib.ListN.{length, getD, drop}
 use Rattle.slots.proofs.Laws.Tests.{Test, holds, fails, test, Same, same-yes, same-no, same}
 use Rattle.slots.proofs.Laws.Sums.{All, all-imp, total}
 use Rattle.spec.specs.declared.types.Request.{Request}
+use Rattle.spec.specs.Every.{toNumber, countIf}
 use Rattle.spec.specs.Order.{comesBefore, isInOrder, placeOf, insertAt, putInOrder, removeAt}
-use Rattle.spec.proofs.Laws.Every.{and-left, and-right, and-both, total-insert, all-insert, all-remove, length-insert}
-use Rattle.spec.proofs.Laws.Every.{getD-insert, remove-insert}
+use Rattle.spec.proofs.Laws.Every.{count-total, total-remove, and-left, and-right, and-both, total-insert, all-insert}
+use Rattle.spec.proofs.Laws.Every.{all-remove, length-insert, getD-insert, remove-insert}
 
 -- ---- one request before another
 pub data Before (a b : Request) : Type 0 where
@@ -130,6 +131,26 @@ put-cons r w ws = go (comesBefore w r)
 pub total-put : (f : Request → ℕ) (r : Request) (ws : List Request) → total f (putInOrder r ws) ≡ f r + total f ws
 unfolding putInOrder
 total-put f r ws = total-insert f (placeOf r ws) r ws
+
+pub count-put : (test : Request → Bool) (r : Request) (ws : List Request)
+    → countIf test (putInOrder r ws) ≡ toNumber (test r) + countIf test ws
+count-put test r ws =
+    omega (
+      arith,
+      count-total test (putInOrder r ws),
+      count-total test ws,
+      total-put (λ (w : Request). toNumber (test w)) r ws,
+    )
+
+pub count-remove : (test : Request → Bool) (k : ℕ) (z : Request) (ws : List Request) → k < length ws
+    → countIf test ws ≡ toNumber (test (getD ws k z)) + countIf test (removeAt k ws)
+count-remove test k z ws h =
+    omega (
+      arith,
+      count-total test ws,
+      count-total test (removeAt k ws),
+      total-remove (λ (w : Request). toNumber (test w)) k z ws h,
+    )
 
 pub all-put : (p : Request → Type 0) (r : Request) (ws : List Request) → p r → All p ws → All p (putInOrder r ws)
 unfolding putInOrder

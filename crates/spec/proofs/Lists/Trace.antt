@@ -3,7 +3,7 @@
 -- Assumes nothing.
 use Prim.Native.Nat.{ℕ, suc, _+_, _≤_, _<_}
 use mathlib.Core.Path.{_≡_, refl, sym, ap, _∙_, subst}
-use mathlib.Core.Bool.{Bool, true, false, not, cond, _||_, true≢false}
+use mathlib.Core.Bool.{or-assoc, or-comm, Bool, true, false, not, cond, _||_, true≢false}
 use mathlib.Core.List.{List, [], _∷_, _++_, map}
 use native.Mathlib.Omega.{arith}
 use borrow.Author.Tests.{eq-eqb, ne-eqb}
@@ -36,15 +36,8 @@ use Rattle.spec.proofs.Calls.Refused.{acceptedOf, outcome-decided, acce
 use Rattle.spec.proofs.Calls.Keeps.{open-keeps, submit-keeps, tick-keeps}
 use Rattle.spec.proofs.Calls.Victim.{victim-place}
 
-or-assoc : (x y z : Bool) → (x || y) || z ≡ x || (y || z)
-or-assoc true y z = refl
-or-assoc false y z = refl
-
 or-swap : (x y z : Bool) → y || (x || z) ≡ x || (y || z)
-or-swap true true z = refl
-or-swap true false z = refl
-or-swap false true z = refl
-or-swap false false z = refl
+or-swap x y z = sym (or-assoc y x z) ∙ ap (λ (b : Bool). b || z) (or-comm y x) ∙ or-assoc x y z
 
 -- ---- requests with the number v, or all others
 abbrev only : ℕ → (Request → ℕ) → Request → ℕ
@@ -434,7 +427,8 @@ traced-submit client deadline s es r T = go (submitted-cases client deadline s) 
 
 -- ---- tick
 module _ (s : State) (es : List Event) (T : Traced es s) where
-  traced-ticked : (ws : List Request) → waiting s ≡ ws → Ready (tickAccepted ws s .after) → Then Traced tick (tickAccepted ws s) es
+  traced-ticked : (ws : List Request) → waiting s ≡ ws → Ready (tickAccepted ws s .after)
+      → Then Traced tick (tickAccepted ws s) es
   unfolding tickAccepted nextState ticks countIf asked bookings victims exists total removeAt
   traced-ticked [] e r =
       record {

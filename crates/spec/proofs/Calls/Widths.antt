@@ -1,0 +1,177 @@
+-- No value of an answer is too large for its field: document 01, "Session lines", "widths in bytes in brackets". Assumes nothing.
+use Prim.Native.Nat.{ℕ, suc, _+_, _≤_, _<_}
+use mathlib.Core.Path.{_≡_}
+use mathlib.Core.Bool.{Bool, true, false, cond}
+use mathlib.Core.List.{List, [], _∷_}
+use native.Mathlib.Omega.{arith}
+use lib.Dec.{eqb}
+use lib.ListN.{length}
+use Rattle.slots.proofs.Laws.Sums.{All, all-imp}
+use Rattle.spec.specs.declared.types.Request.{Request}
+use Rattle.spec.specs.declared.types.Answer.{Answer}
+use Rattle.spec.specs.Tables.{mostAhead, zeroRequest, State, waiting}
+use Rattle.spec.specs.Chart.{startsOf, Segment, doTouch, joinLeft, segmentsOf, hasNoOverfull}
+use Rattle.spec.specs.Sound.{waitingOf}
+use Rattle.spec.specs.Refusals.{firstMatch}
+use Rattle.spec.specs.Calls.{Outcome, openAccepted, newRequest, withNew, kept, droppedAt, victimPlace, submitAccepted}
+use Rattle.spec.specs.Calls.{tickAccepted, reportAccepted, chartAccepted}
+use Rattle.spec.specs.Lists.{Call, opening, submit, tick, report, chart, outcomeOf}
+use Rattle.spec.specs.Frames.{field, valuesOf}
+use Rattle.spec.proofs.Demands.Words.{refusalsOf, Finish, FitsField}
+use Rattle.spec.proofs.Laws.Every.{all-at, count-most}
+use Rattle.spec.proofs.Laws.Order.{place-most}
+use Rattle.spec.proofs.Laws.Sound.{Ahead}
+use Rattle.spec.proofs.Laws.Accepted.{Decided, accepts, refuses, Ready, SubmitReady, submit-ready, tick-ready}
+use Rattle.spec.proofs.Laws.Accepted.{report-ready, chart-ready, waiting-length}
+use Rattle.spec.proofs.Calls.Refused.{length-starts, acceptedOf, outcome-decided, first-holds, first-listed, listed}
+use Rattle.spec.proofs.Calls.Victim.{victim-place}
+use Rattle.spec.proofs.Calls.Latest.{ready-chart, segments-all}
+use Rattle.spec.proofs.Calls.Keeps.{tidy-put}
+
+abbrev Fit : Answer → Type 0
+Fit a = All FitsField (valuesOf a)
+
+-- ---- submit
+module _ (client deadline : ℕ) (s : State) (r : SubmitReady client deadline s) where
+  kept-fits : Fit (kept client deadline s .answer)
+  unfolding kept valuesOf
+  kept-fits =
+      omega (
+        arith,
+        r .ready .sound .headed .last,
+        r .numbered,
+        place-most (newRequest client deadline s) (waiting s),
+        waiting-length s (r .ready .shape),
+        r .ready .shape .waits,
+        r .ready .shape .most-records,
+      )
+
+  dropped-fits : (k : ℕ) → k < length (withNew client deadline s) → Fit (droppedAt k client deadline s .answer)
+  unfolding droppedAt valuesOf
+  dropped-fits k h =
+      let t = tidy-put client deadline s r in
+      omega (
+        arith,
+        r .ready .sound .headed .last,
+        r .numbered,
+        r .ready .sound .headed .most-clients,
+        all-at (λ (w : Request). (1 ≤ w .number) × (w .number ≤ suc (s .head .last))) (withNew client deadline s) k zeroRequest h
+            (t .given),
+        all-at (λ (w : Request). w .client < s .head .clients) (withNew client deadline s) k zeroRequest h (t .owned),
+      )
+
+  submit-fits : Fit (submitAccepted client deadline s .answer)
+  unfolding submitAccepted
+  submit-fits =
+      go (hasNoOverfull (s .head) (withNew client deadline s)) kept-fits
+      (dropped-fits (victimPlace client deadline s) (victim-place client deadline s r .0))
+    where
+      go : (x : Bool) → Fit (kept client deadline s .answer)
+          → Fit (droppedAt (victimPlace client deadline s) client deadline s .answer)
+          → Fit (cond x (kept client deadline s) (droppedAt (victimPlace client deadline s) client deadline s) .answer)
+      go true a b = a
+      go false a b = b
+
+-- ---- tick
+tick-fits : (s : State) → Ready s → Fit (tickAccepted (waiting s) s .answer)
+unfolding tickAccepted valuesOf
+tick-fits s r = go (waiting s) (r .sound .given) (r .sound .owned)
+  where
+    go : (ws : List Request) → All (λ (w : Request). (1 ≤ w .number) × (w .number ≤ s .head .last)) ws
+        → All (λ (w : Request). w .client < s .head .clients) ws → Fit (tickAccepted ws s .answer)
+    go [] g o = omega (arith, r .sound .headed .clock)
+    go (w ∷ ws) g o =
+        omega (arith, r .sound .headed .clock, r .sound .headed .last, r .sound .headed .most-clients, g .0, o .0)
+
+-- ---- report
+report-fits : (client : ℕ) (s : State) → Ready s → client < s .head .clients → Fit (reportAccepted client s .answer)
+unfolding reportAccepted valuesOf
+report-fits client s r h =
+    omega (
+      arith,
+      r .sound .headed .most-clients,
+      r .sound .balanced client (omega (arith, r .shape .clients)),
+      waits-most,
+      waiting-length s (r .shape),
+      r .shape .waits,
+      r .shape .most-records,
+    )
+  where
+    waits-most : waitingOf client (waiting s) ≤ length (waiting s)
+    waits-most = unfold waitingOf in count-most (λ w. eqb (w .client) client) (waiting s)
+
+-- ---- every call, refused ones too
+accepted-fits : (c : Call) (s : State) → firstMatch (refusalsOf c s) ≡ 0 → Fit (acceptedOf c s .answer)
+unfolding openAccepted chartAccepted valuesOf
+accepted-fits (opening clients period) s e = tt
+accepted-fits (submit client deadline) s e = submit-fits client deadline s (submit-ready client deadline s e)
+accepted-fits tick s e = tick-fits s (tick-ready s e .ready)
+accepted-fits (report client) s e =
+    let r = report-ready client s e in report-fits client s (r .ready) (r .exists)
+accepted-fits (chart output) s e =
+    let r = chart-ready output s e .ready in omega (arith, r .shape .waits, r .shape .most-records)
+
+pub call-fits : (c : Call) (s : State) → Fit (outcomeOf c s .answer)
+unfolding valuesOf
+call-fits c s = go (outcome-decided c s)
+  where
+    go : {o : Outcome} → Decided (refusalsOf c s) s (acceptedOf c s) o → Fit (o .answer)
+    go (accepts e) = accepted-fits c s e
+    go (refuses n) = omega (arith, first-listed (first-holds (refusalsOf c s) n) (listed c s))
+
+-- ---- segments
+-- a segment that ends by the bound
+abbrev Within : ℕ → Segment → Type 0
+Within most g = (g .left < g .right) × (g .right ≤ most)
+
+segments-within : (most : ℕ) (starts : List ℕ) → All (λ (s : ℕ). suc s ≤ most) starts → All (Within most) (segmentsOf starts)
+segments-within most starts a =
+    segments-all (λ s. suc s ≤ most) (Within most) (λ s h. (omega arith, h)) (λ s g h e k. (omega arith, k .1)) starts a
+
+join-length : (s : ℕ) (gs : List Segment) → length (joinLeft s gs) ≤ suc (length gs)
+join-length s [] = omega arith
+join-length s (g ∷ gs) = go (doTouch (suc s) (g .left))
+  where
+    go : (x : Bool)
+        → length (cond x (record { left = s; right = g .right } ∷ gs) (record { left = s; right = suc s } ∷ g ∷ gs))
+        ≤ suc (suc (length gs))
+    go true = omega arith
+    go false = omega arith
+
+segments-length : (starts : List ℕ) → length (segmentsOf starts) ≤ length starts
+unfolding segmentsOf
+segments-length [] = omega arith
+segments-length (s ∷ starts) = omega (arith, join-length s (segmentsOf starts), segments-length starts)
+
+-- slots ended by deadlines within the bound
+ended-within : (most : ℕ) (ws : List Request) (slots : List ℕ) → Finish ws slots → All (λ (w : Request). w .deadline ≤ most) ws
+    → All (λ (s : ℕ). suc s ≤ most) slots
+ended-within most [] [] f a = tt
+ended-within most [] (s ∷ slots) f a = absurd f
+ended-within most (w ∷ ws) [] f a = absurd f
+ended-within most (w ∷ ws) (s ∷ slots) f a = (omega (arith, f .0, a .0), ended-within most ws slots (f .1) (a .1))
+
+module _ (s : State) (r : Ready s) where
+  latest-end : ℕ
+  latest-end = s .head .clock + mostAhead
+
+  pub segment-fits : All (λ (g : Segment). FitsField (field 8 (g .left)) × FitsField (field 8 (g .right)))
+      (segmentsOf (startsOf (waiting s)))
+  unfolding latest-end
+  segment-fits =
+      all-imp (Within latest-end) (λ (g : Segment). FitsField (field 8 (g .left)) × FitsField (field 8 (g .right)))
+      (segmentsOf (startsOf (waiting s))) (λ g h. omega (arith, r .sound .headed .clock))
+      (segments-within latest-end (startsOf (waiting s))
+      (ended-within latest-end (waiting s) (startsOf (waiting s)) (ready-chart s r .ended)
+      (all-imp (Ahead (s .head .clock)) (λ (w : Request). w .deadline ≤ latest-end) (waiting s) (λ w h. h .1) (r .sound .ahead))))
+
+  pub count-fits : FitsField (field 2 (length (segmentsOf (startsOf (waiting s)))))
+  count-fits =
+      omega (
+        arith,
+        segments-length (startsOf (waiting s)),
+        length-starts (waiting s),
+        waiting-length s (r .shape),
+        r .shape .waits,
+        r .shape .most-records,
+      )
