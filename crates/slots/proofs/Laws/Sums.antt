@@ -60,10 +60,6 @@ total f [] = 0
 total f (x ∷ xs) = f x + total f xs
 
 module _ {A : Type 0} where
-  pub total-nil : (f : A → ℕ) → total f [] ≡ 0
-  unfolding total
-  total-nil f = refl
-
   pub total-cons : (f : A → ℕ) (x : A) (xs : List A) → total f (x ∷ xs) ≡ f x + total f xs
   unfolding total
   total-cons f x xs = refl

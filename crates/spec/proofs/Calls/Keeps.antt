@@ -19,9 +19,9 @@ use Rattle.spec.specs.Order.{removeAt}
 use Rattle.spec.specs.Chart.{dueBy, hasNoOverfull}
 use Rattle.spec.specs.Victim.{isCandidate}
 use Rattle.spec.specs.Refusals.{firstMatch, refusal4}
-use Rattle.spec.specs.Calls.{change, oneMoreSubmitted, oneMoreServed, oneMoreDropped, openAccepted, newRequest, countedIn}
-use Rattle.spec.specs.Calls.{withNew, kept, requestAt, droppedAt, victimPlace, submitAccepted, isPeriodStart, restarted}
-use Rattle.spec.specs.Calls.{countsAfter, oneLater, tickAccepted, reportAccepted, chartAccepted}
+use Rattle.spec.specs.Calls.{Outcome, change, oneMoreSubmitted, oneMoreServed, oneMoreDropped, openAccepted, newRequest}
+use Rattle.spec.specs.Calls.{countedIn, withNew, kept, requestAt, droppedAt, victimPlace, submitAccepted, isPeriodStart}
+use Rattle.spec.specs.Calls.{restarted, countsAfter, oneLater, tickAccepted, reportAccepted, chartAccepted}
 use Rattle.spec.specs.Lists.{Call, opening, submit, tick, report, chart, outcomeOf, isRefused}
 use Rattle.spec.proofs.Demands.Words.{refusalsOf}
 use Rattle.spec.proofs.Laws.Clients.{of-yes, of-no, waitingOf-none, waitingOf-put, waitingOf-remove, Changed, changes}
@@ -32,10 +32,11 @@ use Rattle.spec.proofs.Laws.Every.{length-remove}
 use Rattle.spec.proofs.Laws.Order.{InOrder, Before, before-deadline, order-put, order-remove, all-put, length-put}
 use Rattle.spec.proofs.Laws.Feasible.{FeasibleAt, Feasible, feasible-facts, due-yes, dueBy-cons, dueBy-none, dueBy-self}
 use Rattle.spec.proofs.Laws.Sound.{within-test, Shaped, Ahead, Given, Owned, Balanced}
-use Rattle.spec.proofs.Laws.Accepted.{Ready, OpenReady, open-ready, SubmitReady, submit-ready, TickReady, tick-ready}
-use Rattle.spec.proofs.Laws.Accepted.{report-ready, chart-ready, waiting-length, next-waiting, next-behind, next-length}
+use Rattle.spec.proofs.Laws.Accepted.{Decided, accepts, refuses, Ready, OpenReady, open-ready, SubmitReady, submit-ready}
+use Rattle.spec.proofs.Laws.Accepted.{TickReady, tick-ready, report-ready, chart-ready, waiting-length, next-waiting}
+use Rattle.spec.proofs.Laws.Accepted.{next-behind, next-length}
 use Rattle.spec.proofs.Calls.Victim.{victim-place}
-use Rattle.spec.proofs.Calls.Refused.{acceptedOf, accepted-none, accepted-same}
+use Rattle.spec.proofs.Calls.Refused.{outcome-decided, acceptedOf, accepted-none, accepted-same}
 
 -- ---- the clauses of sound tables on requests and counts, without the one on overfull deadlines; clients have one record each
 pub record Tidy (clock last clients : ℕ) (ws : List Request) (cs : List Counts) : Type 0 where
@@ -359,6 +360,79 @@ shaped-test s f =
       eq-eqb (length (s .clientTable)) (s .head .clients) (f .clients),
       le-ltb (length (s .waitingTable)) (s .head .waiting) (f .waits),
     )
+
+-- ---- tables keep their lengths
+abbrev pub SameLengths : State → State → Type 0
+SameLengths s t = (length (t .waitingTable) ≡ length (s .waitingTable)) × (length (t .clientTable) ≡ length (s .clientTable))
+
+next-lengths : (clock last : ℕ) (ws : List Request) (cs : List Counts) (s : State) → length ws ≤ length (s .waitingTable)
+    → length cs ≡ length (s .clientTable) → SameLengths s (nextState clock last ws cs s)
+unfolding nextState
+next-lengths clock last ws cs s h e = (next-length clock last ws cs s h, e)
+
+submit-lengths : (client deadline : ℕ) (s : State) → SubmitReady client deadline s
+    → SameLengths s (submitAccepted client deadline s .after)
+unfolding submitAccepted kept droppedAt
+submit-lengths client deadline s r = go (hasNoOverfull (s .head) (withNew client deadline s))
+  where
+    k : ℕ
+    k = victimPlace client deadline s
+
+    counted : length (countedIn client s) ≡ length (s .clientTable)
+    counted = length-change oneMoreSubmitted client (s .clientTable)
+
+    go : (x : Bool) → SameLengths s (cond x (kept client deadline s) (droppedAt k client deadline s) .after)
+    go true =
+        next-lengths (s .head .clock) (suc (s .head .last)) (withNew client deadline s) (countedIn client s) s
+        (record-left client deadline s r) counted
+    go false =
+        next-lengths (s .head .clock) (suc (s .head .last)) (removeAt k (withNew client deadline s))
+        (change oneMoreDropped (requestAt k client deadline s .client) (countedIn client s)) s
+        (omega (
+          arith,
+          record-left client deadline s r,
+          length-remove k (withNew client deadline s) (victim-place client deadline s r .0),
+        ))
+        (length-change oneMoreDropped (requestAt k client deadline s .client) (countedIn client s) ∙ counted)
+
+tick-lengths : (s : State) → Ready s → SameLengths s (tickAccepted (waiting s) s .after)
+unfolding tickAccepted
+tick-lengths s r = go (waiting s) (omega (arith, waiting-length s (r .shape), r .shape .waits))
+  where
+    after : List Request → List Counts → List Counts
+    after ws cs = countsAfter (s .head .period) (suc (s .head .clock)) ws cs
+
+    counted : (ws : List Request) (cs : List Counts) → length (after ws cs) ≡ length cs
+    counted ws cs = which (isPeriodStart (s .head .period) (suc (s .head .clock)))
+      where
+        which : (x : Bool) → length (cond x (mapFrom (restarted ws) 0 cs) cs) ≡ length cs
+        which true = length-mapFrom (restarted ws) 0 cs
+        which false = refl
+
+    go : (ws : List Request) → length ws ≤ length (s .waitingTable) → SameLengths s (tickAccepted ws s .after)
+    go [] h =
+        next-lengths (suc (s .head .clock)) (s .head .last) [] (after [] (s .clientTable)) s h (counted [] (s .clientTable))
+    go (w ∷ ws) h =
+        let cs = change oneMoreServed (w .client) (s .clientTable) in
+        next-lengths (suc (s .head .clock)) (s .head .last) ws (after ws cs) s (omega arith)
+        (counted ws cs ∙ length-change oneMoreServed (w .client) (s .clientTable))
+
+accepted-lengths : (c : Call) (s : State) → firstMatch (refusalsOf c s) ≡ 0 → SameLengths s (acceptedOf c s .after)
+unfolding openAccepted reportAccepted chartAccepted
+accepted-lengths (opening clients period) s e =
+    (length-replicate (length (s .waitingTable)) zeroRequest, length-replicate (length (s .clientTable)) zeroCounts)
+accepted-lengths (submit client deadline) s e = submit-lengths client deadline s (submit-ready client deadline s e)
+accepted-lengths tick s e = tick-lengths s (tick-ready s e .ready)
+accepted-lengths (report client) s e = (refl, refl)
+accepted-lengths (chart output) s e = (refl, refl)
+
+-- of every call, refused ones too
+pub same-lengths : (c : Call) (s : State) → SameLengths s (outcomeOf c s .after)
+same-lengths c s = go (outcome-decided c s)
+  where
+    go : {o : Outcome} → Decided (refusalsOf c s) s (acceptedOf c s) o → SameLengths s (o .after)
+    go (accepts e) = accepted-lengths c s e
+    go (refuses n) = (refl, refl)
 
 -- "Every accepted call leaves sound tables.", as facts
 pub keeps : (c : Call) (s : State) → isRefused (outcomeOf c s .answer) ≡ false → Ready (outcomeOf c s .after)

@@ -27,7 +27,7 @@ use Rattle.spec.proofs.Laws.Accepted.{Decided, accepts, refuses, decide
 use Rattle.spec.proofs.Calls.Refused.{accepted-same, acceptedOf, outcome-decided, accepted-answer, accepted-none}
 use Rattle.spec.proofs.Calls.Refused.{first-holds, first-match, first-listed, listed, length-starts, Written, untouched}
 use Rattle.spec.proofs.Calls.Refused.{written, output-written}
-use Rattle.spec.proofs.Calls.Keeps.{keeps, shaped-test}
+use Rattle.spec.proofs.Calls.Keeps.{same-lengths, keeps, shaped-test}
 use Rattle.spec.proofs.Calls.Widths.{call-fits, segment-fits, count-fits}
 use Rattle.spec.proofs.Calls.Latest.{latest-start, ready-chart, starts-latest, starts-drop, segments-slots}
 use Rattle.spec.proofs.Calls.Latest.{segments-apart}
@@ -76,6 +76,12 @@ pub leaves-sound : (c : Call) (s : State) → isRefused (outcomeOf c s .answer) 
 leaves-sound c s h =
     let r = keeps c s h in
     (sound-test (outcomeOf c s .after) (r .sound), shaped-test (outcomeOf c s .after) (r .shape))
+
+-- the tables are lent: every call, accepted or refused, hands them back as long as it got them
+pub keeps-lengths : (c : Call) (s : State)
+    → (length (outcomeOf c s .after .waitingTable) ≡ length (s .waitingTable))
+    × (length (outcomeOf c s .after .clientTable) ≡ length (s .clientTable))
+keeps-lengths c s = same-lengths c s
 
 -- ---- counts
 -- To be shut out: "counts in a report that the calls since open do not give". What holds after a list of calls
