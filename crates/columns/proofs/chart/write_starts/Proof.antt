@@ -1,0 +1,85 @@
+-- `columns::chart::write_starts` meets its contract. Assumes nothing.
+use Prim.Native.Nat.{_-_, _≤_}
+use mathlib.Core.Path.{_≡_, refl, sym}
+use mathlib.Core.List.{_++_}
+use native.Mathlib.Omega.{arith}
+use lib.ListN.{length, getD, take, drop, take-append-drop, length-set}
+use borrow.Author.Needs.{needs}
+use Rattle.columns.specs.Slots.{startSlots, largest}
+use Rattle.columns.proofs.Drawing.{starts-none, starts-more, set-last}
+use Rattle.columns.proofs.chart.write_starts.Statement.{statement}
+use Rattle.columns.proofs.chart.write_starts.Tie as tie
+
+abbrev Inv-loop : tie.InvT-loop
+Inv-loop deadlines n output₀ i₀ next₀ output i next =
+    (i ≤ n)
+    × (length output ≡ length output₀)
+    × (output ≡ take i output₀ ++ (startSlots (drop i (take n deadlines)) ++ drop n output₀))
+    × (next ≡ getD (startSlots (drop i (take n deadlines))) 0 largest)
+
+abbrev μ-loop : tie.MeasureT-loop
+μ-loop deadlines n output₀ i₀ next₀ output i next = i
+
+loop-holds : tie.Need-loop-holds Inv-loop μ-loop
+loop-holds c =
+    (search needs, refl, rw starts-none (sym (take-append-drop (c .before .before .args .n) _)), rw starts-none)
+
+sub-i : tie.Need-sub-i Inv-loop μ-loop
+sub-i c = search needs
+
+mul-one-before : tie.Need-mul-one-before Inv-loop μ-loop
+mul-one-before c = search needs
+
+shared-slice-read-one-before : tie.Need-shared-slice-read-one-before Inv-loop μ-loop
+shared-slice-read-one-before c = search needs
+
+one-before-requires : tie.Need-one-before-requires Inv-loop μ-loop
+one-before-requires c κs = search needs
+
+mul-output : tie.Need-mul-output Inv-loop μ-loop
+mul-output c = search needs
+
+slice-write-output : tie.Need-slice-write-output Inv-loop μ-loop
+slice-write-output c = search needs
+
+loop-less : tie.Need-loop-less Inv-loop μ-loop
+loop-less c = search needs
+
+loop-again : tie.Need-loop-again Inv-loop μ-loop
+loop-again c =
+    let turn = c .before .before .before in
+    let inside = c .before .before .loop-test .taken in
+    let more =
+    starts-more _ _ _ _ inside (turn .loop .inv .0) (turn .before .before .before .pre .0)
+    (omega (arith, c .before .shared-slice-known2 .given (turn .loop .i - 1))) (turn .loop .inv .3)
+    in (
+      search needs,
+      simp length-set (turn .loop .inv .1),
+      rw (turn .loop .inv .2, more, c .one-before .ensures) (set-last _ _ _ _ inside (omega arith)),
+      rw more (c .one-before .ensures),
+    )
+
+same-length : tie.Need-same-length Inv-loop μ-loop
+same-length c = c .before .loop .inv .1
+
+returns : tie.Need-returns Inv-loop μ-loop
+returns c =
+    let e : c .before .loop .i ≡ 0 = omega arith in rw e at (c .before .loop .inv .2)
+
+pub write-starts-spec : {M : Type 1} → statement M
+write-starts-spec =
+    tie.close
+    (tie.spec
+    Inv-loop
+    μ-loop
+    loop-holds
+    sub-i
+    mul-one-before
+    shared-slice-read-one-before
+    one-before-requires
+    mul-output
+    slice-write-output
+    loop-less
+    loop-again
+    same-length
+    returns)

@@ -1,0 +1,72 @@
+// The chart's start slots, and its segments one after the other.
+ghost use mathlib.Core.Path.{_≡_};
+ghost use mathlib.Core.List.{_∷_, _++_};
+ghost use Prim.Native.Nat.{ℕ, _-_, _<_, _≤_, min};
+ghost use lib.ListN.{length, getD, take, drop};
+ghost use Rattle.spec.specs.Chart.{segmentsOf};
+ghost use Rattle.columns.specs.Slots.{startSlots, largest, segment};
+
+// One slot before the smaller of both; 0 stays 0.
+fn one_before(deadline: u64, next: u64) -> u64
+    ensures { λ r. ⌜ r ≡ min deadline next - 1 ⌝ }
+{
+    if deadline == 0 {
+        return 0;
+    }
+    if next == 0 {
+        return 0;
+    }
+    if next < deadline {
+        return next - 1;
+    }
+    deadline - 1
+}
+
+// The start slots of the first n deadlines; the output beyond stays as it is. At first the largest number stands for the start
+// behind, since no deadline is larger.
+pub fn write_starts(deadlines: &[u64], n: usize, output: &mut [u64])
+    requires { ⌜ (n ≤ length (now deadlines)) × (n ≤ length (now output)) ⌝ }
+    ensures { λ _. ⌜ now (output .exit) ≡ startSlots (take n (now (deadlines .entry))) ++ drop n (now (output .entry)) ⌝ }
+{
+    let mut i = n;
+    let mut next: u64 = 18446744073709551615;
+    while 0 < i {
+        i -= 1;
+        next = one_before(deadlines[i], next);
+        output[i] = next;
+    }
+}
+
+// A segment, and the index of the first start slot behind it.
+pub struct Segment {
+    pub left: u64,
+    pub right: u64,
+    pub next: usize,
+}
+
+// The segment that begins with the interval of start slot i.
+pub fn segment_at(starts: &[u64], n: usize, i: usize) -> Segment
+    requires { ⌜ (i < n) × (n ≤ length (now starts)) × ((k : ℕ) → k < n → getD (now starts) k 0 < largest) ⌝ }
+    ensures { λ r. ⌜
+        (segmentsOf (drop i (take n (now (starts .entry))))
+        ≡ segment (r .left) (r .right) ∷ segmentsOf (drop (r .next) (take n (now (starts .entry)))))
+        × (i < r .next)
+        × (r .next ≤ n)
+        ⌝ }
+{
+    let left = starts[i];
+    let mut right = left + 1;
+    let mut k = i + 1;
+    while k < n {
+        if starts[k] != right {
+            break;
+        }
+        right += 1;
+        k += 1;
+    }
+    Segment {
+        left: left,
+        right: right,
+        next: k,
+    }
+}

@@ -1,0 +1,6 @@
+// The two tables as columns of numbers: what is looked up, counted and searched in them.
+pub mod chart;
+pub mod counts;
+pub mod rows;
+pub mod search;
+pub mod victim;

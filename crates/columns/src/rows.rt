@@ -1,0 +1,55 @@
+// Records read out of columns, and the room up to a deadline.
+use spec::types::Counts;
+use spec::types::Head;
+ghost use mathlib.Core.Path.{_≡_};
+ghost use Prim.Native.Nat.{min};
+ghost use lib.ListN.{getD};
+ghost use Rattle.spec.specs.Tables.{zeroCounts};
+ghost use Rattle.spec.specs.Chart.{roomTo};
+ghost use Rattle.columns.specs.Columns.{countsOf};
+
+// How many records three columns of these lengths have.
+pub fn shortest(a: usize, b: usize, c: usize) -> usize
+    ensures { λ r. ⌜ r ≡ min a (min b c) ⌝ }
+{
+    if a <= b {
+        if a <= c {
+            return a;
+        }
+        return c;
+    }
+    if b <= c {
+        return b;
+    }
+    c
+}
+
+// How many requests the slots from the clock to the deadline can take.
+pub fn room_to(head: Head, deadline: u64) -> u64
+    ensures { λ r. ⌜ r ≡ roomTo head deadline ⌝ }
+{
+    if deadline < head.clock {
+        return 0;
+    }
+    deadline - head.clock
+}
+
+// A client's counts; zero where the client does not exist.
+pub fn counts_at(submitted: &[u32], served: &[u32], dropped: &[u32], client: u64) -> Counts
+    ensures { λ r. ⌜ r ≡ getD (countsOf (now (submitted .entry)) (now (served .entry)) (now (dropped .entry))) client zeroCounts ⌝ }
+{
+    let n = shortest(submitted.len(), served.len(), dropped.len());
+    let at = client as usize;
+    if at < n {
+        return Counts {
+            submitted: submitted[at],
+            served: served[at],
+            dropped: dropped[at],
+        };
+    }
+    Counts {
+        submitted: 0,
+        served: 0,
+        dropped: 0,
+    }
+}
