@@ -1,0 +1,195 @@
+-- Laws of the passes: the tests of one record, what one turn of a pass leaves to do, the count per client, and the shape of the
+-- tables. Assumes nothing.
+use Prim.Native.Nat.{ℕ, suc, _+_, _-_, _≤_, _<_}
+use mathlib.Core.Path.{_≡_, refl, sym, ap, _∙_}
+use mathlib.Core.Bool.{Bool, true, false, not, _&&_, _||_, and-eq-true-iff, and-true, and-false, and-assoc}
+use mathlib.Core.List.{List, [], _∷_}
+use native.Mathlib.Decide.{ℕ-discrete}
+use native.Mathlib.Numerals.{add-one}
+use native.Mathlib.Omega.{arith}
+use borrow.Author.Tests.{leb-true, leb-false, ltb-true, eqb-true, lt-leb, lt-ltb, le-ltb}
+use lib.Dec.{leb, ltb, eqb}
+use lib.ListN.{length, getD, take, drop, set, replicate, length-take, length-set, length-replicate, getD-replicate}
+use lib.ListN.{drop-of-length-le}
+use lib.Seq.{take-all, drop-cons, getD-take, getD-set-same, getD-set-other}
+use Rattle.spec.specs.declared.types.Head.{Head}
+use Rattle.spec.specs.declared.types.Request.{Request}
+use Rattle.spec.specs.declared.types.Counts.{Counts}
+use Rattle.spec.specs.Every.{isWithin, every, everyFrom}
+use Rattle.spec.specs.Tables.{mostClients, mostRecords, mostAhead, State}
+use Rattle.spec.specs.Order.{comesBefore}
+use Rattle.spec.specs.Chart.{roomTo}
+use Rattle.spec.specs.Sound.{isAhead, waitingOf, isBalanced}
+use Rattle.spec.specs.Refusals.{refusal4}
+use Rattle.spec.proofs.Laws.Every.{Value, is-true, is-false, value, count-most}
+use Rattle.spec.proofs.Laws.Clients.{of-yes, of-no, waitingOf-none, waitingOf-cons}
+use Rattle.spec.proofs.Laws.Sound.{within-test, Shaped}
+use Rattle.columns.specs.Columns.{rowsOf}
+use Rattle.columns.proofs.Laws.{length-rows, getD-rows}
+use Rattle.sound.specs.Checks.{hasShape, isNext, areNext, doesBalance, Tallied}
+
+-- ---- a deadline, by its distance to the clock
+pub ahead-past : (clock deadline : ℕ) → deadline ≤ clock → isAhead clock deadline ≡ false
+ahead-past clock deadline h = rw (lt-leb (suc clock) deadline (omega arith))
+
+pub ahead-far : (clock deadline : ℕ) → mostAhead < deadline - clock → isAhead clock deadline ≡ false
+ahead-far clock deadline h = simp (lt-leb deadline (clock + mostAhead) (omega arith), and-false)
+
+ahead-near : (clock deadline : ℕ) → clock < deadline → deadline - clock ≤ mostAhead → isAhead clock deadline ≡ true
+ahead-near clock deadline h g = within-test (suc clock) (clock + mostAhead) deadline (omega arith) (omega arith)
+
+-- ---- of a record that passes the other tests, only the order is left to ask
+pub next-order : (head : Head) (i : ℕ) (before w : Request)
+    → head .clock < w .deadline
+    → w .deadline - head .clock ≤ mostAhead
+    → 1 ≤ w .number
+    → w .number ≤ head .last
+    → w .client < head .clients
+    → i < roomTo head (w .deadline)
+    → isNext head i before w ≡ comesBefore before w
+unfolding isNext
+next-order head i before w past near some most owned room =
+    rw (
+      ahead-near (head .clock) (w .deadline) past near,
+      within-test 1 (head .last) (w .number) some most,
+      lt-ltb (w .client) (head .clients) owned,
+      lt-ltb i (roomTo head (w .deadline)) room,
+    )
+
+-- ---- a record that may stand where it does has a client that exists
+pub next-client : (head : Head) (i : ℕ) (before w : Request) → isNext head i before w ≡ true → w .client < head .clients
+unfolding isNext
+next-client head i before w e =
+    let p = simp and-eq-true-iff at e in ltb-true (w .client) (head .clients) (p .0 .0 .1)
+
+-- ---- each column reaches as far as the rows do
+pub rows-reach : {A : Type 0} (f : ℕ → ℕ → ℕ → A) (xs ys zs : List ℕ) (n : ℕ) → n ≤ length (rowsOf f xs ys zs)
+    → (n ≤ length xs) × (n ≤ length ys) × (n ≤ length zs)
+rows-reach f xs ys zs n h = let e = length-rows f xs ys zs in (omega arith, omega arith, omega arith)
+
+-- ---- the first n rows of three columns, from the index i on
+module _ {A : Type 0} (f : ℕ → ℕ → ℕ → A) (xs ys zs : List ℕ) (n i : ℕ) where
+  pub left-cons : n ≤ length xs → n ≤ length ys → n ≤ length zs → i < n
+      → drop i (take n (rowsOf f xs ys zs))
+      ≡ f (getD xs i 0) (getD ys i 0) (getD zs i 0) ∷ drop (i + 1) (take n (rowsOf f xs ys zs))
+  left-cons hx hy hz h =
+      rw (add-one i)
+      (drop-cons (take n (rowsOf f xs ys zs)) i (f 0 0 0)
+      (omega (arith, length-take n (rowsOf f xs ys zs), length-rows f xs ys zs))
+      ∙ ap (λ (a : A). a ∷ drop (suc i) (take n (rowsOf f xs ys zs)))
+      (getD-take n (rowsOf f xs ys zs) i (f 0 0 0) h
+      ∙ getD-rows f xs ys zs i (f 0 0 0) (omega arith) (omega arith) (omega arith)))
+
+  pub left-none : n ≤ i → drop i (take n (rowsOf f xs ys zs)) ≡ []
+  left-none h =
+      drop-of-length-le (take n (rowsOf f xs ys zs)) {i = i} (omega (arith, length-take n (rowsOf f xs ys zs)))
+
+-- ---- a pass that does not end early: its verdict b so far and the verdict on what is left make up the whole. A turn takes
+-- the next test into b, and at the end nothing is left
+verdict-turn : (b t rest left whole : Bool) → left ≡ t && rest → b && left ≡ whole → (b && t) && rest ≡ whole
+verdict-turn b t rest left whole e h = and-assoc b t rest ∙ ap (λ (x : Bool). b && x) (sym e) ∙ h
+
+pub verdict-end : (b left whole : Bool) → left ≡ true → b && left ≡ whole → b ≡ whole
+verdict-end b left whole e h = sym (and-true b) ∙ ap (λ (x : Bool). b && x) (sym e) ∙ h
+
+module _ {A : Type 0} (b : Bool) (x : A) (xs l : List A) (whole : Bool) (e : l ≡ x ∷ xs) where
+  pub every-turn : (test : A → Bool) → b && every test l ≡ whole → (b && test x) && every test xs ≡ whole
+  unfolding every
+  every-turn test h = verdict-turn b (test x) (every test xs) (every test l) whole (ap (every test) e) h
+
+  pub from-turn : (test : ℕ → A → Bool) (i : ℕ) → b && everyFrom test i l ≡ whole
+      → (b && test i x) && everyFrom test (i + 1) xs ≡ whole
+  unfolding everyFrom
+  from-turn test i h =
+      rw (add-one i)
+      (verdict-turn b (test i x) (everyFrom test (suc i) xs) (everyFrom test i l) whole (ap (everyFrom test i) e) h)
+
+-- ---- the pass over the records: the next record, then the rest
+pub next-cons : (head : Head) (i : ℕ) (before w : Request) (ws l : List Request) → l ≡ w ∷ ws
+    → areNext head i before l ≡ isNext head i before w && areNext head (i + 1) w ws
+unfolding areNext
+next-cons head i before w ws l e = rw (add-one i) (ap (areNext head i before) e)
+
+-- ---- a count per client of the requests passed: with those left it makes up all
+pub record Tallying (ws left : List Request) (tally : List ℕ) : Type 0 where
+  pub size : length tally ≡ mostClients
+  pub at : (c : ℕ) → c < mostClients → getD tally c 0 + waitingOf c left ≡ waitingOf c ws
+
+pub tally-none : (ws : List Request) → Tallying ws ws (replicate mostClients 0)
+tally-none ws =
+    record {
+      size = length-replicate {A = ℕ} mostClients 0;
+      at = λ c h. omega (arith, getD-replicate {A = ℕ} mostClients c 0 0 h);
+    }
+
+pub tally-all : (ws : List Request) (tally : List ℕ) → Tallying ws [] tally → Tallied ws tally
+tally-all ws tally t = record { size = t .size; at = λ c h. omega (arith, t .at c h, waitingOf-none c) }
+
+module _ (ws left : List Request) (w : Request) (tally : List ℕ)
+    (t : Tallying ws (w ∷ left) tally) (h : w .client < mostClients) where
+  -- a client has no more requests than there are
+  pub tally-most : getD tally (w .client) 0 ≤ length ws
+  unfolding waitingOf
+  tally-most = omega (arith, t .at (w .client) h, count-most (λ v. eqb (v .client) (w .client)) ws)
+
+  pub tally-turn : Tallying ws left (set tally (w .client) (getD tally (w .client) 0 + 1))
+  tally-turn = record { size = simp length-set (t .size); at = λ c l. go c l (ℕ-discrete c (w .client)) }
+    where
+      go : (c : ℕ) → c < mostClients → Dec (c ≡ w .client)
+          → getD (set tally (w .client) (getD tally (w .client) 0 + 1)) c 0 + waitingOf c left ≡ waitingOf c ws
+      go c l (yes e) =
+          rw (e, getD-set-same tally (w .client) (getD tally (w .client) 0 + 1) 0 (omega (arith, t .size)))
+          (omega (arith, t .at (w .client) h, waitingOf-cons (w .client) w left, of-yes (w .client) w refl))
+      go c l (no e) =
+          rw (getD-set-other tally (w .client) c (getD tally (w .client) 0 + 1) 0 e)
+          (omega (arith, t .at c l, waitingOf-cons c w left, of-no c w e))
+
+-- ---- the pass over the clients, with the count of a pass over the records
+from-same : {A : Type 0} (f g : ℕ → A → Bool) (i : ℕ) (xs : List A)
+    → ((c : ℕ) (x : A) → c < i + length xs → f c x ≡ g c x) → everyFrom f i xs ≡ everyFrom g i xs
+unfolding everyFrom
+from-same f g i [] h = refl
+from-same f g i (x ∷ xs) h =
+    λ j. h i x (omega arith) j && from-same f g (suc i) xs (λ c y l. h c y (omega arith)) j
+
+pub balanced-tally : (ws : List Request) (tally : List ℕ) (n : ℕ) (cs : List Counts)
+    → Tallied ws tally → length cs ≡ n → n ≤ mostClients
+    → everyFrom (λ c k. doesBalance k (getD tally c 0)) 0 (take n cs) ≡ everyFrom (isBalanced ws) 0 cs
+unfolding doesBalance isBalanced
+balanced-tally ws tally n cs t e h =
+    rw (take-all n cs (omega arith))
+    (from-same (λ c k. doesBalance k (getD tally c 0)) (isBalanced ws) 0 cs (λ c k l. rw (t .at c (omega arith))))
+
+-- ---- the shape of the tables
+abbrev pub shapeOf : State → Bool
+shapeOf s = hasShape (s .head) (length (s .waitingTable)) (length (s .clientTable))
+
+pub shape-facts : (s : State) → shapeOf s ≡ true → Shaped s
+unfolding hasShape
+shape-facts s e =
+    let p = simp and-eq-true-iff at e in
+    record {
+      some-records = leb-true 1 (length (s .waitingTable)) (p .0 .0 .0);
+      most-records = leb-true (length (s .waitingTable)) mostRecords (p .0 .0 .1);
+      clients = eqb-true (length (s .clientTable)) (s .head .clients) (p .0 .1);
+      waits = leb-true (s .head .waiting) (length (s .waitingTable)) (p .1);
+    }
+
+ltb-not : (a b : ℕ) → ltb a b ≡ not (leb b a)
+ltb-not a b = go (value (leb b a))
+  where
+    go : Value (leb b a) → ltb a b ≡ not (leb b a)
+    go (is-true e) = rw (e, le-ltb a b (leb-true b a e))
+    go (is-false e) = rw (e, lt-ltb a b (leb-false b a e))
+
+-- refusal 4 is for tables that have another
+pub shape-refused : (s : State) → refusal4 s .holds ≡ not (shapeOf s)
+unfolding hasShape
+shape-refused s =
+    go (isWithin 1 mostRecords (length (s .waitingTable))) (eqb (length (s .clientTable)) (s .head .clients))
+    (leb (s .head .waiting) (length (s .waitingTable))) (ltb-not (length (s .waitingTable)) (s .head .waiting))
+  where
+    go : (a b c : Bool) {l : Bool} → l ≡ not c → (not a || not b || l) ≡ not (a && b && c)
+    go true true c e = e
+    go true false c e = refl
+    go false b c e = refl

@@ -1,0 +1,193 @@
+-- One pass finds what soundness asks of the waiting records: an overfull deadline shows at the last record that has it.
+-- Assumes nothing.
+use Prim.Native.Nat.{ℕ, suc, _+_, _≤_, _<_}
+use mathlib.Core.Path.{_≡_, refl, sym, ap, _∙_}
+use mathlib.Core.Bool.{Bool, true, false, not, _&&_, and-eq-true-iff}
+use mathlib.Core.List.{List, [], _∷_}
+use native.Mathlib.Omega.{arith}
+use borrow.Author.Tests.{ltb-true, lt-ltb}
+use lib.Dec.{leb}
+use Rattle.slots.proofs.Laws.Sums.{All, all-imp, all-each}
+use Rattle.spec.specs.declared.types.Head.{Head}
+use Rattle.spec.specs.declared.types.Request.{Request}
+use Rattle.spec.specs.Every.{every, everyFrom}
+use Rattle.spec.specs.Tables.{mostAhead, zeroRequest, State, waiting, behind}
+use Rattle.spec.specs.Order.{comesBefore, isInOrder}
+use Rattle.spec.specs.Chart.{roomTo, dueBy, isOverfull, hasNoOverfull}
+use Rattle.spec.specs.Sound.{isHeadWithin, isAhead, isGiven, isClient, isZeroRequest, isBalanced, isSound}
+use Rattle.spec.proofs.Laws.Every.{and-both, every-test, all-two}
+use Rattle.spec.proofs.Laws.Room.{room-mono}
+use Rattle.spec.proofs.Laws.Order.{Before, InOrder, before-deadline, order-facts, before-test, earlier}
+use Rattle.spec.proofs.Laws.Feasible.{due-yes, dueBy-cons, Last, none-due, last-due, last, feasible-facts, roomy-test}
+use Rattle.spec.proofs.Laws.Sound.{within-facts}
+use Rattle.sound.specs.Checks.{isNext, areNext}
+
+-- two tests that pass together are the same
+pub same-test : (a b : Bool) → (a ≡ true → b ≡ true) → (b ≡ true → a ≡ true) → a ≡ b
+same-test true b f g = sym (f refl)
+same-test false true f g = g refl
+same-test false false f g = refl
+
+every-cons : (p : Request → Bool) (w : Request) (ws : List Request) → every p (w ∷ ws) ≡ true → (p w ≡ true) × (every p ws ≡ true)
+unfolding every
+every-cons p w ws e = and-eq-true-iff (p w) (every p ws) .0 e
+
+-- ---- overfull deadlines, by place
+-- each request, the first at the place i, has room for those before it and itself
+abbrev pub Roomy : Head → ℕ → List Request → Type 0
+Roomy head i [] = Unit {0}
+Roomy head i (w ∷ ws) = (i < roomTo head (w .deadline)) × Roomy head (suc i) ws
+
+-- each deadline has room for i requests and those of these that are due by it
+abbrev Fits : Head → ℕ → List Request → Request → Type 0
+Fits head i ws v = i + dueBy (v .deadline) ws ≤ roomTo head (v .deadline)
+
+-- with one more in front, which is due by all deadlines behind it
+fits-later : (head : Head) (i : ℕ) (w : Request) (ws : List Request) (v : Request) → w .deadline ≤ v .deadline
+    → Fits head i (w ∷ ws) v → Fits head (suc i) ws v
+fits-later head i w ws v h f = omega (arith, dueBy-cons (v .deadline) w ws, due-yes (v .deadline) w h)
+
+fits-front : (head : Head) (i : ℕ) (w : Request) (ws : List Request) (v : Request) → w .deadline ≤ v .deadline
+    → Fits head (suc i) ws v → Fits head i (w ∷ ws) v
+fits-front head i w ws v h f = omega (arith, dueBy-cons (v .deadline) w ws, due-yes (v .deadline) w h)
+
+fits-roomy : (head : Head) (i : ℕ) (ws : List Request) → InOrder ws → All (Fits head i ws) ws → Roomy head i ws
+fits-roomy head i [] o f = tt
+fits-roomy head i (w ∷ ws) o f = (
+  omega (arith, f .0, dueBy-cons (w .deadline) w ws, due-yes (w .deadline) w (omega arith)),
+  fits-roomy head (suc i) ws (o .1)
+      (all-two (Before w) (Fits head i (w ∷ ws)) (Fits head (suc i) ws) ws
+      (λ v b g. fits-later head i w ws v (before-deadline w v b) g) (o .0) (f .1)),
+)
+
+-- of those with the first one's deadline the last one counts them all
+first-fits : (head : Head) (i : ℕ) (w : Request) (ws : List Request) → i < roomTo head (w .deadline)
+    → Last (Fits head (suc i) ws) (w .deadline) ws → Fits head i (w ∷ ws) w
+first-fits head i w ws r (none-due e) =
+    omega (arith, dueBy-cons (w .deadline) w ws, due-yes (w .deadline) w (omega arith))
+first-fits head i w ws r (last-due v f l h) =
+    omega (
+      arith,
+      dueBy-cons (w .deadline) w ws,
+      due-yes (w .deadline) w (omega arith),
+      room-mono head (head .clock) (v .deadline) (w .deadline) l,
+    )
+
+roomy-fits : (head : Head) (i : ℕ) (ws : List Request) → InOrder ws → Roomy head i ws → All (Fits head i ws) ws
+roomy-fits head i [] o r = tt
+roomy-fits head i (w ∷ ws) o r =
+    let later = roomy-fits head (suc i) ws (o .1) (r .1) in (
+      first-fits head i w ws (r .0) (last (Fits head (suc i) ws) (w .deadline) ws later),
+      all-two (Before w) (Fits head (suc i) ws) (Fits head i (w ∷ ws)) ws
+          (λ v b g. fits-front head i w ws v (before-deadline w v b) g) (o .0) later,
+    )
+
+roomy-feasible : (head : Head) (ws : List Request) → InOrder ws → Roomy head 0 ws → hasNoOverfull head ws ≡ true
+unfolding hasNoOverfull
+roomy-feasible head ws o r =
+    every-test (λ w. not (isOverfull head ws (w .deadline))) ws
+    (all-imp (Fits head 0 ws) (λ (w : Request). not (isOverfull head ws (w .deadline)) ≡ true) ws
+    (λ w f. ap not (roomy-test head ws (w .deadline) (omega arith))) (roomy-fits head 0 ws o r))
+
+pub feasible-roomy : (head : Head) (ws : List Request) → InOrder ws → hasNoOverfull head ws ≡ true → Roomy head 0 ws
+feasible-roomy head ws o e =
+    fits-roomy head 0 ws o (all-each (Fits head 0 ws) ws (λ w. omega (arith, feasible-facts head ws e (w .deadline))))
+
+-- ---- the pass
+-- what it finds of the records from the place i on, behind the one before them
+record Found (head : Head) (i : ℕ) (before : Request) (ws : List Request) : Type 0 where
+  pub ordered : isInOrder (before ∷ ws) ≡ true
+  pub ahead : every (λ w. isAhead (head .clock) (w .deadline)) ws ≡ true
+  pub given : every (λ w. isGiven (head .last) (w .number)) ws ≡ true
+  pub owned : every (λ w. isClient (head .clients) (w .client)) ws ≡ true
+  pub roomy : Roomy head i ws
+
+next-facts : (head : Head) (i : ℕ) (before : Request) (ws : List Request) → areNext head i before ws ≡ true
+    → Found head i before ws
+unfolding areNext isNext every isInOrder
+next-facts head i before [] e = record { ordered = refl; ahead = refl; given = refl; owned = refl; roomy = tt }
+next-facts head i before (w ∷ ws) e =
+    let p = and-eq-true-iff (isNext head i before w) (areNext head (suc i) w ws) .0 e in
+    let q = simp and-eq-true-iff at (p .0) in
+    let f = next-facts head (suc i) w ws (p .1) in
+    record {
+      ordered = and-both (comesBefore before w) (isInOrder (w ∷ ws)) (q .1) (f .ordered);
+      ahead =
+          and-both (isAhead (head .clock) (w .deadline)) (every (λ v. isAhead (head .clock) (v .deadline)) ws)
+          (and-both (leb (suc (head .clock)) (w .deadline)) (leb (w .deadline) (head .clock + mostAhead)) (q .0 .0 .0 .0 .0)
+          (q .0 .0 .0 .0 .1)) (f .ahead);
+      given =
+          and-both (isGiven (head .last) (w .number)) (every (λ v. isGiven (head .last) (v .number)) ws)
+          (and-both (leb 1 (w .number)) (leb (w .number) (head .last)) (q .0 .0 .0 .1 .0) (q .0 .0 .0 .1 .1)) (f .given);
+      owned =
+          and-both (isClient (head .clients) (w .client)) (every (λ v. isClient (head .clients) (v .client)) ws)
+          (q .0 .0 .1) (f .owned);
+      roomy = (ltb-true i (roomTo head (w .deadline)) (q .0 .1), f .roomy);
+    }
+
+next-test : (head : Head) (i : ℕ) (before : Request) (ws : List Request) → Found head i before ws
+    → areNext head i before ws ≡ true
+unfolding areNext isNext every isInOrder
+next-test head i before [] f = refl
+next-test head i before (w ∷ ws) f =
+    let o = and-eq-true-iff (comesBefore before w) (isInOrder (w ∷ ws)) .0 (f .ordered) in
+    let a = every-cons (λ (v : Request). isAhead (head .clock) (v .deadline)) w ws (f .ahead) in
+    let g = every-cons (λ (v : Request). isGiven (head .last) (v .number)) w ws (f .given) in
+    let c = every-cons (λ (v : Request). isClient (head .clients) (v .client)) w ws (f .owned) in
+    let r = next-test head (suc i) w ws
+    (record { ordered = o .1; ahead = a .1; given = g .1; owned = c .1; roomy = f .roomy .1 }) in
+    rw (a .0, g .0, c .0, lt-ltb i (roomTo head (w .deadline)) (f .roomy .0), o .0) r
+
+-- a record that is zero stands before all that have their deadlines ahead
+first-order : (clock : ℕ) (ws : List Request) → every (λ w. isAhead clock (w .deadline)) ws ≡ true
+    → isInOrder (zeroRequest ∷ ws) ≡ isInOrder ws
+unfolding every isInOrder
+first-order clock [] e = refl
+first-order clock (w ∷ ws) e =
+    let a = every-cons (λ (v : Request). isAhead clock (v .deadline)) w ws e in
+    let h = within-facts (suc clock) (clock + mostAhead) (w .deadline) (a .0) in
+    rw (before-test zeroRequest w (earlier (omega arith)))
+
+-- the pass, and the clauses of soundness that it stands for
+passed : (head : Head) (ws : List Request) → Found head 0 zeroRequest ws → (isInOrder ws ≡ true) × (hasNoOverfull head ws ≡ true)
+passed head ws f =
+    let o = sym (first-order (head .clock) ws (f .ahead)) ∙ f .ordered in
+    (o, roomy-feasible head ws (order-facts ws o) (f .roomy))
+
+passes : (head : Head) (ws : List Request) → isInOrder ws ≡ true → every (λ w. isAhead (head .clock) (w .deadline)) ws ≡ true
+    → every (λ w. isGiven (head .last) (w .number)) ws ≡ true → every (λ w. isClient (head .clients) (w .client)) ws ≡ true
+    → hasNoOverfull head ws ≡ true → Found head 0 zeroRequest ws
+passes head ws o a g c f =
+    record {
+      ordered = first-order (head .clock) ws a ∙ o;
+      ahead = a;
+      given = g;
+      owned = c;
+      roomy = feasible-roomy head ws (order-facts ws o) f;
+    }
+
+-- soundness as the pass over the records, the records behind them and the pass over the clients find it
+abbrev pub isFoundSound : State → Bool
+isFoundSound s =
+    isHeadWithin (s .head)
+    && areNext (s .head) 0 zeroRequest (waiting s)
+    && every isZeroRequest (behind s)
+    && everyFrom (isBalanced (waiting s)) 0 (s .clientTable)
+
+pub sound-pass : (s : State) → isSound s ≡ isFoundSound s
+unfolding isSound
+sound-pass s = same-test (isSound s) (isFoundSound s) to from
+  where
+    to : isSound s ≡ true → isFoundSound s ≡ true
+    to e =
+        let p = simp and-eq-true-iff at e in
+        let q = p .0 .0 .0 in
+        let f = passes (s .head) (waiting s) (q .0 .0 .0 .1) (q .0 .0 .1) (q .0 .1) (q .1) (p .0 .0 .1) in
+        rw (q .0 .0 .0 .0, next-test (s .head) 0 zeroRequest (waiting s) f, p .0 .1, p .1)
+
+    from : isFoundSound s ≡ true → isSound s ≡ true
+    from e =
+        let p = simp and-eq-true-iff at e in
+        let f = next-facts (s .head) 0 zeroRequest (waiting s) (p .0 .0 .1) in
+        let g = passed (s .head) (waiting s) f in
+        rw (p .0 .0 .0, g .0, f .ahead, f .given, f .owned, g .1, p .0 .1, p .1)

@@ -1,0 +1,108 @@
+-- `sound::tables::are_balanced` meets its contract. Assumes nothing.
+use Prim.Native.Nat.{ℕ, _-_}
+use mathlib.Core.Path.{_≡_, refl, ap}
+use mathlib.Core.Bool.{Bool, _&&_}
+use mathlib.Core.List.{List}
+use native.Mathlib.Omega.{arith}
+use borrow.Author.Needs.{needs}
+use denote.Ref.{now}
+use lib.ListN.{getD, take, drop}
+use Rattle.spec.specs.declared.types.Counts.{Counts}
+use Rattle.spec.specs.Every.{everyFrom}
+use Rattle.columns.specs.Columns.{countOf, countsOf}
+use Rattle.sound.specs.Checks.{doesBalance}
+use Rattle.sound.proofs.Laws.{left-cons, left-none, verdict-end, from-turn}
+use Rattle.sound.proofs.tables.are_balanced.Statement.{statement}
+use Rattle.sound.proofs.tables.are_balanced.Tie as tie
+
+abbrev table : List ℕ → List ℕ → List ℕ → ℕ → List Counts
+table submitted served dropped n = take n (countsOf submitted served dropped)
+
+abbrev test : List ℕ → ℕ → Counts → Bool
+test tally c k = doesBalance k (getD tally c 0)
+
+-- the verdict so far, with that on the clients left, is that on all
+abbrev Inv-loop : tie.InvT-loop
+Inv-loop tally submitted served dropped n balanced₀ i₀ balanced i =
+    (balanced && everyFrom (test tally) i (drop i (table submitted served dropped n)))
+    ≡ everyFrom (test tally) 0 (table submitted served dropped n)
+
+abbrev μ-loop : tie.MeasureT-loop
+μ-loop tally submitted served dropped n balanced₀ i₀ balanced i = n - i
+
+loop-holds : tie.Need-loop-holds Inv-loop μ-loop
+loop-holds c = refl
+
+mul-t10 : tie.Need-mul-t10 Inv-loop μ-loop
+mul-t10 c = search needs
+
+shared-slice-read-t12 : tie.Need-shared-slice-read-t12 Inv-loop μ-loop
+shared-slice-read-t12 c = search needs
+
+mul-t13 : tie.Need-mul-t13 Inv-loop μ-loop
+mul-t13 c = search needs
+
+shared-slice-read-t15 : tie.Need-shared-slice-read-t15 Inv-loop μ-loop
+shared-slice-read-t15 c = search needs
+
+mul-does-balance : tie.Need-mul-does-balance Inv-loop μ-loop
+mul-does-balance c = search needs
+
+shared-slice-read-does-balance : tie.Need-shared-slice-read-does-balance Inv-loop μ-loop
+shared-slice-read-does-balance c = search needs
+
+mul-does-balance-2 : tie.Need-mul-does-balance-2 Inv-loop μ-loop
+mul-does-balance-2 c = search needs
+
+element-copy-out-does-balance : tie.Need-element-copy-out-does-balance Inv-loop μ-loop
+element-copy-out-does-balance c = search needs
+
+does-balance-requires : tie.Need-does-balance-requires Inv-loop μ-loop
+does-balance-requires c κs = search needs
+
+add-i : tie.Need-add-i Inv-loop μ-loop
+add-i c = search needs
+
+loop-less : tie.Need-loop-less Inv-loop μ-loop
+loop-less c = search needs
+
+loop-again : tie.Need-loop-again Inv-loop μ-loop
+loop-again c =
+    let a = c .before .before .before .before .before .before .before .before .before .before .args in
+    let l = c .before .before .before .before .before .before .loop in
+    rw (c .does-balance .ensures)
+    (from-turn (l .balanced) _ _ _ _
+    (left-cons countOf (now (a .submitted)) (now (a .served)) (now (a .dropped)) (a .n) (l .i)
+    (omega arith) (omega arith) (omega arith) (omega arith))
+    (test (now (a .tally))) (l .i) (l .inv))
+
+returns : tie.Need-returns Inv-loop μ-loop
+unfolding everyFrom
+returns c =
+    let a = c .before .before .before .before .before .args in
+    verdict-end _ _ _
+    (ap (everyFrom (test (now (a .tally))) (c .before .loop .i))
+    (left-none countOf (now (a .submitted)) (now (a .served)) (now (a .dropped)) (a .n) (c .before .loop .i)
+    (c .loop-test .left)))
+    (c .before .loop .inv)
+
+pub are-balanced-spec : {M : Type 1} → statement M
+are-balanced-spec =
+    tie.close
+    (tie.spec
+    Inv-loop
+    μ-loop
+    loop-holds
+    mul-t10
+    shared-slice-read-t12
+    mul-t13
+    shared-slice-read-t15
+    mul-does-balance
+    shared-slice-read-does-balance
+    mul-does-balance-2
+    element-copy-out-does-balance
+    does-balance-requires
+    add-i
+    loop-less
+    loop-again
+    returns)

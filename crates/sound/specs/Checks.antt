@@ -1,0 +1,47 @@
+-- The tests of one pass over the waiting records, and of one over the clients. Assumes nothing.
+use Prim.Native.Nat.{ℕ, suc, _+_, _<_}
+use mathlib.Core.Path.{_≡_}
+use mathlib.Core.Bool.{Bool, true, _&&_}
+use mathlib.Core.List.{List, [], _∷_}
+use lib.Dec.{leb, ltb, eqb}
+use lib.ListN.{length, getD}
+use Rattle.spec.specs.declared.types.Head.{Head}
+use Rattle.spec.specs.declared.types.Request.{Request}
+use Rattle.spec.specs.declared.types.Counts.{Counts}
+use Rattle.spec.specs.Every.{isWithin}
+use Rattle.spec.specs.Tables.{mostClients, mostRecords, mostCounted, zeroRequest}
+use Rattle.spec.specs.Order.{comesBefore}
+use Rattle.spec.specs.Chart.{roomTo}
+use Rattle.spec.specs.Sound.{isAhead, isGiven, isClient, waitingOf}
+
+-- what refusal 4 does not ask for: tables of these lengths fit the head
+unfoldable pub hasShape : Head → ℕ → ℕ → Bool
+hasShape head records clients = isWithin 1 mostRecords records && eqb clients (head .clients) && leb (head .waiting) records
+
+-- the clauses of soundness that speak of waiting records, of one record: its index, the record before it, the record
+unfoldable pub isNext : Head → ℕ → Request → Request → Bool
+isNext head i before w =
+    isAhead (head .clock) (w .deadline)
+    && isGiven (head .last) (w .number)
+    && isClient (head .clients) (w .client)
+    && ltb i (roomTo head (w .deadline))
+    && comesBefore before w
+
+-- of all of them, the first with the index i
+unfoldable pub areNext : Head → ℕ → Request → List Request → Bool
+areNext head i before [] = true
+areNext head i before (w ∷ ws) = isNext head i before w && areNext head (suc i) w ws
+
+-- a client's counts balance with so many waiting
+unfoldable pub doesBalance : Counts → ℕ → Bool
+doesBalance k waits = eqb (k .submitted) (k .served + k .dropped + waits) && leb (k .submitted) mostCounted
+
+-- a count per client: how many of these requests each client has
+pub record Tallied (ws : List Request) (tally : List ℕ) : Type 0 where
+  pub size : length tally ≡ mostClients
+  pub at : (c : ℕ) → c < mostClients → getD tally c 0 ≡ waitingOf c ws
+
+-- what the pass over the records finds: whether they are as they should be, and then the count per client
+pub record Passed (head : Head) (ws : List Request) (r : Bool) (tally : List ℕ) : Type 0 where
+  pub verdict : r ≡ areNext head 0 zeroRequest ws
+  pub tallied : r ≡ true → Tallied ws tally
