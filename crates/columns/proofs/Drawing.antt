@@ -7,8 +7,8 @@ use native.Mathlib.Decide.{ℕ-discrete}
 use native.Mathlib.Numerals.{add-one}
 use native.Mathlib.Omega.{arith}
 use lib.Dec.{eqb}
-use lib.ListN.{length, getD, take, drop, set, replicate, length-take, length-set, drop-of-length-le}
-use lib.ListN.{length-replicate, getD-replicate, replicate-append-replicate}
+use lib.ListN.{length, getD, take, drop, set, replicate, length-take, length-set, drop-of-length-le, length-replicate}
+use lib.ListN.{getD-replicate, replicate-append-replicate}
 use lib.Seq.{drop-cons, getD-take, take-suc, append-snoc, set-at, length-take-le, ext-getD, getD-set-same, getD-set-other}
 use borrow.Author.Tests.{eq-eqb, ne-eqb}
 use Rattle.spec.specs.declared.types.Request.{Request}

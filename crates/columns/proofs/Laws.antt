@@ -3,7 +3,7 @@ use Prim.Native.Nat.{ℕ, zero, suc, _≤_, _<_, min}
 use mathlib.Core.Path.{_≡_, refl, ap}
 use mathlib.Core.List.{List, [], _∷_, map}
 use native.Mathlib.Omega.{arith}
-use lib.ListN.{length, getD, List·getD-eq-default}
+use lib.ListN.{length, getD, take, List·getD-eq-default}
 use Rattle.spec.specs.declared.types.Request.{Request}
 use Rattle.spec.specs.Order.{insertAt}
 use Rattle.columns.specs.Columns.{rowsOf}
@@ -45,3 +45,32 @@ pub column-insert : (f : Request → ℕ) (k : ℕ) (r : Request) (ws : List Req
 column-insert f zero r ws = refl
 column-insert f (suc k) r [] = refl
 column-insert f (suc k) r (w ∷ ws) = ap (λ (l : List ℕ). f w ∷ l) (column-insert f k r ws)
+
+-- one of three columns
+pub data Which : Type 0 where
+  first : Which
+  second : Which
+  third : Which
+
+abbrev pub pick : {A : Type 0} → Which → A → A → A → A
+pick first x y z = x
+pick second x y z = y
+pick third x y z = z
+
+pick-cons : (c : Which) (x y z : ℕ) (xs ys zs : List ℕ)
+    → pick c (x ∷ xs) (y ∷ ys) (z ∷ zs) ≡ pick c x y z ∷ pick c xs ys zs
+pick-cons first x y z xs ys zs = refl
+pick-cons second x y z xs ys zs = refl
+pick-cons third x y z xs ys zs = refl
+
+-- a field of the first n records is the column's first n entries
+pub column-rows : {A : Type 0} (c : Which) (f : ℕ → ℕ → ℕ → A) (g : A → ℕ) → ((x y z : ℕ) → g (f x y z) ≡ pick c x y z)
+    → (n : ℕ) (xs ys zs : List ℕ) → n ≤ length xs → n ≤ length ys → n ≤ length zs
+    → map g (take n (rowsOf f xs ys zs)) ≡ take n (pick c xs ys zs)
+unfolding rowsOf
+column-rows c f g e zero xs ys zs h i j = refl
+column-rows c f g e (suc n) [] ys zs h i j = absurd (omega arith)
+column-rows c f g e (suc n) (x ∷ xs) [] zs h i j = absurd (omega arith)
+column-rows c f g e (suc n) (x ∷ xs) (y ∷ ys) [] h i j = absurd (omega arith)
+column-rows c f g e (suc n) (x ∷ xs) (y ∷ ys) (z ∷ zs) h i j =
+    rw (pick-cons c x y z xs ys zs, e x y z, column-rows c f g e n xs ys zs (omega arith) (omega arith) (omega arith))

@@ -1,5 +1,5 @@
 -- `columns::rows::counts_at` meets its contract. Assumes nothing.
-use mathlib.Core.Path.{_≡_, sym}
+use mathlib.Core.Path.{sym}
 use native.Mathlib.Omega.{arith}
 use Rattle.spec.specs.Tables.{zeroCounts}
 use Rattle.columns.specs.Columns.{countOf}

@@ -12,8 +12,8 @@ use Rattle.spec.specs.declared.types.Request.{Request}
 use Rattle.spec.specs.Tables.{mostClients, mostRecords, zeroRequest}
 use Rattle.columns.specs.Columns.{requestOf, requestsOf}
 use Rattle.sound.specs.Checks.{isNext, areNext}
-use Rattle.sound.proofs.Laws.{left-cons, left-none, next-cons, next-client, Tallying, tally-none, tally-all}
-use Rattle.sound.proofs.Laws.{tally-most, tally-turn}
+use Rattle.sound.proofs.Laws.{left-cons, left-none, next-cons, next-client, Tallying, tally-none, tally-all, tally-most}
+use Rattle.sound.proofs.Laws.{tally-turn}
 use Rattle.sound.proofs.tables.are_next.Statement.{statement}
 use Rattle.sound.proofs.tables.are_next.Tie as tie
 

@@ -1,0 +1,5 @@
+pub mod Carried
+pub mod Chosen
+pub mod Matching
+pub mod Shown
+pub mod States

@@ -1,0 +1,218 @@
+// What each call has to do, decided on the columns of the tables.
+use crate::refusals;
+use crate::types::Decision;
+use columns::counts;
+use columns::rows;
+use columns::search;
+use columns::search::Overfull;
+use columns::victim;
+use spec::types::Head;
+ghost use mathlib.Core.Path.{_≡_};
+ghost use mathlib.Core.List.{List};
+ghost use Prim.Native.Nat.{ℕ, _≤_, _<_};
+ghost use lib.ListN.{length, getD};
+ghost use Rattle.spec.specs.Tables.{mostRecords, State};
+ghost use Rattle.spec.specs.Refusals.{firstMatch, submitRefusals};
+ghost use Rattle.columns.specs.Columns.{stateOf};
+ghost use Rattle.decide.specs.Decisions.{Shows, submitChoice, openDecision, submitDecision, tickDecision, reportDecision};
+ghost use Rattle.decide.specs.Decisions.{chartDecision};
+
+// Open, by the lengths of the tables.
+pub fn open_decision(clients: u64, period: u64, records: usize, owners: usize) -> Decision
+    ensures { λ r. ⌜
+        ((s : State) → length (s .waitingTable) ≡ records → length (s .clientTable) ≡ owners → r ≡ openDecision clients period s)
+        ⌝ }
+{
+    let refusal = refusals::open_refusal(clients, period, records, owners);
+    if refusal != 0 {
+        return Decision::Refuse { number: refusal };
+    }
+    Decision::Open
+}
+
+// What an accepted submit does.
+pub fn submit_choice(
+    head: Head,
+    deadlines: &[u64],
+    clients: &[u64],
+    submitted: &[u32],
+    served: &[u32],
+    dropped: &[u32],
+    client: u64,
+    deadline: u64,
+) -> Decision
+    requires { ⌜ (head .waiting ≤ length (now deadlines)) × (head .waiting ≤ length (now clients))
+        × (head .waiting ≤ mostRecords) × (getD (now submitted) client 0 < 4294967295) ⌝ }
+    ensures { λ r. ⌜
+        ((s : State)
+        → Shows head (now (deadlines .entry)) (now (clients .entry)) (now (submitted .entry)) (now (served .entry))
+        (now (dropped .entry)) s
+        → firstMatch (submitRefusals client deadline s) ≡ 0
+        → r ≡ submitChoice client deadline s)
+        ⌝ }
+{
+    let n = head.waiting as usize;
+    let place = search::due_by(deadlines, n, deadline);
+    let found = search::first_overfull(head, deadlines, n, place, deadline);
+    match found {
+        Overfull::None => Decision::Keep { place: place },
+        Overfull::At { deadline: due } => {
+            let last = search::due_by(deadlines, n, due);
+            let victim = victim::smallest_ratio_place(
+                clients,
+                n,
+                submitted,
+                served,
+                dropped,
+                place,
+                client,
+                last,
+            );
+            Decision::Drop {
+                place: place,
+                victim: victim,
+            }
+        }
+    }
+}
+
+pub fn submit_decision(
+    head: Head,
+    deadlines: &[u64],
+    numbers: &[u64],
+    clients: &[u64],
+    submitted: &[u32],
+    served: &[u32],
+    dropped: &[u32],
+    client: u64,
+    deadline: u64,
+) -> Decision
+    ensures { λ r. ⌜ r ≡ submitDecision client deadline
+        (stateOf head (now (deadlines .entry)) (now (numbers .entry)) (now (clients .entry)) (now (submitted .entry))
+        (now (served .entry)) (now (dropped .entry))) ⌝ }
+{
+    let refusal = refusals::submit_refusal(
+        head,
+        deadlines,
+        numbers,
+        clients,
+        submitted,
+        served,
+        dropped,
+        client,
+        deadline,
+    );
+    if refusal != 0 {
+        return Decision::Refuse { number: refusal };
+    }
+    submit_choice(
+        head,
+        deadlines,
+        clients,
+        submitted,
+        served,
+        dropped,
+        client,
+        deadline,
+    )
+}
+
+pub fn tick_decision(
+    head: Head,
+    deadlines: &[u64],
+    numbers: &[u64],
+    clients: &[u64],
+    submitted: &[u32],
+    served: &[u32],
+    dropped: &[u32],
+) -> Decision
+    ensures { λ r. ⌜ r ≡ tickDecision
+        (stateOf head (now (deadlines .entry)) (now (numbers .entry)) (now (clients .entry)) (now (submitted .entry))
+        (now (served .entry)) (now (dropped .entry))) ⌝ }
+{
+    let refusal = refusals::tick_refusal(
+        head,
+        deadlines,
+        numbers,
+        clients,
+        submitted,
+        served,
+        dropped,
+    );
+    if refusal != 0 {
+        return Decision::Refuse { number: refusal };
+    }
+    if head.waiting == 0 {
+        return Decision::Idle;
+    }
+    Decision::Serve
+}
+
+pub fn report_decision(
+    head: Head,
+    deadlines: &[u64],
+    numbers: &[u64],
+    clients: &[u64],
+    submitted: &[u32],
+    served: &[u32],
+    dropped: &[u32],
+    client: u64,
+) -> Decision
+    ensures { λ r. ⌜ r ≡ reportDecision client
+        (stateOf head (now (deadlines .entry)) (now (numbers .entry)) (now (clients .entry)) (now (submitted .entry))
+        (now (served .entry)) (now (dropped .entry))) ⌝ }
+{
+    let refusal = refusals::report_refusal(
+        head,
+        deadlines,
+        numbers,
+        clients,
+        submitted,
+        served,
+        dropped,
+        client,
+    );
+    if refusal != 0 {
+        return Decision::Refuse { number: refusal };
+    }
+    let counts = rows::counts_at(submitted, served, dropped, client);
+    let waiting = counts::waiting_of(clients, head.waiting as usize, client);
+    Decision::Report {
+        submitted: counts.submitted as u64,
+        served: counts.served as u64,
+        dropped: counts.dropped as u64,
+        waiting: waiting,
+    }
+}
+
+pub fn chart_decision(
+    head: Head,
+    deadlines: &[u64],
+    numbers: &[u64],
+    clients: &[u64],
+    submitted: &[u32],
+    served: &[u32],
+    dropped: &[u32],
+    entries: usize,
+) -> Decision
+    ensures { λ r. ⌜
+        ((output : List ℕ) → length output ≡ entries → r ≡ chartDecision output
+        (stateOf head (now (deadlines .entry)) (now (numbers .entry)) (now (clients .entry)) (now (submitted .entry))
+        (now (served .entry)) (now (dropped .entry))))
+        ⌝ }
+{
+    let refusal = refusals::chart_refusal(
+        head,
+        deadlines,
+        numbers,
+        clients,
+        submitted,
+        served,
+        dropped,
+        entries,
+    );
+    if refusal != 0 {
+        return Decision::Refuse { number: refusal };
+    }
+    Decision::Chart
+}
