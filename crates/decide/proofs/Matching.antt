@@ -12,6 +12,7 @@ use Rattle.spec.specs.Refusals.{submitRefusals, tickRefusals, reportRefusals, c
 use Rattle.spec.specs.Refusals.{refusal5, refusal6, refusal7, refusal8, refusal9, refusal10}
 use Rattle.spec.proofs.Laws.Sound.{within-test}
 use Rattle.spec.proofs.Laws.Accepted.{none-match}
+use Rattle.sound.specs.Checks.{tablesRefusal}
 use Rattle.decide.specs.Decisions.{submitOwn, tickOwn, reportOwn, chartOwn}
 
 -- ---- one refusal of a list
@@ -32,19 +33,20 @@ pub match-only : (r : Refusal) → r .holds ≡ false → 0 ≡ firstMatch (r �
 match-only r e = match-next r [] e match-none
 
 -- ---- what the tables call for, before a call's own
-module _ (s : State) (own rs : List Refusal) (list : rs ≡ refusal4 s ∷ refusal5 s ∷ own) where
-  pub tables-match : {t : ℕ} → t ≡ firstMatch (refusal4 s ∷ refusal5 s ∷ []) → t ≢ 0 → t ≡ firstMatch rs
-  unfolding firstMatch
-  tables-match e n = rw list (go (refusal4 s .holds) (refusal5 s .holds) e n)
+module _ (s : State) (own rs : List Refusal) (list : rs ≡ refusal4 s ∷ refusal5 s ∷ own) {t : ℕ} (found : t ≡ tablesRefusal s) where
+  pub tables-match : t ≢ 0 → t ≡ firstMatch rs
+  unfolding tablesRefusal firstMatch
+  tables-match n = rw list (go (refusal4 s .holds) (refusal5 s .holds) found)
     where
-      go : (x y : Bool) {t : ℕ} → t ≡ cond x 4 (cond y 5 0) → t ≢ 0 → t ≡ cond x 4 (cond y 5 (firstMatch own))
-      go true y e n = e
-      go false true e n = e
-      go false false e n = absurd (n e)
+      go : (x y : Bool) → t ≡ cond x 4 (cond y 5 0) → t ≡ cond x 4 (cond y 5 (firstMatch own))
+      go true y e = e
+      go false true e = e
+      go false false e = absurd (n e)
 
-  pub tables-pass : {t n : ℕ} → t ≡ firstMatch (refusal4 s ∷ refusal5 s ∷ []) → t ≡ 0 → n ≡ firstMatch own → n ≡ firstMatch rs
-  tables-pass e z f =
-      let p = none-match (refusal4 s) (refusal5 s ∷ []) (omega arith) (sym e ∙ z) in
+  pub tables-pass : t ≡ 0 → {n : ℕ} → n ≡ firstMatch own → n ≡ firstMatch rs
+  unfolding tablesRefusal
+  tables-pass z f =
+      let p = none-match (refusal4 s) (refusal5 s ∷ []) (omega arith) (sym found ∙ z) in
       let q = none-match (refusal5 s) [] (omega arith) (p .1) in
       rw list (match-next (refusal4 s) _ (p .0) (match-next (refusal5 s) _ (q .0) f))
 

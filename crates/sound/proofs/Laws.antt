@@ -10,7 +10,8 @@ use native.Mathlib.Omega.{arith}
 use borrow.Author.Tests.{leb-true, leb-false, ltb-true, eqb-true, lt-leb, lt-ltb, le-ltb}
 use lib.Dec.{leb, ltb, eqb}
 use lib.ListN.{length, getD, take, drop, set, replicate, length-take, length-set, length-replicate, getD-replicate}
-use lib.ListN.{drop-of-length-le}
+use lib.ListN.{drop-of-length-le, List·getD-eq-default}
+use Rattle.slots.proofs.Laws.Tests.{le, gt, order}
 use lib.Seq.{take-all, drop-cons, getD-take, getD-set-same, getD-set-other}
 use Rattle.spec.specs.declared.types.Head.{Head}
 use Rattle.spec.specs.declared.types.Request.{Request}
@@ -26,7 +27,7 @@ use Rattle.spec.proofs.Laws.Clients.{of-yes, of-no, waitingOf-none, waitingOf-c
 use Rattle.spec.proofs.Laws.Sound.{within-test, Shaped}
 use Rattle.columns.specs.Columns.{rowsOf}
 use Rattle.columns.proofs.Laws.{length-rows, getD-rows}
-use Rattle.sound.specs.Checks.{hasShape, isNext, areNext, doesBalance, Tallied}
+use Rattle.sound.specs.Checks.{hasShape, isNext, areNext, doesBalance, countedIf, Tallied}
 
 -- ---- a deadline, by its distance to the clock
 pub ahead-past : (clock deadline : ℕ) → deadline ≤ clock → isAhead clock deadline ≡ false
@@ -125,24 +126,28 @@ tally-none ws =
 pub tally-all : (ws : List Request) (tally : List ℕ) → Tallying ws [] tally → Tallied ws tally
 tally-all ws tally t = record { size = t .size; at = λ c h. omega (arith, t .at c h, waitingOf-none c) }
 
-module _ (ws left : List Request) (w : Request) (tally : List ℕ)
-    (t : Tallying ws (w ∷ left) tally) (h : w .client < mostClients) where
-  -- a client has no more requests than there are
-  pub tally-most : getD tally (w .client) 0 ≤ length ws
-  unfolding waitingOf
-  tally-most = omega (arith, t .at (w .client) h, count-most (λ v. eqb (v .client) (w .client)) ws)
+-- no count is larger than the number of requests
+pub tally-most : (ws left : List Request) (tally : List ℕ) → Tallying ws left tally → (c : ℕ) → getD tally c 0 ≤ length ws
+unfolding waitingOf
+tally-most ws left tally t c =
+    elim (order (suc c) mostClients) [
+      | le h ↦ omega (arith, t .at c h, count-most (λ v. eqb (v .client) c) ws)
+      | gt h ↦ omega (arith, t .size, List·getD-eq-default tally 0 {n = c} (omega (arith, t .size)))
+    ]
 
-  pub tally-turn : Tallying ws left (set tally (w .client) (getD tally (w .client) 0 + 1))
-  tally-turn = record { size = simp length-set (t .size); at = λ c l. go c l (ℕ-discrete c (w .client)) }
-    where
-      go : (c : ℕ) → c < mostClients → Dec (c ≡ w .client)
-          → getD (set tally (w .client) (getD tally (w .client) 0 + 1)) c 0 + waitingOf c left ≡ waitingOf c ws
-      go c l (yes e) =
-          rw (e, getD-set-same tally (w .client) (getD tally (w .client) 0 + 1) 0 (omega (arith, t .size)))
-          (omega (arith, t .at (w .client) h, waitingOf-cons (w .client) w left, of-yes (w .client) w refl))
-      go c l (no e) =
-          rw (getD-set-other tally (w .client) c (getD tally (w .client) 0 + 1) 0 e)
-          (omega (arith, t .at c l, waitingOf-cons c w left, of-no c w e))
+-- a record that passed is counted
+pub tally-turn : (ws left : List Request) (w : Request) (tally next : List ℕ) → Tallying ws (w ∷ left) tally
+    → w .client < mostClients → next ≡ countedIf true w tally → Tallying ws left next
+tally-turn ws left w tally next t h e = rw e (record { size = simp length-set (t .size); at = λ c l. go c l (ℕ-discrete c (w .client)) })
+  where
+    go : (c : ℕ) → c < mostClients → Dec (c ≡ w .client)
+        → getD (set tally (w .client) (getD tally (w .client) 0 + 1)) c 0 + waitingOf c left ≡ waitingOf c ws
+    go c l (yes e) =
+        rw (e, getD-set-same tally (w .client) (getD tally (w .client) 0 + 1) 0 (omega (arith, t .size)))
+        (omega (arith, t .at (w .client) h, waitingOf-cons (w .client) w left, of-yes (w .client) w refl))
+    go c l (no e) =
+        rw (getD-set-other tally (w .client) c (getD tally (w .client) 0 + 1) 0 e)
+        (omega (arith, t .at c l, waitingOf-cons c w left, of-no c w e))
 
 -- ---- the pass over the clients, with the count of a pass over the records
 from-same : {A : Type 0} (f g : ℕ → A → Bool) (i : ℕ) (xs : List A)

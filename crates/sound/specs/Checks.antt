@@ -1,17 +1,18 @@
 -- The tests of one pass over the waiting records, and of one over the clients. Assumes nothing.
 use Prim.Native.Nat.{ℕ, suc, _+_, _<_}
 use mathlib.Core.Path.{_≡_}
-use mathlib.Core.Bool.{Bool, true, _&&_}
+use mathlib.Core.Bool.{Bool, true, cond, _&&_}
 use mathlib.Core.List.{List, [], _∷_}
 use lib.Dec.{leb, ltb, eqb}
-use lib.ListN.{length, getD}
+use lib.ListN.{length, getD, set}
 use Rattle.spec.specs.declared.types.Head.{Head}
 use Rattle.spec.specs.declared.types.Request.{Request}
 use Rattle.spec.specs.declared.types.Counts.{Counts}
 use Rattle.spec.specs.Every.{isWithin}
-use Rattle.spec.specs.Tables.{mostClients, mostRecords, mostCounted, zeroRequest}
+use Rattle.spec.specs.Tables.{mostClients, mostRecords, mostCounted, zeroRequest, State}
 use Rattle.spec.specs.Order.{comesBefore}
 use Rattle.spec.specs.Chart.{roomTo}
+use Rattle.spec.specs.Refusals.{firstMatch, refusal4, refusal5}
 use Rattle.spec.specs.Sound.{isAhead, isGiven, isClient, waitingOf}
 
 -- what refusal 4 does not ask for: tables of these lengths fit the head
@@ -26,6 +27,15 @@ isNext head i before w =
     && isClient (head .clients) (w .client)
     && ltb i (roomTo head (w .deadline))
     && comesBefore before w
+
+-- a count per client with one more request counted, if it passed
+abbrev pub countedIf : Bool → Request → List ℕ → List ℕ
+countedIf passed w tally = cond passed (set tally (w .client) (getD tally (w .client) 0 + 1)) tally
+
+-- what one turn of the pass finds: whether the record passes, and the count per client with it
+pub record Stepped (head : Head) (i : ℕ) (before w : Request) (tally₀ : List ℕ) (r : Bool) (tally : List ℕ) : Type 0 where
+  pub verdict : r ≡ isNext head i before w
+  pub counted : tally ≡ countedIf r w tally₀
 
 -- of all of them, the first with the index i
 unfoldable pub areNext : Head → ℕ → Request → List Request → Bool
@@ -45,3 +55,7 @@ pub record Tallied (ws : List Request) (tally : List ℕ) : Type 0 where
 pub record Passed (head : Head) (ws : List Request) (r : Bool) (tally : List ℕ) : Type 0 where
   pub verdict : r ≡ areNext head 0 zeroRequest ws
   pub tallied : r ≡ true → Tallied ws tally
+
+-- what the tables call for, before a call's own refusals: 4 or 5, or 0 where none of both matches
+unfoldable pub tablesRefusal : State → ℕ
+tablesRefusal s = firstMatch (refusal4 s ∷ refusal5 s ∷ [])

@@ -2,12 +2,10 @@
 use spec::types::Head;
 ghost use mathlib.Core.Path.{_≡_};
 ghost use mathlib.Core.Bool.{true};
-ghost use mathlib.Core.List.{[], _∷_};
 ghost use lib.ListN.{length};
 ghost use Rattle.spec.specs.Sound.{isSound};
-ghost use Rattle.spec.specs.Refusals.{firstMatch, refusal4, refusal5};
 ghost use Rattle.columns.specs.Columns.{requestsOf, countsOf, stateOf};
-ghost use Rattle.sound.specs.Checks.{hasShape};
+ghost use Rattle.sound.specs.Checks.{hasShape, tablesRefusal};
 
 // Whether tables whose lengths fit the head are sound.
 pub fn is_sound(
@@ -53,12 +51,9 @@ pub fn tables_refusal(
     served: &[u32],
     dropped: &[u32],
 ) -> u64
-    ensures { λ r. ⌜ r ≡ firstMatch
-        (refusal4 (stateOf head (now (deadlines .entry)) (now (numbers .entry)) (now (clients .entry))
-        (now (submitted .entry)) (now (served .entry)) (now (dropped .entry)))
-        ∷ refusal5 (stateOf head (now (deadlines .entry)) (now (numbers .entry)) (now (clients .entry))
-        (now (submitted .entry)) (now (served .entry)) (now (dropped .entry)))
-        ∷ []) ⌝ }
+    ensures { λ r. ⌜ r ≡ tablesRefusal
+        (stateOf head (now (deadlines .entry)) (now (numbers .entry)) (now (clients .entry))
+        (now (submitted .entry)) (now (served .entry)) (now (dropped .entry))) ⌝ }
 {
     let records = columns::rows::shortest(deadlines.len(), numbers.len(), clients.len());
     let accounts = columns::rows::shortest(submitted.len(), served.len(), dropped.len());

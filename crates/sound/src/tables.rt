@@ -9,7 +9,21 @@ ghost use Rattle.spec.specs.Every.{every, everyFrom};
 ghost use Rattle.spec.specs.Tables.{mostClients, mostRecords};
 ghost use Rattle.spec.specs.Sound.{isZeroRequest};
 ghost use Rattle.columns.specs.Columns.{requestsOf, countsOf};
-ghost use Rattle.sound.specs.Checks.{doesBalance, Passed};
+ghost use Rattle.sound.specs.Checks.{doesBalance, Stepped, Passed};
+
+// One turn of the pass over the records: whether the record may stand at its index behind the one before it; if so it is counted.
+// The record comes by value, so that a pass over a table of records can take the same step.
+pub fn step(head: Head, i: u64, before: Request, w: Request, tally: &mut [u32; 256]) -> bool
+    requires { ⌜ (head .clients ≤ mostClients) × (getD (now tally) (w .client) 0 ≤ mostRecords) ⌝ }
+    ensures { λ r. ⌜ Stepped head i before w (now (tally .entry)) r (now (tally .exit)) ⌝ }
+{
+    if !crate::record::is_next(head, i, before, w) {
+        return false;
+    }
+    let c = w.client as usize;
+    tally[c] = tally[c] + 1;
+    true
+}
 
 // Whether the first n records are as waiting ones should be, and how many of them each client has.
 pub fn are_next(
@@ -38,11 +52,9 @@ pub fn are_next(
             number: numbers[i],
             client: clients[i],
         };
-        if !crate::record::is_next(head, i as u64, before, w) {
+        if !step(head, i as u64, before, w, tally) {
             return false;
         }
-        let c = w.client as usize;
-        tally[c] = tally[c] + 1;
         before = w;
         i += 1;
     }

@@ -1,8 +1,6 @@
 -- `decide::refusals::chart_refusal` meets its contract. Assumes nothing.
 use mathlib.Core.Path.{refl}
-use denote.Ref.{now}
 use borrow.Author.Needs.{needs}
-use Rattle.columns.specs.Columns.{stateOf}
 use Rattle.decide.proofs.Matching.{tables-match, tables-pass, chart-list}
 use Rattle.decide.proofs.refusals.chart_refusal.Statement.{statement}
 use Rattle.decide.proofs.refusals.chart_refusal.Tie as tie
@@ -11,26 +9,15 @@ tables-refusal-requires : tie.Need-tables-refusal-requires
 tables-refusal-requires c κs = search needs
 
 returns : tie.Need-returns
-returns c output l =
-    let a = c .before .before .before .before .before .before .before .before .args in
-    let s =
-    stateOf (a .head) (now (a .deadlines)) (now (a .numbers)) (now (a .clients)) (now (a .submitted)) (now (a .served))
-    (now (a .dropped))
-    in
-    tables-match s _ _ (chart-list output s) (c .before .tables-refusal .ensures) (c .if1 .taken)
+returns c output l = tables-match _ _ _ (chart-list output _) (c .before .tables-refusal .ensures) (c .if1 .taken)
 
 chart-own-requires : tie.Need-chart-own-requires
 chart-own-requires c κs = search needs
 
 returns-2 : tie.Need-returns-2
 returns-2 c output l =
-    let a = c .before .before .before .before .before .before .before .before .before .args in
-    let s =
-    stateOf (a .head) (now (a .deadlines)) (now (a .numbers)) (now (a .clients)) (now (a .submitted)) (now (a .served))
-    (now (a .dropped))
-    in
-    tables-pass s _ _ (chart-list output s) (c .before .before .tables-refusal .ensures) (c .before .if1 .left)
-    (c .chart-own .ensures s output refl l)
+    tables-pass _ _ _ (chart-list output _) (c .before .before .tables-refusal .ensures) (c .before .if1 .left)
+    (c .chart-own .ensures _ output refl l)
 
 pub chart-refusal-spec : {M : Type 1} → statement M
 chart-refusal-spec =

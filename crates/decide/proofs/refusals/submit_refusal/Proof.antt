@@ -1,9 +1,7 @@
 -- `decide::refusals::submit_refusal` meets its contract. Assumes nothing.
-use mathlib.Core.Path.{refl, sym, _∙_}
 use denote.Ref.{now}
 use borrow.Author.Needs.{needs}
-use Rattle.columns.specs.Columns.{requestOf, stateOf}
-use Rattle.columns.proofs.Laws.{length-rows}
+use Rattle.decide.proofs.States.{has-state}
 use Rattle.decide.proofs.Matching.{tables-match, tables-pass, submit-list}
 use Rattle.decide.proofs.refusals.submit_refusal.Statement.{statement}
 use Rattle.decide.proofs.refusals.submit_refusal.Tie as tie
@@ -12,13 +10,7 @@ tables-refusal-requires : tie.Need-tables-refusal-requires
 tables-refusal-requires c κs = search needs
 
 returns : tie.Need-returns
-returns c =
-    let a = c .before .before .before .before .before .before .before .before .args in
-    let s =
-    stateOf (a .head) (now (a .deadlines)) (now (a .numbers)) (now (a .clients)) (now (a .submitted)) (now (a .served))
-    (now (a .dropped))
-    in
-    tables-match s _ _ (submit-list (a .client) (a .deadline) s) (c .before .tables-refusal .ensures) (c .if1 .taken)
+returns c = tables-match _ _ _ (submit-list _ _ _) (c .before .tables-refusal .ensures) (c .if1 .taken)
 
 shortest-requires : tie.Need-shortest-requires
 shortest-requires c κs = search needs
@@ -29,18 +21,9 @@ submit-own-requires c κs = search needs
 returns-2 : tie.Need-returns-2
 returns-2 c =
     let a = c .before .before .before .before .before .before .before .before .before .before .args in
-    let s =
-    stateOf (a .head) (now (a .deadlines)) (now (a .numbers)) (now (a .clients)) (now (a .submitted)) (now (a .served))
-    (now (a .dropped))
-    in
-    tables-pass s _ _ (submit-list (a .client) (a .deadline) s) (c .before .before .before .tables-refusal .ensures) (c .before .before .if1 .left)
-    (c .submit-own .ensures s
-    (record {
-      head-same = refl;
-      records-same =
-          length-rows requestOf (now (a .deadlines)) (now (a .numbers)) (now (a .clients)) ∙ sym (c .before .shortest .ensures);
-      counts-same = refl;
-    }))
+    tables-pass _ _ _ (submit-list _ _ _) (c .before .before .before .tables-refusal .ensures) (c .before .before .if1 .left)
+    (c .submit-own .ensures _
+    (has-state _ (now (a .deadlines)) (now (a .numbers)) (now (a .clients)) _ _ _ (c .before .shortest .ensures)))
 
 pub submit-refusal-spec : {M : Type 1} → statement M
 submit-refusal-spec =

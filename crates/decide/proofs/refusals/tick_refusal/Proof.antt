@@ -1,8 +1,6 @@
 -- `decide::refusals::tick_refusal` meets its contract. Assumes nothing.
 use mathlib.Core.Path.{refl}
-use denote.Ref.{now}
 use borrow.Author.Needs.{needs}
-use Rattle.columns.specs.Columns.{stateOf}
 use Rattle.decide.proofs.Matching.{tables-match, tables-pass, tick-list}
 use Rattle.decide.proofs.refusals.tick_refusal.Statement.{statement}
 use Rattle.decide.proofs.refusals.tick_refusal.Tie as tie
@@ -11,26 +9,15 @@ tables-refusal-requires : tie.Need-tables-refusal-requires
 tables-refusal-requires c κs = search needs
 
 returns : tie.Need-returns
-returns c =
-    let a = c .before .before .before .before .before .before .before .before .args in
-    let s =
-    stateOf (a .head) (now (a .deadlines)) (now (a .numbers)) (now (a .clients)) (now (a .submitted)) (now (a .served))
-    (now (a .dropped))
-    in
-    tables-match s _ _ (tick-list s) (c .before .tables-refusal .ensures) (c .if1 .taken)
+returns c = tables-match _ _ _ (tick-list _) (c .before .tables-refusal .ensures) (c .if1 .taken)
 
 tick-own-requires : tie.Need-tick-own-requires
 tick-own-requires c κs = search needs
 
 returns-2 : tie.Need-returns-2
 returns-2 c =
-    let a = c .before .before .before .before .before .before .before .before .before .args in
-    let s =
-    stateOf (a .head) (now (a .deadlines)) (now (a .numbers)) (now (a .clients)) (now (a .submitted)) (now (a .served))
-    (now (a .dropped))
-    in
-    tables-pass s _ _ (tick-list s) (c .before .before .tables-refusal .ensures) (c .before .if1 .left)
-    (c .tick-own .ensures s refl)
+    tables-pass _ _ _ (tick-list _) (c .before .before .tables-refusal .ensures) (c .before .if1 .left)
+    (c .tick-own .ensures _ refl)
 
 pub tick-refusal-spec : {M : Type 1} → statement M
 tick-refusal-spec =

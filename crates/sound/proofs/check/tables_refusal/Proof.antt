@@ -8,6 +8,7 @@ use Rattle.spec.specs.Tables.{State}
 use Rattle.spec.specs.Refusals.{firstMatch}
 use Rattle.columns.specs.Columns.{requestOf, countOf, stateOf}
 use Rattle.columns.proofs.Laws.{length-rows}
+use Rattle.sound.specs.Checks.{tablesRefusal}
 use Rattle.sound.proofs.Laws.{shapeOf, shape-refused}
 use Rattle.sound.proofs.check.tables_refusal.Statement.{statement}
 use Rattle.sound.proofs.check.tables_refusal.Tie as tie
@@ -45,19 +46,19 @@ has-shape-requires : tie.Need-has-shape-requires
 has-shape-requires c κs = search needs
 
 returns : tie.Need-returns
-unfolding firstMatch
+unfolding tablesRefusal firstMatch
 returns c = rw (shape-refused, sym (shape (c .before)) ∙ not-true _ (c .if1 .taken))
 
 is-sound-requires : tie.Need-is-sound-requires
 is-sound-requires c κs = shaped c
 
 returns-2 : tie.Need-returns-2
-unfolding firstMatch
+unfolding tablesRefusal firstMatch
 returns-2 c =
     rw (shape-refused, shaped (c .before .before), sym (c .before .is-sound .ensures) ∙ not-true _ (c .if2 .taken))
 
 returns-3 : tie.Need-returns-3
-unfolding firstMatch
+unfolding tablesRefusal firstMatch
 returns-3 c =
     rw (shape-refused, shaped (c .before .before), sym (c .before .is-sound .ensures) ∙ not-false _ (c .if2 .left))
 

@@ -1,5 +1,5 @@
 -- `sound::tables::are_next` meets its contract. Assumes nothing.
-use Prim.Native.Nat.{ℕ, _-_, _+_, _≤_, _<_}
+use Prim.Native.Nat.{ℕ, _-_, _+_, _≤_}
 use mathlib.Core.Path.{_≡_, refl, sym, _∙_}
 use mathlib.Core.Bool.{_&&_, true, false, false≢true}
 use mathlib.Core.List.{List, _∷_}
@@ -9,7 +9,7 @@ use borrow.Author.Tests.{not-true, not-false}
 use denote.Ref.{now}
 use lib.ListN.{getD, take, drop, length, length-take}
 use Rattle.spec.specs.declared.types.Request.{Request}
-use Rattle.spec.specs.Tables.{mostClients, mostRecords, zeroRequest}
+use Rattle.spec.specs.Tables.{mostRecords, zeroRequest}
 use Rattle.columns.specs.Columns.{requestOf, requestsOf}
 use Rattle.sound.specs.Checks.{isNext, areNext}
 use Rattle.sound.proofs.Laws.{left-cons, left-none, next-cons, next-client, Tallying, tally-none, tally-all, tally-most}
@@ -60,65 +60,40 @@ turn : (c : tie.In-loop Inv-loop μ-loop) →
     ≡ areNext head 0 zeroRequest (all c)
 turn c = sym (next-cons _ _ _ _ _ _ (left c)) ∙ c .before .loop .inv .0
 
--- a record that passes has a client that exists, whose count has room
-owned : (c : tie.Else1 Inv-loop μ-loop) → row (c .before .before .before .before .before) .client < mostClients
-owned c = omega (arith, next-client _ _ _ _ (sym (c .before .is-next .ensures) ∙ not-false _ (c .if1 .left)))
-
-counted : (c : tie.Else1 Inv-loop μ-loop) →
-    let t = c .before .before .before .before .before in
-    Tallying (all t) (row t ∷ drop (t .before .loop .i + 1) (all t)) (t .before .loop .tally)
-counted c =
-    rw (left (c .before .before .before .before .before)) at (c .before .before .before .before .before .before .loop .inv .1)
-
 loop-holds : tie.Need-loop-holds Inv-loop μ-loop
 loop-holds c = (refl, rw (c .before .before .before .pre .1 .1) (tally-none _))
 
-mul-t12 : tie.Need-mul-t12 Inv-loop μ-loop
-mul-t12 c = search needs
+mul-t11 : tie.Need-mul-t11 Inv-loop μ-loop
+mul-t11 c = search needs
 
-shared-slice-read-t14 : tie.Need-shared-slice-read-t14 Inv-loop μ-loop
-shared-slice-read-t14 c = search needs
+shared-slice-read-t13 : tie.Need-shared-slice-read-t13 Inv-loop μ-loop
+shared-slice-read-t13 c = search needs
 
-mul-t15 : tie.Need-mul-t15 Inv-loop μ-loop
-mul-t15 c = search needs
+mul-t14 : tie.Need-mul-t14 Inv-loop μ-loop
+mul-t14 c = search needs
 
-shared-slice-read-t17 : tie.Need-shared-slice-read-t17 Inv-loop μ-loop
-shared-slice-read-t17 c = search needs
+shared-slice-read-t16 : tie.Need-shared-slice-read-t16 Inv-loop μ-loop
+shared-slice-read-t16 c = search needs
 
-mul-is-next : tie.Need-mul-is-next Inv-loop μ-loop
-mul-is-next c = search needs
+mul-step : tie.Need-mul-step Inv-loop μ-loop
+mul-step c = search needs
 
-shared-slice-read-is-next : tie.Need-shared-slice-read-is-next Inv-loop μ-loop
-shared-slice-read-is-next c = search needs
+shared-slice-read-step : tie.Need-shared-slice-read-step Inv-loop μ-loop
+shared-slice-read-step c = search needs
 
-is-next-requires : tie.Need-is-next-requires Inv-loop μ-loop
-is-next-requires c κs = search needs
+step-requires : tie.Need-step-requires Inv-loop μ-loop
+step-requires c κs =
+    let t = c .before .before .before .before in
+    (omega arith, omega (arith, few t, tally-most _ _ _ (t .before .loop .inv .1) (row t .client)))
 
 returns : tie.Need-returns Inv-loop μ-loop
 returns c =
     record {
       verdict =
-          rw (sym (c .before .is-next .ensures) ∙ not-true _ (c .if1 .taken)) at
-          (turn (c .before .before .before .before .before));
+          rw (sym (c .before .step .ensures .verdict) ∙ not-true _ (c .if1 .taken)) at
+          (turn (c .before .before .before .before .before .before));
       tallied = λ e. absurd (false≢true e);
     }
-
-mul-tally : tie.Need-mul-tally Inv-loop μ-loop
-mul-tally c = omega (arith, owned c)
-
-element-copy-out-tally : tie.Need-element-copy-out-tally Inv-loop μ-loop
-element-copy-out-tally c = owned c
-
-add-tally : tie.Need-add-tally Inv-loop μ-loop
-add-tally c =
-    let m = tally-most _ _ _ _ (counted (c .before)) (owned (c .before)) in
-    omega (arith, few (c .before .before .before .before .before .before))
-
-mul-tally-2 : tie.Need-mul-tally-2 Inv-loop μ-loop
-mul-tally-2 c = omega (arith, owned (c .before))
-
-element-write-tally : tie.Need-element-write-tally Inv-loop μ-loop
-element-write-tally c = owned (c .before)
 
 add-i : tie.Need-add-i Inv-loop μ-loop
 add-i c = search needs
@@ -127,11 +102,14 @@ loop-less : tie.Need-loop-less Inv-loop μ-loop
 loop-less c = search needs
 
 loop-again : tie.Need-loop-again Inv-loop μ-loop
-loop-again c = (
-  rw (sym (c .before .before .is-next .ensures) ∙ not-false _ (c .before .if1 .left)) at
-      (turn (c .before .before .before .before .before .before)),
-  tally-turn _ _ _ _ (counted (c .before)) (owned (c .before)),
-)
+loop-again c =
+    let t = c .before .before .before .before .before .before in
+    let r = not-false _ (c .if1 .left) in
+    let p = sym (c .before .step .ensures .verdict) ∙ r in (
+      rw p at (turn t),
+      tally-turn _ _ (row t) _ _ (rw (left t) at (t .before .loop .inv .1)) (omega (arith, next-client _ _ _ _ p))
+          (rw r at (c .before .step .ensures .counted)),
+    )
 
 returns-2 : tie.Need-returns-2 Inv-loop μ-loop
 unfolding areNext
@@ -152,19 +130,14 @@ are-next-spec =
     Inv-loop
     μ-loop
     loop-holds
-    mul-t12
-    shared-slice-read-t14
-    mul-t15
-    shared-slice-read-t17
-    mul-is-next
-    shared-slice-read-is-next
-    is-next-requires
+    mul-t11
+    shared-slice-read-t13
+    mul-t14
+    shared-slice-read-t16
+    mul-step
+    shared-slice-read-step
+    step-requires
     returns
-    mul-tally
-    element-copy-out-tally
-    add-tally
-    mul-tally-2
-    element-write-tally
     add-i
     loop-less
     loop-again

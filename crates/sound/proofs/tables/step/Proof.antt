@@ -1,0 +1,52 @@
+-- `sound::tables::step` meets its contract. Assumes nothing.
+use Prim.Native.Nat.{_<_}
+use mathlib.Core.Path.{refl, sym, _∙_}
+use native.Mathlib.Omega.{arith}
+use borrow.Author.Needs.{needs}
+use borrow.Author.Tests.{not-true, not-false}
+use Rattle.spec.specs.Tables.{mostClients}
+use Rattle.sound.proofs.Laws.{next-client}
+use Rattle.sound.proofs.tables.step.Statement.{statement}
+use Rattle.sound.proofs.tables.step.Tie as tie
+
+-- a record that passes has a client that exists
+owned : (c : tie.Else1) → c .before .before .args .w .client < mostClients
+owned c = omega (arith, next-client _ _ _ _ (sym (c .before .is-next .ensures) ∙ not-false _ (c .if1 .left)))
+
+is-next-requires : tie.Need-is-next-requires
+is-next-requires c κs = search needs
+
+returns : tie.Need-returns
+returns c = record { verdict = sym (not-true _ (c .if1 .taken)) ∙ c .before .is-next .ensures; counted = refl }
+
+mul-tally : tie.Need-mul-tally
+mul-tally c = omega (arith, owned c)
+
+element-copy-out-tally : tie.Need-element-copy-out-tally
+element-copy-out-tally c = owned c
+
+add-tally : tie.Need-add-tally
+add-tally c = search needs
+
+mul-tally-2 : tie.Need-mul-tally-2
+mul-tally-2 c = omega (arith, owned (c .before))
+
+element-write-tally : tie.Need-element-write-tally
+element-write-tally c = owned (c .before)
+
+returns-2 : tie.Need-returns-2
+returns-2 c =
+    record { verdict = sym (not-false _ (c .before .if1 .left)) ∙ c .before .before .is-next .ensures; counted = refl }
+
+pub step-spec : {M : Type 1} → statement M
+step-spec =
+    tie.close
+    (tie.spec
+    is-next-requires
+    returns
+    mul-tally
+    element-copy-out-tally
+    add-tally
+    mul-tally-2
+    element-write-tally
+    returns-2)
