@@ -2,7 +2,7 @@
 use Prim.Native.Nat.{ℕ, zero, suc, _+_, _-_, _≤_, _<_, min}
 use mathlib.Core.Path.{_≡_, refl, sym, _∙_}
 use mathlib.Core.Bool.{Bool, true, false, cond}
-use mathlib.Core.List.{List, [], _∷_, _++_, append-nil, map}
+use mathlib.Core.List.{List, [], _∷_, _++_, append-nil}
 use native.Mathlib.Decide.{ℕ-discrete}
 use native.Mathlib.Numerals.{add-one}
 use native.Mathlib.Omega.{arith}
@@ -11,13 +11,9 @@ use lib.ListN.{length, getD, take, drop, set, replicate, length-take, length-set
 use lib.ListN.{getD-replicate, replicate-append-replicate}
 use lib.Seq.{drop-cons, getD-take, take-suc, append-snoc, set-at, length-take-le, ext-getD, getD-set-same, getD-set-other}
 use borrow.Author.Tests.{eq-eqb, ne-eqb}
-use Rattle.spec.specs.declared.types.Request.{Request}
 use Rattle.spec.specs.Every.{countIf, mapFrom}
-use Rattle.spec.specs.Chart.{Segment, doTouch, joinLeft, segmentsOf, startsOf, endOf}
-use Rattle.spec.specs.Sound.{waitingOf}
-use Rattle.spec.specs.Calls.{restarted}
+use Rattle.spec.specs.Chart.{Segment, doTouch, joinLeft, segmentsOf}
 use Rattle.spec.proofs.Laws.Every.{count-most, length-mapFrom, getD-mapFrom, number-yes, number-no}
-use Rattle.columns.specs.Columns.{rowsOf, countsOf}
 use Rattle.columns.specs.Slots.{startBefore, startSlots, largest, segment, waitingIn}
 
 -- ---- what is left of the first n entries from a place on
@@ -199,28 +195,3 @@ cleared-more xs i h =
 pub cleared-all : (xs : List ℕ) (i : ℕ) → i ≤ length xs → length xs ≤ i → replicate i 0 ++ drop i xs ≡ replicate (length xs) 0
 cleared-all xs i h l =
     let e : i ≡ length xs = omega arith in rw (drop-of-length-le xs {i = i} l, append-nil, e)
-
--- ---- columns are the `map` of a field
-start-same : (w : Request) (later : List ℕ) → startBefore (w .deadline) later ≡ endOf w later - 1
-start-same w [] = refl
-start-same w (s ∷ later) = refl
-
-pub starts-column : (ws : List Request) → startSlots (map (λ w. w .deadline) ws) ≡ startsOf ws
-unfolding startSlots startsOf
-starts-column [] = refl
-starts-column (w ∷ ws) = rw (starts-column ws, start-same w (startsOf ws))
-
-pub count-column : (client : ℕ) (ws : List Request) → waitingIn (map (λ w. w .client) ws) client ≡ waitingOf client ws
-unfolding countIf waitingOf
-count-column client [] = refl
-count-column client (w ∷ ws) = omega (arith, count-column client ws)
-
--- at a period start, from any first index on: the table's is 0
-pub restart-columns : (ws : List Request) (i : ℕ) (su se dr : List ℕ) → length se ≡ length su → length dr ≡ length su
-    → countsOf (mapFrom (λ c x. waitingOf c ws) i su) (replicate (length se) 0) (replicate (length dr) 0)
-    ≡ mapFrom (restarted ws) i (countsOf su se dr)
-unfolding rowsOf mapFrom
-restart-columns ws i [] se dr p q = refl
-restart-columns ws i (x ∷ su) [] dr p q = absurd (omega arith)
-restart-columns ws i (x ∷ su) (y ∷ se) [] p q = absurd (omega arith)
-restart-columns ws i (x ∷ su) (y ∷ se) (z ∷ dr) p q = rw (restart-columns ws (suc i) su se dr (omega arith) (omega arith))

@@ -1,3 +1,4 @@
 pub mod Drawing
+pub mod Fields
 pub mod Laws
 pub mod Scanning

@@ -1,10 +1,13 @@
 // Waiting counts, and a period's start.
 ghost use mathlib.Core.Path.{_≡_};
+ghost use mathlib.Core.List.{List, map};
 ghost use Prim.Native.Nat.{_≤_};
 ghost use lib.ListN.{length, take, replicate};
 ghost use Rattle.spec.specs.Every.{mapFrom};
 ghost use Rattle.spec.specs.Tables.{mostRecords};
-ghost use Rattle.spec.specs.Calls.{isPeriodStart};
+ghost use Rattle.spec.specs.declared.types.Request.{Request};
+ghost use Rattle.spec.specs.Calls.{isPeriodStart, restarted};
+ghost use Rattle.columns.specs.Columns.{countsOf};
 ghost use Rattle.columns.specs.Slots.{waitingIn};
 
 // How many of the first n records are the client's.
@@ -59,4 +62,24 @@ pub fn recount(clients: &[u64], n: usize, submitted: &mut [u32])
         }
         i += 1;
     }
+}
+
+// A period start: each client's submitted becomes its waiting count, served and dropped become 0.
+pub fn restart(
+    clients: &[u64],
+    n: usize,
+    submitted: &mut [u32],
+    served: &mut [u32],
+    dropped: &mut [u32],
+)
+    requires { ⌜ (n ≤ length (now clients)) × (n ≤ mostRecords) ⌝ }
+    ensures { λ _. ⌜
+        ((ws : List Request) → map (λ w. w .client) ws ≡ take n (now (clients .entry))
+        → countsOf (now (submitted .exit)) (now (served .exit)) (now (dropped .exit))
+        ≡ mapFrom (restarted ws) 0 (countsOf (now (submitted .entry)) (now (served .entry)) (now (dropped .entry))))
+        ⌝ }
+{
+    recount(clients, n, submitted);
+    clear(served);
+    clear(dropped);
 }

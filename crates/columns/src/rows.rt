@@ -36,7 +36,8 @@ pub fn room_to(head: Head, deadline: u64) -> u64
 
 // A client's counts; zero where the client does not exist.
 pub fn counts_at(submitted: &[u32], served: &[u32], dropped: &[u32], client: u64) -> Counts
-    ensures { λ r. ⌜ r ≡ getD (countsOf (now (submitted .entry)) (now (served .entry)) (now (dropped .entry))) client zeroCounts ⌝ }
+    ensures { λ r. ⌜ r ≡ getD (countsOf (now (submitted .entry)) (now (served .entry)) (now (dropped .entry))) client
+        zeroCounts ⌝ }
 {
     let n = shortest(submitted.len(), served.len(), dropped.len());
     let at = client as usize;

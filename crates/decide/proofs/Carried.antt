@@ -42,7 +42,8 @@ pub data Goes (s : State) : Call → Decision → Outcome → Type 0 where
 -- a call is refused with a number, and changes nothing; or no refusal matches, and it goes as it chose
 pub data Carried (c : Call) (s : State) : Decision → Outcome → Type 0 where
   refuses : firstMatch (refusalsOf c s) ≢ 0
-      → Carried c s (Refuse (firstMatch (refusalsOf c s))) (record { answer = Refused (firstMatch (refusalsOf c s)); after = s })
+      → Carried c s (Refuse (firstMatch (refusalsOf c s)))
+      (record { answer = Refused (firstMatch (refusalsOf c s)); after = s })
   accepts : {d : Decision} {o : Outcome} → firstMatch (refusalsOf c s) ≡ 0 → Goes s c d o → Carried c s d o
 
 carried-unless : (c : Call) (s : State) (d : Decision) (o : Outcome) → Goes s c d o
@@ -73,7 +74,8 @@ ticks s [] e = idles e
 ticks s (w ∷ ws) e = serves w ws e
 
 pub carried : (c : Call) (s : State) → Carried c s (decisionOf c s) (outcomeOf c s)
-unfolding outcomeOf openOf submitOf tickOf reportOf chartOf openDecision submitDecision tickDecision reportDecision chartDecision
+unfolding outcomeOf openOf submitOf tickOf reportOf chartOf openDecision submitDecision tickDecision reportDecision
+    chartDecision
 carried (opening clients period) s = carried-unless (opening clients period) s _ _ (opens clients period)
 carried (submit client deadline) s = carried-unless (submit client deadline) s _ _ (submits client deadline s)
 carried tick s = carried-unless tick s _ _ (ticks s (waiting s) refl)

@@ -1,4 +1,5 @@
--- What a submit comes to, read off the deadlines alone: its place, the smallest overfull deadline, the candidates. Assumes nothing.
+-- What a submit comes to, read off the deadlines alone: its place, the smallest overfull deadline, the candidates.
+-- Assumes nothing.
 use Prim.Native.Nat.{ℕ, zero, suc, _+_, _≤_, _<_}
 use mathlib.Core.Path.{_≡_, refl, sym, ap, fun-ext, _∙_}
 use mathlib.Core.Bool.{Bool, true, false, cond}
@@ -13,7 +14,6 @@ use Rattle.slots.proofs.Laws.Tests.{Test, holds, fails, test, le, gt, order}
 use Rattle.spec.specs.declared.types.Head.{Head}
 use Rattle.spec.specs.declared.types.Request.{Request}
 use Rattle.spec.specs.declared.types.Counts.{Counts}
-use Rattle.spec.specs.Every.{toNumber, countIf}
 use Rattle.spec.specs.Tables.{zeroRequest, zeroCounts, State, waiting}
 use Rattle.spec.specs.Order.{comesBefore, placeOf, putInOrder}
 use Rattle.spec.specs.Chart.{roomTo, dueBy, hasNoOverfull, Search}
@@ -31,7 +31,7 @@ use Rattle.spec.proofs.Laws.Room.{room-mono}
 use Rattle.sound.proofs.Pass.{Roomy, feasible-roomy, same-test}
 use Rattle.columns.specs.declared.search.Overfull.{Overfull}
 use Rattle.columns.specs.declared.search.Overfull.the-variants.{None, At}
-use Rattle.columns.proofs.Laws.{column-insert}
+use Rattle.columns.proofs.Fields.{column-insert}
 use Rattle.columns.specs.Scans.{Sorted, overfullFrom, putAt, smallestFrom}
 use Rattle.decide.specs.declared.types.Decision.{Decision}
 use Rattle.decide.specs.declared.types.Decision.the-variants.{Keep, Drop}
@@ -54,11 +54,6 @@ unfolding dueBy
 few-due D ws = count-most (λ w. leb (w .deadline) D) ws
 
 -- ---- the place: behind all with deadlines up to the new one's
-pub due-column : (D : ℕ) (ws : List Request) → countIf (λ d. leb d D) (deadlines ws) ≡ dueBy D ws
-unfolding countIf dueBy
-due-column D [] = refl
-due-column D (w ∷ ws) = ap (λ (n : ℕ). toNumber (leb (w .deadline) D) + n) (due-column D ws)
-
 pub place-due : (r : Request) (ws : List Request) → All (λ (w : Request). w .number < r .number) ws → InOrder ws
     → placeOf r ws ≡ dueBy (r .deadline) ws
 unfolding placeOf
@@ -168,7 +163,8 @@ unfolding candidatesFrom placesFrom
 from-places head D all i [] o c = ap (placesFrom i) (sym (dueBy-none D [] tt))
 from-places head D all i (w ∷ ws) o c =
     rw (first) (go (leb (w .deadline) D) (test (w .deadline) D)
-    (from-places head D all (suc i) ws (o .1) (λ k h. let e : suc i + k ≡ i + suc k = omega arith in rw e (c (suc k) (omega arith)))))
+    (from-places head D all (suc i) ws (o .1)
+    (λ k h. let e : suc i + k ≡ i + suc k = omega arith in rw e (c (suc k) (omega arith)))))
   where
     first : isCandidate head all i ≡ leb (w .deadline) D
     first = let e : i + 0 ≡ i = omega arith in rw e at (c 0 (omega arith))
@@ -255,7 +251,11 @@ module _ (client deadline : ℕ) (s : State) (r : SubmitReady client deadline s)
   due-new : (D : ℕ) → roomTo head D < dueBy D all → dueBy D all ≡ suc (dueBy D (waiting s))
   due-new D h =
       elim (order deadline D) [
-        | le k ↦ omega (arith, dueBy-put D (newRequest client deadline s) (waiting s), due-yes D (newRequest client deadline s) k)
+        | le k ↦ omega (
+          arith,
+          dueBy-put D (newRequest client deadline s) (waiting s),
+          due-yes D (newRequest client deadline s) k,
+        )
         | gt k ↦ absurd (omega (
           arith,
           dueBy-put D (newRequest client deadline s) (waiting s),
@@ -302,7 +302,8 @@ module _ (client deadline : ℕ) (s : State) (r : SubmitReady client deadline s)
 
   pub chosen :
       Chosen (placeBy deadline (waiting s)) (victimBy client deadline s)
-      (overfullFrom head (placeBy deadline (waiting s)) (deadline ∷ drop (placeBy deadline (waiting s)) (deadlines (waiting s))))
+      (overfullFrom head (placeBy deadline (waiting s))
+      (deadline ∷ drop (placeBy deadline (waiting s)) (deadlines (waiting s))))
       (submitChoice client deadline s)
   chosen = rw same-search (go (verdict head all ordered))
     where

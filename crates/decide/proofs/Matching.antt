@@ -33,7 +33,8 @@ pub match-only : (r : Refusal) → r .holds ≡ false → 0 ≡ firstMatch (r �
 match-only r e = match-next r [] e match-none
 
 -- ---- what the tables call for, before a call's own
-module _ (s : State) (own rs : List Refusal) (list : rs ≡ refusal4 s ∷ refusal5 s ∷ own) {t : ℕ} (found : t ≡ tablesRefusal s) where
+module _
+    (s : State) (own rs : List Refusal) (list : rs ≡ refusal4 s ∷ refusal5 s ∷ own) {t : ℕ} (found : t ≡ tablesRefusal s) where
   pub tables-match : t ≢ 0 → t ≡ firstMatch rs
   unfolding tablesRefusal firstMatch
   tables-match n = rw list (go (refusal4 s .holds) (refusal5 s .holds) found)

@@ -15,11 +15,11 @@ use Rattle.spec.proofs.Laws.Accepted.{SubmitReady, submit-ready}
 use Rattle.columns.specs.declared.search.Overfull.{Overfull}
 use Rattle.columns.specs.declared.search.Overfull.the-variants.{None, At}
 use Rattle.columns.specs.Scans.{Sorted, overfullFrom, putAt, countsWith, smallestFrom}
+use Rattle.columns.proofs.Fields.{due-column}
 use Rattle.decide.specs.declared.types.Decision.{Decision}
 use Rattle.decide.specs.declared.types.Decision.the-variants.{Keep, Drop}
 use Rattle.decide.specs.Decisions.{Shows, submitChoice}
-use Rattle.decide.proofs.Chosen.{deadlines, due-column, sorted, Chosen, keeps, drops, placeBy, countsBy, victimBy}
-use Rattle.decide.proofs.Chosen.{chosen}
+use Rattle.decide.proofs.Chosen.{deadlines, sorted, Chosen, keeps, drops, placeBy, countsBy, victimBy, chosen}
 
 -- what was found says which it is
 none-chosen : {place : ℕ} {victim : ℕ → ℕ} {o : Overfull} {d : Decision} → Chosen place victim o d → None ≡ o → Keep place ≡ d
@@ -63,7 +63,8 @@ module _
 
     pub choice-drops : (D last victim : ℕ) → At D ≡ overfullFrom head place (deadline ∷ drop place (take (head .waiting) ds))
         → last ≡ countIf (λ d. leb d D) (take (head .waiting) ds)
-        → victim ≡ smallestFrom (λ k. countsWith client su se dr (getD (putAt place client (take (head .waiting) cs)) k 0)) 0 last
+        → victim ≡ smallestFrom
+        (λ k. countsWith client su se dr (getD (putAt place client (take (head .waiting) cs)) k 0)) 0 last
         → Drop place victim ≡ submitChoice client deadline s
     choice-drops D last victim e l v =
         cc (sym there, same-victim) ∙ at-chosen D (chosen client deadline s ready) (e ∙ same-found)

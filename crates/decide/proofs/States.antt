@@ -15,8 +15,8 @@ use Rattle.spec.specs.Refusals.{Refusal, firstMatch, submitRefusals, tickRefusa
 use Rattle.spec.proofs.Laws.Accepted.{Ready, SubmitReady, waiting-length, tick-ready}
 use Rattle.columns.specs.Columns.{rowsOf, requestOf, countOf, stateOf}
 use Rattle.columns.specs.Slots.{waitingIn}
-use Rattle.columns.proofs.Laws.{length-rows, getD-rows, first, third, column-rows}
-use Rattle.columns.proofs.Drawing.{count-column}
+use Rattle.columns.proofs.Laws.{length-rows, getD-rows}
+use Rattle.columns.proofs.Fields.{first, third, column-rows, count-column}
 use Rattle.decide.specs.declared.types.Decision.{Decision}
 use Rattle.decide.specs.declared.types.Decision.the-variants.{Refuse, Serve, Idle, Chart}
 use Rattle.decide.specs.Decisions.{unless, submitChoice, submitDecision, tickChoice, tickDecision, reportChoice}
@@ -78,7 +78,8 @@ module _ (client : ℕ) (s : State) {t : ℕ} (found : t ≡ firstMatch (reportR
   unfolding reportDecision
   report-refused n = refused (reportRefusals client s) _ found n
 
-  pub report-goes : t ≡ 0 → {k : Counts} {n : ℕ} → k ≡ getD (s .clientTable) client zeroCounts → n ≡ waitingOf client (waiting s)
+  pub report-goes : t ≡ 0 → {k : Counts} {n : ℕ} → k ≡ getD (s .clientTable) client zeroCounts
+      → n ≡ waitingOf client (waiting s)
       → reportChoice k n ≡ reportDecision client s
   unfolding reportDecision
   report-goes z e f = goes-on (reportRefusals client s) found z (cc)
@@ -88,7 +89,8 @@ module _ (client deadline : ℕ) (s : State) {t : ℕ} (found : t ≡ firstMatch
   unfolding submitDecision
   submit-refused n = refused (submitRefusals client deadline s) _ found n
 
-  pub submit-goes : t ≡ 0 → {d : Decision} → (firstMatch (submitRefusals client deadline s) ≡ 0 → d ≡ submitChoice client deadline s)
+  pub submit-goes : t ≡ 0 → {d : Decision}
+      → (firstMatch (submitRefusals client deadline s) ≡ 0 → d ≡ submitChoice client deadline s)
       → d ≡ submitDecision client deadline s
   unfolding submitDecision
   submit-goes z f = goes-on (submitRefusals client deadline s) found z (f (accepted (submitRefusals client deadline s) found z))
@@ -98,7 +100,8 @@ module _ (head : Head) (ds ms cs su se dr : List ℕ) (ready : Ready (stateOf he
   abbrev s : State
   s = stateOf head ds ms cs su se dr
 
-  pub fits : (head .waiting ≤ length ds) × (head .waiting ≤ length ms) × (head .waiting ≤ length cs) × (head .waiting ≤ mostRecords)
+  pub fits :
+      (head .waiting ≤ length ds) × (head .waiting ≤ length ms) × (head .waiting ≤ length cs) × (head .waiting ≤ mostRecords)
   fits = omega (arith, ready .shape .waits, ready .shape .most-records, length-rows requestOf ds ms cs)
 
   pub shown : Shows head ds cs su se dr s
@@ -106,9 +109,11 @@ module _ (head : Head) (ds ms cs su se dr : List ℕ) (ready : Ready (stateOf he
       record {
         head-same = refl;
         deadlines-same =
-            column-rows first requestOf (λ w. w .deadline) (λ x y z. refl) (head .waiting) ds ms cs (fits .0) (fits .1) (fits .2);
+            column-rows first requestOf (λ w. w .deadline) (λ x y z. refl) (head .waiting) ds ms cs
+            (fits .0) (fits .1) (fits .2);
         clients-same =
-            column-rows third requestOf (λ w. w .client) (λ x y z. refl) (head .waiting) ds ms cs (fits .0) (fits .1) (fits .2);
+            column-rows third requestOf (λ w. w .client) (λ x y z. refl) (head .waiting) ds ms cs
+            (fits .0) (fits .1) (fits .2);
         counts-same = refl;
       }
 

@@ -20,7 +20,8 @@ ghost use Rattle.decide.specs.Decisions.{chartDecision};
 // Open, by the lengths of the tables.
 pub fn open_decision(clients: u64, period: u64, records: usize, owners: usize) -> Decision
     ensures { λ r. ⌜
-        ((s : State) → length (s .waitingTable) ≡ records → length (s .clientTable) ≡ owners → r ≡ openDecision clients period s)
+        ((s : State) → length (s .waitingTable) ≡ records → length (s .clientTable) ≡ owners
+        → r ≡ openDecision clients period s)
         ⌝ }
 {
     let refusal = refusals::open_refusal(clients, period, records, owners);

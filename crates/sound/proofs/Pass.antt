@@ -28,7 +28,8 @@ same-test true b f g = sym (f refl)
 same-test false true f g = g refl
 same-test false false f g = refl
 
-every-cons : (p : Request → Bool) (w : Request) (ws : List Request) → every p (w ∷ ws) ≡ true → (p w ≡ true) × (every p ws ≡ true)
+every-cons : (p : Request → Bool) (w : Request) (ws : List Request) → every p (w ∷ ws) ≡ true
+    → (p w ≡ true) × (every p ws ≡ true)
 unfolding every
 every-cons p w ws e = and-eq-true-iff (p w) (every p ws) .0 e
 
@@ -149,7 +150,8 @@ first-order clock (w ∷ ws) e =
     rw (before-test zeroRequest w (earlier (omega arith)))
 
 -- the pass, and the clauses of soundness that it stands for
-passed : (head : Head) (ws : List Request) → Found head 0 zeroRequest ws → (isInOrder ws ≡ true) × (hasNoOverfull head ws ≡ true)
+passed : (head : Head) (ws : List Request) → Found head 0 zeroRequest ws
+    → (isInOrder ws ≡ true) × (hasNoOverfull head ws ≡ true)
 passed head ws f =
     let o = sym (first-order (head .clock) ws (f .ahead)) ∙ f .ordered in
     (o, roomy-feasible head ws (order-facts ws o) (f .roomy))

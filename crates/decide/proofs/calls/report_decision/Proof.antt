@@ -38,4 +38,14 @@ returns-2 c =
     (m .waiting-of .ensures ∙ waits _ _ _ _ _ _ _ (report-ready _ _ (accepted _ e z) .ready) _)
 
 pub report-decision-spec : {M : Type 1} → statement M
-report-decision-spec = tie.close (tie.spec report-refusal-requires returns counts-at-requires waiting-of-requires cast-t14 cast-t15 cast-t16 returns-2)
+report-decision-spec =
+    tie.close
+    (tie.spec
+    report-refusal-requires
+    returns
+    counts-at-requires
+    waiting-of-requires
+    cast-t14
+    cast-t15
+    cast-t16
+    returns-2)

@@ -14,7 +14,8 @@ use Rattle.decide.proofs.refusals.chart_own.Tie as tie
 returns : tie.Need-returns
 unfolding chartOwn
 returns c s output e l =
-    match-here (refusal12 output s) [] (lt-ltb (length output) (s .head .waiting) (omega (arith, ap (λ (h : Head). h .waiting) e)))
+    match-here (refusal12 output s) []
+    (lt-ltb (length output) (s .head .waiting) (omega (arith, ap (λ (h : Head). h .waiting) e)))
 
 returns-2 : tie.Need-returns-2
 unfolding chartOwn

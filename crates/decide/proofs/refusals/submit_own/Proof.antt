@@ -69,7 +69,8 @@ returns-5 c s h =
 
 -- .. and past the fifth the last one
 after-five : (c : tie.Else5) →
-    let a = c .before .before .before .before .before .before .before .before .before .before .before .before .before .before .args in
+    let m = c .before .before in
+    let a = m .before .before .before .before .before .before .before .before .before .before .before .before .args in
     (s : State) → Has (a .head) (a .records) (now (a .submitted)) (now (a .served)) (now (a .dropped)) s
     → (n : ℕ) → n ≡ firstMatch (refusal10 s ∷ []) → n ≡ firstMatch (submitOwn (a .client) (a .deadline) s)
 after-five c s h n e =
