@@ -17,7 +17,7 @@ use Rattle.spec.proofs.Laws.Every.{count-most, length-mapFrom, getD-mapFrom, nu
 use Rattle.columns.specs.Slots.{startBefore, startSlots, largest, segment, waitingIn}
 
 -- ---- what is left of the first n entries from a place on
-pub rest-cons : (xs : List ℕ) (n i : ℕ) → i < n → n ≤ length xs → drop i (take n xs) ≡ getD xs i 0 ∷ drop (i + 1) (take n xs)
+rest-cons : (xs : List ℕ) (n i : ℕ) → i < n → n ≤ length xs → drop i (take n xs) ≡ getD xs i 0 ∷ drop (i + 1) (take n xs)
 rest-cons xs n i h l =
     let m : i < length (take n xs) = omega (arith, length-take n xs) in
     rw (add-one, drop-cons (take n xs) i 0 m, getD-take n xs i 0 h)

@@ -71,23 +71,13 @@ pub fn smallest_ratio_place(
         (getD (putAt place client (take n (now (clients .entry)))) k 0)) 0 last ⌝ }
 {
     let mut best = last;
-    let mut smallest = counts_with(
-        submitted,
-        served,
-        dropped,
-        client,
-        client_at(clients, n, place, client, last),
-    );
+    let owner = client_at(clients, n, place, client, last);
+    let mut smallest = counts_with(submitted, served, dropped, client, owner);
     let mut k = last;
     while 0 < k {
         k -= 1;
-        let counts = counts_with(
-            submitted,
-            served,
-            dropped,
-            client,
-            client_at(clients, n, place, client, k),
-        );
+        let owner = client_at(clients, n, place, client, k);
+        let counts = counts_with(submitted, served, dropped, client, owner);
         if has_smaller_ratio(counts, smallest) {
             best = k;
             smallest = counts;

@@ -54,7 +54,7 @@ unfolding dueBy
 few-due D ws = count-most (λ w. leb (w .deadline) D) ws
 
 -- ---- the place: behind all with deadlines up to the new one's
-pub place-due : (r : Request) (ws : List Request) → All (λ (w : Request). w .number < r .number) ws → InOrder ws
+place-due : (r : Request) (ws : List Request) → All (λ (w : Request). w .number < r .number) ws → InOrder ws
     → placeOf r ws ≡ dueBy (r .deadline) ws
 unfolding placeOf
 place-due r [] a o = sym (dueBy-none (r .deadline) [] tt)
@@ -100,7 +100,7 @@ below-later : (head : Head) (D i : ℕ) (w : Request) (ws : List Request) (v : R
 below-later head D i w ws v b f h =
     omega (arith, f h, dueBy-cons (v .deadline) w ws, due-yes (v .deadline) w (before-deadline w v b))
 
-pub search-over : (head : Head) (D i : ℕ) (ws : List Request) → InOrder ws → i ≤ roomTo head D → roomTo head D < i + dueBy D ws
+search-over : (head : Head) (D i : ℕ) (ws : List Request) → InOrder ws → i ≤ roomTo head D → roomTo head D < i + dueBy D ws
     → All (Below head D i ws) ws → overfullFrom head i (deadlines ws) ≡ At D
 unfolding overfullFrom
 search-over head D i [] o h f a = absurd (omega (arith, dueBy-none D [] tt))
@@ -134,14 +134,14 @@ search-over head D i (w ∷ ws) o h f a =
     go true (holds g) ih = ap At (here (omega arith))
     go false (fails g) ih = ih (omega (arith, room-mono head (head .clock) (w .deadline) D early))
 
-pub search-none : (head : Head) (i : ℕ) (ws : List Request) → Roomy head i ws → overfullFrom head i (deadlines ws) ≡ None
+search-none : (head : Head) (i : ℕ) (ws : List Request) → Roomy head i ws → overfullFrom head i (deadlines ws) ≡ None
 unfolding overfullFrom
 search-none head i [] r = refl
 search-none head i (w ∷ ws) r =
     rw (le-ltb (roomTo head (w .deadline)) (suc i) (r .0)) (search-none head (suc i) ws (r .1))
 
 -- what stands in front and has room is passed over
-pub search-skip : (head : Head) (i k : ℕ) (ws : List Request) (ds : List ℕ) → k ≤ length ws → Roomy head i ws
+search-skip : (head : Head) (i k : ℕ) (ws : List Request) (ds : List ℕ) → k ≤ length ws → Roomy head i ws
     → overfullFrom head i (take k (deadlines ws) ++ ds) ≡ overfullFrom head (i + k) ds
 unfolding overfullFrom
 search-skip head i zero ws ds h r = let e : i + 0 ≡ i = omega arith in rw e

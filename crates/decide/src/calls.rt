@@ -44,19 +44,15 @@ pub fn submit_choice(
 ) -> Decision
     requires { ⌜ (head .waiting ≤ length (now deadlines)) × (head .waiting ≤ length (now clients))
         × (head .waiting ≤ mostRecords) × (getD (now submitted) client 0 < 4294967295) ⌝ }
-    ensures { λ r. ⌜
-        ((s : State)
+    ensures { λ r. ⌜ ((s : State)
         → Shows head (now (deadlines .entry)) (now (clients .entry)) (now (submitted .entry)) (now (served .entry))
-        (now (dropped .entry)) s
-        → firstMatch (submitRefusals client deadline s) ≡ 0
-        → r ≡ submitChoice client deadline s)
-        ⌝ }
+        (now (dropped .entry)) s → firstMatch (submitRefusals client deadline s) ≡ 0 → r ≡ submitChoice client deadline s) ⌝ }
 {
     let n = head.waiting as usize;
     let place = search::due_by(deadlines, n, deadline);
     let found = search::first_overfull(head, deadlines, n, place, deadline);
     match found {
-        Overfull::None => Decision::Keep { place: place },
+        Overfull::None => Decision::Keep { place },
         Overfull::At { deadline: due } => {
             let last = search::due_by(deadlines, n, due);
             let victim = victim::smallest_ratio_place(
@@ -69,10 +65,7 @@ pub fn submit_choice(
                 client,
                 last,
             );
-            Decision::Drop {
-                place: place,
-                victim: victim,
-            }
+            Decision::Drop { place, victim }
         }
     }
 }
@@ -88,9 +81,8 @@ pub fn submit_decision(
     client: u64,
     deadline: u64,
 ) -> Decision
-    ensures { λ r. ⌜ r ≡ submitDecision client deadline
-        (stateOf head (now (deadlines .entry)) (now (numbers .entry)) (now (clients .entry)) (now (submitted .entry))
-        (now (served .entry)) (now (dropped .entry))) ⌝ }
+    ensures { λ r. ⌜ r ≡ submitDecision client deadline (stateOf head (now (deadlines .entry)) (now (numbers .entry))
+        (now (clients .entry)) (now (submitted .entry)) (now (served .entry)) (now (dropped .entry))) ⌝ }
 {
     let refusal = refusals::submit_refusal(
         head,
@@ -182,7 +174,7 @@ pub fn report_decision(
         submitted: counts.submitted as u64,
         served: counts.served as u64,
         dropped: counts.dropped as u64,
-        waiting: waiting,
+        waiting,
     }
 }
 

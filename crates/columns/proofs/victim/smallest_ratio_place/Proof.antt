@@ -9,12 +9,12 @@ use Rattle.columns.proofs.victim.smallest_ratio_place.Statement.{statem
 use Rattle.columns.proofs.victim.smallest_ratio_place.Tie as tie
 
 abbrev Inv-loop : tie.InvT-loop
-Inv-loop clients n submitted served dropped place client last best₀ smallest₀ k₀ best smallest k =
+Inv-loop clients n submitted served dropped place client last best₀ owner smallest₀ k₀ best smallest k =
     Smallest (λ j. countsWith client submitted served dropped (getD (putAt place client (take n clients)) j 0))
     last k best smallest
 
 abbrev μ-loop : tie.MeasureT-loop
-μ-loop clients n submitted served dropped place client last best₀ smallest₀ k₀ best smallest k = k
+μ-loop clients n submitted served dropped place client last best₀ owner smallest₀ k₀ best smallest k = k
 
 client-at-requires : tie.Need-client-at-requires Inv-loop μ-loop
 client-at-requires c κs = search needs
