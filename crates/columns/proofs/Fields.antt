@@ -1,19 +1,20 @@
 -- A column is the `map` of a field: laws that carry columns to records, and back. Assumes nothing.
-use Prim.Native.Nat.{ℕ, zero, suc, _+_, _-_, _≤_}
+use Prim.Native.Nat.{ℕ, zero, suc, _+_, _-_, _≤_, _<_}
 use mathlib.Core.Path.{_≡_, refl, ap}
 use mathlib.Core.List.{List, [], _∷_, map}
 use native.Mathlib.Omega.{arith}
 use lib.Dec.{leb}
-use lib.ListN.{length, take, replicate}
+use lib.ListN.{length, getD, take, replicate}
 use Rattle.spec.specs.declared.types.Request.{Request}
 use Rattle.spec.specs.Every.{toNumber, countIf, mapFrom}
+use Rattle.spec.specs.Tables.{State}
 use Rattle.spec.specs.Order.{insertAt}
 use Rattle.spec.specs.Chart.{startsOf, endOf, dueBy}
 use Rattle.spec.specs.Sound.{waitingOf}
 use Rattle.spec.specs.Calls.{restarted}
-use Rattle.columns.specs.Columns.{rowsOf, countsOf}
-use Rattle.columns.specs.Scans.{putAt}
-use Rattle.columns.specs.Slots.{startBefore, startSlots, waitingIn}
+use Rattle.columns.specs.Columns.{rowsOf, requestOf, countOf, countsOf, stateOf, deadlinesOf, clientsOf, largest64}
+use Rattle.columns.specs.Scans.{putAt, waitingIn, Restarted}
+use Rattle.columns.specs.Charted.{startSlot, startSlots}
 
 -- the columns of a table, put together again, are the table
 pub rows-columns : {A : Type 0} (f : ℕ → ℕ → ℕ → A) (x y z : A → ℕ) → ((a : A) → f (x a) (y a) (z a) ≡ a)
@@ -21,6 +22,17 @@ pub rows-columns : {A : Type 0} (f : ℕ → ℕ → ℕ → A) (x y z : A → �
 unfolding rowsOf
 rows-columns f x y z e [] = refl
 rows-columns f x y z e (a ∷ rows) = λ i. e a i ∷ rows-columns f x y z e rows i
+
+-- so a state's own columns hold the state
+pub state-columns : (s : State)
+    → stateOf (s .head) (deadlinesOf (s .waitingTable)) (map (λ w. w .number) (s .waitingTable)) (clientsOf (s .waitingTable))
+    (map (λ k. k .submitted) (s .clientTable)) (map (λ k. k .served) (s .clientTable)) (map (λ k. k .dropped) (s .clientTable))
+    ≡ s
+state-columns s =
+    rw (
+      rows-columns requestOf (λ w. w .deadline) (λ w. w .number) (λ w. w .client) (λ w. refl) (s .waitingTable),
+      rows-columns countOf (λ k. k .submitted) (λ k. k .served) (λ k. k .dropped) (λ k. refl) (s .clientTable),
+    )
 
 -- a column of requests with one put in is the column with its entry put in
 pub column-insert : (f : Request → ℕ) (k : ℕ) (r : Request) (ws : List Request)
@@ -59,31 +71,47 @@ column-rows c f g e (suc n) (x ∷ xs) (y ∷ ys) (z ∷ zs) h i j =
     rw (pick-cons c x y z xs ys zs, e x y z, column-rows c f g e n xs ys zs (omega arith) (omega arith) (omega arith))
 
 -- ---- what scans of columns find
-start-same : (w : Request) (later : List ℕ) → startBefore (w .deadline) later ≡ endOf w later - 1
+start-same : (w : Request) (later : List ℕ) → startSlot (w .deadline) later ≡ endOf w later - 1
 start-same w [] = refl
 start-same w (s ∷ later) = refl
 
-pub starts-column : (ws : List Request) → startSlots (map (λ w. w .deadline) ws) ≡ startsOf ws
+pub starts-column : (ws : List Request) → startSlots (deadlinesOf ws) ≡ startsOf ws
 unfolding startSlots startsOf
 starts-column [] = refl
 starts-column (w ∷ ws) = rw (starts-column ws, start-same w (startsOf ws))
 
-pub count-column : (client : ℕ) (ws : List Request) → waitingIn (map (λ w. w .client) ws) client ≡ waitingOf client ws
+-- no start slot is the largest number, as `segment_at` asks
+pub starts-below : (ds : List ℕ) (k : ℕ) → k < length ds → ((j : ℕ) → j < length ds → getD ds j 0 ≤ largest64)
+    → getD (startSlots ds) k 0 < largest64
+unfolding startSlots
+starts-below [] k h b = absurd (omega arith)
+starts-below (d ∷ ds) zero h b = go (startSlots ds)
+  where
+    go : (later : List ℕ) → startSlot d later < largest64
+    go [] = omega (arith, b 0 (omega arith))
+    go (s ∷ later) = omega (arith, b 0 (omega arith))
+starts-below (d ∷ ds) (suc k) h b = starts-below ds k (omega arith) (λ j i. b (suc j) (omega arith))
+
+pub count-column : (client : ℕ) (ws : List Request) → waitingIn (clientsOf ws) client ≡ waitingOf client ws
 unfolding countIf waitingOf
 count-column client [] = refl
 count-column client (w ∷ ws) = omega (arith, count-column client ws)
 
 -- at a period start, from any first index on: the table's is 0
-pub restart-columns : (ws : List Request) (i : ℕ) (su se dr : List ℕ)
-    → countsOf (mapFrom (λ c x. waitingIn (map (λ w. w .client) ws) c) i su) (replicate (length se) 0) (replicate (length dr) 0)
+from-restart : (ws : List Request) (i : ℕ) (su se dr : List ℕ)
+    → countsOf (mapFrom (λ c x. waitingIn (clientsOf ws) c) i su) (replicate (length se) 0) (replicate (length dr) 0)
     ≡ mapFrom (restarted ws) i (countsOf su se dr)
 unfolding rowsOf mapFrom
-restart-columns ws i [] se dr = refl
-restart-columns ws i (x ∷ su) [] dr = refl
-restart-columns ws i (x ∷ su) (y ∷ se) [] = refl
-restart-columns ws i (x ∷ su) (y ∷ se) (z ∷ dr) = rw (count-column i ws, restart-columns ws (suc i) su se dr)
+from-restart ws i [] se dr = refl
+from-restart ws i (x ∷ su) [] dr = refl
+from-restart ws i (x ∷ su) (y ∷ se) [] = refl
+from-restart ws i (x ∷ su) (y ∷ se) (z ∷ dr) = rw (count-column i ws, from-restart ws (suc i) su se dr)
 
-pub due-column : (D : ℕ) (ws : List Request) → countIf (λ d. leb d D) (map (λ (w : Request). w .deadline) ws) ≡ dueBy D ws
+pub restart-columns : (ws : List Request) (su₀ se₀ dr₀ su se dr : List ℕ) → Restarted (clientsOf ws) su₀ se₀ dr₀ su se dr
+    → countsOf su se dr ≡ mapFrom (restarted ws) 0 (countsOf su₀ se₀ dr₀)
+restart-columns ws su₀ se₀ dr₀ su se dr r = rw (r .counted, r .none-served, r .none-dropped) (from-restart ws 0 su₀ se₀ dr₀)
+
+pub due-column : (D : ℕ) (ws : List Request) → countIf (λ d. leb d D) (deadlinesOf ws) ≡ dueBy D ws
 unfolding countIf dueBy
 due-column D [] = refl
 due-column D (w ∷ ws) = ap (λ (n : ℕ). toNumber (leb (w .deadline) D) + n) (due-column D ws)

@@ -1,9 +1,11 @@
--- Laws of records made of columns. Assumes nothing.
-use Prim.Native.Nat.{ℕ, zero, suc, _≤_, _<_, min}
+-- Laws of records made of columns, and of what is left of a column. Assumes nothing.
+use Prim.Native.Nat.{ℕ, zero, suc, _+_, _-_, _≤_, _<_, min}
 use mathlib.Core.Path.{_≡_, refl}
 use mathlib.Core.List.{List, [], _∷_}
+use native.Mathlib.Numerals.{add-one}
 use native.Mathlib.Omega.{arith}
-use lib.ListN.{length, getD, List·getD-eq-default}
+use lib.ListN.{length, getD, take, drop, length-take, drop-of-length-le, List·getD-eq-default}
+use lib.Seq.{drop-cons, getD-take}
 use Rattle.columns.specs.Columns.{rowsOf}
 
 module _ {A : Type 0} (f : ℕ → ℕ → ℕ → A) where
@@ -29,3 +31,12 @@ module _ {A : Type 0} (f : ℕ → ℕ → ℕ → A) where
   pub getD-rows-none : (xs ys zs : List ℕ) (k : ℕ) (d : A) → min (length xs) (min (length ys) (length zs)) ≤ k
       → getD (rowsOf f xs ys zs) k d ≡ d
   getD-rows-none xs ys zs k d h = List·getD-eq-default (rowsOf f xs ys zs) d {n = k} (omega (arith, length-rows xs ys zs))
+
+-- ---- what is left of the first n entries from a place on
+pub rest-cons : (xs : List ℕ) (n i : ℕ) → i < n → n ≤ length xs → drop i (take n xs) ≡ getD xs i 0 ∷ drop (i + 1) (take n xs)
+rest-cons xs n i h l =
+    let m : i < length (take n xs) = omega (arith, length-take n xs) in
+    rw (add-one, drop-cons (take n xs) i 0 m, getD-take n xs i 0 h)
+
+pub rest-none : (xs : List ℕ) (n i : ℕ) → n ≤ i → drop i (take n xs) ≡ []
+rest-none xs n i h = drop-of-length-le (take n xs) {i = i} (omega (arith, length-take n xs))

@@ -1,3 +1,4 @@
+pub mod Counting
 pub mod Drawing
 pub mod Fields
 pub mod Laws

@@ -1,3 +1,3 @@
+pub mod Charted
 pub mod Columns
 pub mod Scans
-pub mod Slots

@@ -4,7 +4,8 @@ ghost use mathlib.Core.List.{_∷_, _++_};
 ghost use Prim.Native.Nat.{ℕ, _-_, _<_, _≤_, min};
 ghost use lib.ListN.{length, getD, take, drop};
 ghost use Rattle.spec.specs.Chart.{segmentsOf};
-ghost use Rattle.columns.specs.Slots.{startSlots, largest, segment};
+ghost use Rattle.columns.specs.Columns.{largest64};
+ghost use Rattle.columns.specs.Charted.{startSlots, segment};
 
 // One slot before the smaller of both; 0 stays 0.
 fn one_before(deadline: u64, next: u64) -> u64
@@ -37,16 +38,16 @@ pub fn write_starts(deadlines: &[u64], n: usize, output: &mut [u64])
     }
 }
 
-// A segment, and the index of the first start slot behind it.
-pub struct Segment {
+// A segment's two ends, and the index of the first start slot behind it.
+pub struct Run {
     pub left: u64,
     pub right: u64,
     pub next: usize,
 }
 
-// The segment that begins with the interval of start slot i.
-pub fn segment_at(starts: &[u64], n: usize, i: usize) -> Segment
-    requires { ⌜ (i < n) × (n ≤ length (now starts)) × ((k : ℕ) → k < n → getD (now starts) k 0 < largest) ⌝ }
+// The segment that begins with the interval of the start slot at the index i.
+pub fn segment_at(starts: &[u64], n: usize, i: usize) -> Run
+    requires { ⌜ (i < n) × (n ≤ length (now starts)) × ((k : ℕ) → k < n → getD (now starts) k 0 < largest64) ⌝ }
     ensures { λ r. ⌜
         (segmentsOf (drop i (take n (now (starts .entry))))
         ≡ segment (r .left) (r .right) ∷ segmentsOf (drop (r .next) (take n (now (starts .entry)))))
@@ -64,9 +65,9 @@ pub fn segment_at(starts: &[u64], n: usize, i: usize) -> Segment
         right += 1;
         k += 1;
     }
-    Segment {
-        left: left,
-        right: right,
+    Run {
+        left,
+        right,
         next: k,
     }
 }

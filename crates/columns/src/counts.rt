@@ -1,14 +1,11 @@
 // Waiting counts, and a period's start.
 ghost use mathlib.Core.Path.{_≡_};
-ghost use mathlib.Core.List.{List, map};
 ghost use Prim.Native.Nat.{_≤_};
 ghost use lib.ListN.{length, take, replicate};
 ghost use Rattle.spec.specs.Every.{mapFrom};
 ghost use Rattle.spec.specs.Tables.{mostRecords};
-ghost use Rattle.spec.specs.declared.types.Request.{Request};
-ghost use Rattle.spec.specs.Calls.{isPeriodStart, restarted};
-ghost use Rattle.columns.specs.Columns.{countsOf};
-ghost use Rattle.columns.specs.Slots.{waitingIn};
+ghost use Rattle.spec.specs.Calls.{isPeriodStart};
+ghost use Rattle.columns.specs.Scans.{waitingIn, Restarted};
 
 // How many of the first n records are the client's.
 pub fn waiting_of(clients: &[u64], n: usize, client: u64) -> u64
@@ -35,7 +32,7 @@ pub fn is_period_start(period: u64, clock: u64) -> bool
 }
 
 // Every count becomes 0.
-pub fn clear(counts: &mut [u32])
+fn clear(counts: &mut [u32])
     ensures { λ _. ⌜ now (counts .exit) ≡ replicate (length (now (counts .entry))) 0 ⌝ }
 {
     let mut i: usize = 0;
@@ -45,8 +42,8 @@ pub fn clear(counts: &mut [u32])
     }
 }
 
-// Each client's submitted becomes its waiting count.
-pub fn recount(clients: &[u64], n: usize, submitted: &mut [u32])
+// Each client's submitted becomes its waiting count; a record whose client has no count is passed over.
+fn recount(clients: &[u64], n: usize, submitted: &mut [u32])
     requires { ⌜ (n ≤ length (now clients)) × (n ≤ mostRecords) ⌝ }
     ensures { λ _. ⌜
         now (submitted .exit)
@@ -74,9 +71,8 @@ pub fn restart(
 )
     requires { ⌜ (n ≤ length (now clients)) × (n ≤ mostRecords) ⌝ }
     ensures { λ _. ⌜
-        ((ws : List Request) → map (λ w. w .client) ws ≡ take n (now (clients .entry))
-        → countsOf (now (submitted .exit)) (now (served .exit)) (now (dropped .exit))
-        ≡ mapFrom (restarted ws) 0 (countsOf (now (submitted .entry)) (now (served .entry)) (now (dropped .entry))))
+        Restarted (take n (now (clients .entry))) (now (submitted .entry)) (now (served .entry)) (now (dropped .entry))
+        (now (submitted .exit)) (now (served .exit)) (now (dropped .exit))
         ⌝ }
 {
     recount(clients, n, submitted);

@@ -2,9 +2,10 @@
 use spec::types::Counts;
 use spec::types::Head;
 ghost use mathlib.Core.Path.{_≡_};
-ghost use Prim.Native.Nat.{min};
+ghost use Prim.Native.Nat.{_≤_, min};
+ghost use lib.Dec.{ltb};
 ghost use lib.ListN.{getD};
-ghost use Rattle.spec.specs.Tables.{zeroCounts};
+ghost use Rattle.spec.specs.Tables.{mostRecords, clockEnd, zeroCounts};
 ghost use Rattle.spec.specs.Chart.{roomTo};
 ghost use Rattle.columns.specs.Columns.{countsOf};
 
@@ -32,6 +33,14 @@ pub fn room_to(head: Head, deadline: u64) -> u64
         return 0;
     }
     deadline - head.clock
+}
+
+// Whether those slots can take more than i requests. A sum spares the branch that the difference of `room_to` needs.
+pub fn has_room(head: Head, i: u64, deadline: u64) -> bool
+    requires { ⌜ (head .clock ≤ clockEnd) × (i ≤ mostRecords) ⌝ }
+    ensures { λ r. ⌜ r ≡ ltb i (roomTo head deadline) ⌝ }
+{
+    head.clock + i < deadline
 }
 
 // A client's counts; zero where the client does not exist.

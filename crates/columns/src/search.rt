@@ -7,7 +7,6 @@ ghost use Prim.Native.Nat.{_≤_};
 ghost use lib.Dec.{leb};
 ghost use lib.ListN.{length, take, drop};
 ghost use Rattle.spec.specs.Every.{countIf};
-ghost use Rattle.spec.specs.Tables.{mostRecords};
 ghost use Rattle.columns.specs.Scans.{Sorted, overfullFrom};
 
 // What the search for an overfull deadline finds.
@@ -35,7 +34,8 @@ pub fn due_by(deadlines: &[u64], n: usize, deadline: u64) -> usize
     low
 }
 
-// The first overfull deadline among the n waiting ones and a new one, looked for from the new one's place on.
+// The first overfull deadline among the n waiting ones and a new one, looked for from the new one's place on: those before it
+// have the room that they had without it.
 pub fn first_overfull(
     head: Head,
     deadlines: &[u64],
@@ -43,7 +43,7 @@ pub fn first_overfull(
     place: usize,
     deadline: u64,
 ) -> Overfull
-    requires { ⌜ (n ≤ length (now deadlines)) × (place ≤ n) × (n ≤ mostRecords) ⌝ }
+    requires { ⌜ (n ≤ length (now deadlines)) × (place ≤ n) ⌝ }
     ensures { λ r. ⌜ r ≡ overfullFrom head place (deadline ∷ drop place (take n (now (deadlines .entry)))) ⌝ }
 {
     let mut d = deadline;

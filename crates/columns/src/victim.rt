@@ -5,24 +5,19 @@ ghost use mathlib.Core.Path.{_≡_};
 ghost use Prim.Native.Nat.{_≤_, _<_};
 ghost use lib.ListN.{length, getD, take};
 ghost use Rattle.spec.specs.Victim.{hasSmallerRatio};
+ghost use Rattle.columns.specs.Columns.{largest32};
 ghost use Rattle.columns.specs.Scans.{putAt, countsWith, smallestFrom};
 
 // Whether a's miss ratio, dropped divided by submitted, is smaller than b's. Multiplied out, so nothing is rounded.
-pub fn has_smaller_ratio(a: Counts, b: Counts) -> bool
+fn has_smaller_ratio(a: Counts, b: Counts) -> bool
     ensures { λ r. ⌜ r ≡ hasSmallerRatio a b ⌝ }
 {
     (a.dropped as u64) * (b.submitted as u64) < (b.dropped as u64) * (a.submitted as u64)
 }
 
 // The counts of client c, a new request of `client` counted in submitted already.
-pub fn counts_with(
-    submitted: &[u32],
-    served: &[u32],
-    dropped: &[u32],
-    client: u64,
-    c: u64,
-) -> Counts
-    requires { ⌜ getD (now submitted) client 0 < 4294967295 ⌝ }
+fn counts_with(submitted: &[u32], served: &[u32], dropped: &[u32], client: u64, c: u64) -> Counts
+    requires { ⌜ getD (now submitted) client 0 < largest32 ⌝ }
     ensures { λ r. ⌜ r ≡ countsWith client (now (submitted .entry)) (now (served .entry)) (now (dropped .entry)) c ⌝ }
 {
     let counts = rows::counts_at(submitted, served, dropped, c);
@@ -40,7 +35,7 @@ pub fn counts_with(
 }
 
 // The client at place k of the n waiting ones and the new one, which stands at its place.
-pub fn client_at(clients: &[u64], n: usize, place: usize, client: u64, k: usize) -> u64
+fn client_at(clients: &[u64], n: usize, place: usize, client: u64, k: usize) -> u64
     requires { ⌜ (n ≤ length (now clients)) × (place ≤ n) × (k ≤ n) ⌝ }
     ensures { λ r. ⌜ r ≡ getD (putAt place client (take n (now (clients .entry)))) k 0 ⌝ }
 {
@@ -65,7 +60,7 @@ pub fn smallest_ratio_place(
     client: u64,
     last: usize,
 ) -> usize
-    requires { ⌜ (n ≤ length (now clients)) × (place ≤ n) × (last ≤ n) × (getD (now submitted) client 0 < 4294967295) ⌝ }
+    requires { ⌜ (n ≤ length (now clients)) × (place ≤ n) × (last ≤ n) × (getD (now submitted) client 0 < largest32) ⌝ }
     ensures { λ r. ⌜ r ≡ smallestFrom
         (λ k. countsWith client (now (submitted .entry)) (now (served .entry)) (now (dropped .entry))
         (getD (putAt place client (take n (now (clients .entry)))) k 0)) 0 last ⌝ }

@@ -1,28 +1,33 @@
--- What is decided is what the call does: the decision determines answer and state. Assumes nothing.
+-- What is decided is what the call does: the decision determines answer and state, and the start slots a chart's output.
+-- Assumes nothing.
 use Prim.Native.Nat.{ℕ}
-use mathlib.Core.Path.{_≡_, refl}
+use mathlib.Core.Path.{_≡_, refl, _∙_}
 use mathlib.Core.Logic.{_≢_}
 use mathlib.Core.Bool.{Bool, true, false, cond}
-use mathlib.Core.List.{List, [], _∷_}
+use mathlib.Core.List.{List, [], _∷_, _++_}
 use lib.Dec.{eqb}
-use lib.ListN.{getD}
+use lib.ListN.{length, drop}
 use Rattle.slots.proofs.Laws.Tests.{Same, same-yes, same-no, same}
 use Rattle.spec.specs.declared.types.Request.{Request}
-use Rattle.spec.specs.declared.types.Answer.the-variants.{Refused}
-use Rattle.spec.specs.Tables.{zeroCounts, State, waiting}
+use Rattle.spec.specs.declared.types.Answer.the-variants.{Refused, Reported}
+use Rattle.spec.specs.Tables.{State, waiting}
 use Rattle.spec.specs.Order.{placeOf}
-use Rattle.spec.specs.Chart.{hasNoOverfull}
-use Rattle.spec.specs.Sound.{waitingOf}
-use Rattle.spec.specs.Refusals.{firstMatch}
+use Rattle.spec.specs.Chart.{hasNoOverfull, startsOf}
+use Rattle.spec.specs.Refusals.{firstMatch, chartRefusals}
 use Rattle.spec.specs.Calls.{Outcome, openAccepted, newRequest, withNew, kept, droppedAt, victimPlace, submitAccepted}
 use Rattle.spec.specs.Calls.{tickAccepted, reportAccepted, chartAccepted, unlessRefused, openOf, submitOf, tickOf, reportOf}
-use Rattle.spec.specs.Calls.{chartOf}
+use Rattle.spec.specs.Calls.{chartOf, chartOutput}
 use Rattle.spec.specs.Lists.{Call, opening, submit, tick, report, chart, outcomeOf}
 use Rattle.spec.proofs.Demands.Words.{refusalsOf}
+use Rattle.spec.proofs.Laws.Accepted.{chart-ready, waiting-length}
+use Rattle.spec.proofs.Calls.Refused.{Written, untouched, written, output-written, length-starts}
+use Rattle.columns.specs.Columns.{deadlinesOf}
+use Rattle.columns.specs.Charted.{startSlots}
+use Rattle.columns.proofs.Fields.{starts-column}
 use Rattle.decide.specs.declared.types.Decision.{Decision}
-use Rattle.decide.specs.declared.types.Decision.the-variants.{Refuse, Open, Keep, Drop, Serve, Idle, Chart}
+use Rattle.decide.specs.declared.types.Decision.the-variants.{Refuse, Open, Keep, Drop, Serve, Idle, Report, Chart}
 use Rattle.decide.specs.Decisions.{unless, openDecision, submitChoice, submitDecision, tickChoice, tickDecision}
-use Rattle.decide.specs.Decisions.{reportChoice, reportDecision, chartDecision, decisionOf}
+use Rattle.decide.specs.Decisions.{reportDecision, chartDecision, decisionOf}
 
 -- an accepted call, what it chose, and what it comes to
 pub data Goes (s : State) : Call → Decision → Outcome → Type 0 where
@@ -34,9 +39,9 @@ pub data Goes (s : State) : Call → Decision → Outcome → Type 0 where
       (droppedAt victim client deadline s)
   idles : waiting s ≡ [] → Goes s tick Idle (tickAccepted [] s)
   serves : (w : Request) (ws : List Request) → waiting s ≡ w ∷ ws → Goes s tick Serve (tickAccepted (w ∷ ws) s)
-  reports : (client : ℕ)
-      → Goes s (report client) (reportChoice (getD (s .clientTable) client zeroCounts) (waitingOf client (waiting s)))
-      (reportAccepted client s)
+  reports : (client submitted served dropped waits : ℕ)
+      → Goes s (report client) (Report submitted served dropped waits)
+      (record { answer = Reported client submitted served dropped waits; after = s })
   charts : (output : List ℕ) → Goes s (chart output) Chart (chartAccepted s)
 
 -- a call is refused with a number, and changes nothing; or no refusal matches, and it goes as it chose
@@ -74,10 +79,22 @@ ticks s [] e = idles e
 ticks s (w ∷ ws) e = serves w ws e
 
 pub carried : (c : Call) (s : State) → Carried c s (decisionOf c s) (outcomeOf c s)
-unfolding outcomeOf openOf submitOf tickOf reportOf chartOf openDecision submitDecision tickDecision reportDecision
-    chartDecision
+unfolding outcomeOf openOf submitOf tickOf reportOf chartOf openDecision submitDecision tickDecision
+    reportDecision chartDecision reportAccepted
 carried (opening clients period) s = carried-unless (opening clients period) s _ _ (opens clients period)
 carried (submit client deadline) s = carried-unless (submit client deadline) s _ _ (submits client deadline s)
 carried tick s = carried-unless tick s _ _ (ticks s (waiting s) refl)
-carried (report client) s = carried-unless (report client) s _ _ (reports client)
+carried (report client) s = carried-unless (report client) s _ _ (reports client _ _ _ _)
 carried (chart output) s = carried-unless (chart output) s _ _ (charts output)
+
+-- an accepted chart's output: the start slots of the waiting requests' deadlines, and what stood beyond
+pub charted : (output : List ℕ) (s : State) → firstMatch (chartRefusals output s) ≡ 0
+    → startSlots (deadlinesOf (waiting s)) ++ drop (s .head .waiting) output ≡ chartOutput output s
+charted output s z = go (output-written output s)
+  where
+    count : length (startsOf (waiting s)) ≡ s .head .waiting
+    count = length-starts (waiting s) ∙ waiting-length s (chart-ready output s z .ready .shape)
+
+    go : {l : List ℕ} → Written output s l → startSlots (deadlinesOf (waiting s)) ++ drop (s .head .waiting) output ≡ l
+    go (untouched n) = absurd (n z)
+    go (written e) = rw (starts-column (waiting s), count)

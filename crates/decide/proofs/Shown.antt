@@ -19,7 +19,9 @@ use Rattle.columns.proofs.Fields.{due-column}
 use Rattle.decide.specs.declared.types.Decision.{Decision}
 use Rattle.decide.specs.declared.types.Decision.the-variants.{Keep, Drop}
 use Rattle.decide.specs.Decisions.{Shows, submitChoice}
-use Rattle.decide.proofs.Chosen.{deadlines, sorted, Chosen, keeps, drops, placeBy, countsBy, victimBy, chosen}
+use Rattle.decide.proofs.Searched.{sorted}
+use Rattle.decide.proofs.Chosen.{Chosen, keeps, drops, countsBy, victimBy, chosen}
+use Rattle.columns.specs.Columns.{deadlinesOf}
 
 -- what was found says which it is
 none-chosen : {place : ℕ} {victim : ℕ → ℕ} {o : Overfull} {d : Decision} → Chosen place victim o d → None ≡ o → Keep place ≡ d
@@ -32,7 +34,7 @@ at-chosen D keeps e = absurd (let z : _≡_ {A = ℕ} 0 1 = cc in omega arith)
 at-chosen {place} {victim} D (drops E) e = let z : D ≡ E = cc in ap (λ (x : ℕ). Drop place (victim x)) z
 
 module _
-    (head : Head) (ds cs su se dr : List ℕ) (s : State) (shows : Shows head ds cs su se dr s) (client deadline : ℕ)
+    {head : Head} {ds cs su se dr : List ℕ} {s : State} (shows : Shows head ds cs su se dr s) (client deadline : ℕ)
     (accepted : firstMatch (submitRefusals client deadline s) ≡ 0) where
   ready : SubmitReady client deadline s
   ready = submit-ready client deadline s accepted
@@ -44,13 +46,13 @@ module _
   due-shown D = rw (shows .deadlines-same) at (due-column D (waiting s))
 
   module _ (place : ℕ) (placed : place ≡ countIf (λ d. leb d deadline) (take (head .waiting) ds)) where
-    there : placeBy deadline (waiting s) ≡ place
+    there : dueBy deadline (waiting s) ≡ place
     there = sym (placed ∙ due-shown deadline)
 
     same-found :
         overfullFrom head place (deadline ∷ drop place (take (head .waiting) ds))
-        ≡ overfullFrom (s .head) (placeBy deadline (waiting s))
-        (deadline ∷ drop (placeBy deadline (waiting s)) (deadlines (waiting s)))
+        ≡ overfullFrom (s .head) (dueBy deadline (waiting s))
+        (deadline ∷ drop (dueBy deadline (waiting s)) (deadlinesOf (waiting s)))
     same-found = cc (there, shows .head-same, shows .deadlines-same)
 
     pub choice-keeps : None ≡ overfullFrom head place (deadline ∷ drop place (take (head .waiting) ds))

@@ -9,12 +9,12 @@ use lib.ListN.{length, getD, take}
 use Rattle.spec.specs.declared.types.Head.{Head}
 use Rattle.spec.specs.declared.types.Request.{Request}
 use Rattle.spec.specs.declared.types.Counts.{Counts}
-use Rattle.spec.specs.Tables.{mostRecords, zeroCounts, State, waiting}
+use Rattle.spec.specs.Tables.{zeroCounts, State, waiting}
 use Rattle.spec.specs.Sound.{waitingOf}
 use Rattle.spec.specs.Refusals.{Refusal, firstMatch, submitRefusals, tickRefusals, reportRefusals, chartRefusals}
 use Rattle.spec.proofs.Laws.Accepted.{Ready, SubmitReady, waiting-length, tick-ready}
-use Rattle.columns.specs.Columns.{rowsOf, requestOf, countOf, stateOf}
-use Rattle.columns.specs.Slots.{waitingIn}
+use Rattle.columns.specs.Columns.{rowsOf, requestOf, countOf, stateOf, largest32}
+use Rattle.columns.specs.Scans.{waitingIn}
 use Rattle.columns.proofs.Laws.{length-rows, getD-rows}
 use Rattle.columns.proofs.Fields.{first, third, column-rows, count-column}
 use Rattle.decide.specs.declared.types.Decision.{Decision}
@@ -101,8 +101,8 @@ module _ (head : Head) (ds ms cs su se dr : List ℕ) (ready : Ready (stateOf he
   s = stateOf head ds ms cs su se dr
 
   pub fits :
-      (head .waiting ≤ length ds) × (head .waiting ≤ length ms) × (head .waiting ≤ length cs) × (head .waiting ≤ mostRecords)
-  fits = omega (arith, ready .shape .waits, ready .shape .most-records, length-rows requestOf ds ms cs)
+      (head .waiting ≤ length ds) × (head .waiting ≤ length ms) × (head .waiting ≤ length cs)
+  fits = omega (arith, ready .shape .waits, length-rows requestOf ds ms cs)
 
   pub shown : Shows head ds cs su se dr s
   shown =
@@ -121,7 +121,7 @@ module _ (head : Head) (ds ms cs su se dr : List ℕ) (ready : Ready (stateOf he
   waits client = rw (shown .clients-same) at (count-column client (waiting s))
 
 pub small : (head : Head) (ds ms cs su se dr : List ℕ) (client deadline : ℕ)
-    → SubmitReady client deadline (stateOf head ds ms cs su se dr) → getD su client 0 < 4294967295
+    → SubmitReady client deadline (stateOf head ds ms cs su se dr) → getD su client 0 < largest32
 small head ds ms cs su se dr client deadline r =
     omega (arith, ap (λ (k : Counts). k .submitted) same, r .ready .sound .balanced client inside .1)
   where

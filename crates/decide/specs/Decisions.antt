@@ -2,7 +2,7 @@
 use Prim.Native.Nat.{ℕ}
 use mathlib.Core.Path.{_≡_}
 use mathlib.Core.Bool.{cond}
-use mathlib.Core.List.{List, [], _∷_, map}
+use mathlib.Core.List.{List, [], _∷_}
 use lib.Dec.{eqb}
 use lib.ListN.{length, getD, take}
 use Rattle.spec.specs.declared.types.Head.{Head}
@@ -16,11 +16,11 @@ use Rattle.spec.specs.Refusals.{Refusal, firstMatch, openRefusals, submitRefusa
 use Rattle.spec.specs.Refusals.{refusal6, refusal7, refusal8, refusal9, refusal10, refusal11, refusal12}
 use Rattle.spec.specs.Calls.{newRequest, withNew, victimPlace}
 use Rattle.spec.specs.Lists.{Call, opening, submit, tick, report, chart}
-use Rattle.columns.specs.Columns.{countsOf}
+use Rattle.columns.specs.Columns.{countsOf, deadlinesOf, clientsOf}
 use Rattle.decide.specs.declared.types.Decision.{Decision}
 use Rattle.decide.specs.declared.types.Decision.the-variants.{Refuse, Open, Keep, Drop, Serve, Idle, Report, Chart}
 
--- the refusals of a call that do not speak of the tables: those of document 01's list from 6 on
+-- the refusals of a call behind 4 and 5: those of document 01's list from 6 on
 unfoldable pub submitOwn : ℕ → ℕ → State → List Refusal
 submitOwn client deadline s =
     refusal6 client s ∷ refusal7 deadline s ∷ refusal8 client s ∷ refusal9 s ∷ refusal10 s ∷ []
@@ -70,7 +70,7 @@ reportDecision client s =
 unfoldable pub chartDecision : List ℕ → State → Decision
 chartDecision output s = unless (chartRefusals output s) Chart
 
--- each call's
+-- what each call has to do
 abbrev pub decisionOf : Call → State → Decision
 decisionOf (opening clients period) s = openDecision clients period s
 decisionOf (submit client deadline) s = submitDecision client deadline s
@@ -87,6 +87,6 @@ pub record Has (head : Head) (records : ℕ) (submitted served dropped : List �
 -- columns that show the waiting requests and the client table of a state; behind the waiting ones they may hold anything
 pub record Shows (head : Head) (deadlines clients submitted served dropped : List ℕ) (s : State) : Type 0 where
   pub head-same : s .head ≡ head
-  pub deadlines-same : map (λ (w : Request). w .deadline) (waiting s) ≡ take (head .waiting) deadlines
-  pub clients-same : map (λ (w : Request). w .client) (waiting s) ≡ take (head .waiting) clients
+  pub deadlines-same : deadlinesOf (waiting s) ≡ take (head .waiting) deadlines
+  pub clients-same : clientsOf (waiting s) ≡ take (head .waiting) clients
   pub counts-same : s .clientTable ≡ countsOf submitted served dropped

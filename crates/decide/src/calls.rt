@@ -1,4 +1,4 @@
-// What each call has to do, decided on the columns of the tables.
+// What each call has to do, decided on the columns of the tables. The columns are the tables: as long as they are, and no longer.
 use crate::refusals;
 use crate::types::Decision;
 use columns::counts;
@@ -11,27 +11,27 @@ ghost use mathlib.Core.Path.{_≡_};
 ghost use mathlib.Core.List.{List};
 ghost use Prim.Native.Nat.{ℕ, _≤_, _<_};
 ghost use lib.ListN.{length, getD};
-ghost use Rattle.spec.specs.Tables.{mostRecords, State};
+ghost use Rattle.spec.specs.Tables.{State};
 ghost use Rattle.spec.specs.Refusals.{firstMatch, submitRefusals};
-ghost use Rattle.columns.specs.Columns.{stateOf};
+ghost use Rattle.columns.specs.Columns.{stateOf, largest32};
 ghost use Rattle.decide.specs.Decisions.{Shows, submitChoice, openDecision, submitDecision, tickDecision, reportDecision};
 ghost use Rattle.decide.specs.Decisions.{chartDecision};
 
 // Open, by the lengths of the tables.
-pub fn open_decision(clients: u64, period: u64, records: usize, owners: usize) -> Decision
+pub fn open_decision(clients: u64, period: u64, records: usize, accounts: usize) -> Decision
     ensures { λ r. ⌜
-        ((s : State) → length (s .waitingTable) ≡ records → length (s .clientTable) ≡ owners
+        ((s : State) → length (s .waitingTable) ≡ records → length (s .clientTable) ≡ accounts
         → r ≡ openDecision clients period s)
         ⌝ }
 {
-    let refusal = refusals::open_refusal(clients, period, records, owners);
+    let refusal = refusals::open_refusal(clients, period, records, accounts);
     if refusal != 0 {
         return Decision::Refuse { number: refusal };
     }
     Decision::Open
 }
 
-// What an accepted submit does.
+// What an accepted submit does: the columns show the waiting requests and the client table, and may be longer than these.
 pub fn submit_choice(
     head: Head,
     deadlines: &[u64],
@@ -43,7 +43,7 @@ pub fn submit_choice(
     deadline: u64,
 ) -> Decision
     requires { ⌜ (head .waiting ≤ length (now deadlines)) × (head .waiting ≤ length (now clients))
-        × (head .waiting ≤ mostRecords) × (getD (now submitted) client 0 < 4294967295) ⌝ }
+        × (getD (now submitted) client 0 < largest32) ⌝ }
     ensures { λ r. ⌜ ((s : State)
         → Shows head (now (deadlines .entry)) (now (clients .entry)) (now (submitted .entry)) (now (served .entry))
         (now (dropped .entry)) s → firstMatch (submitRefusals client deadline s) ≡ 0 → r ≡ submitChoice client deadline s) ⌝ }
@@ -70,6 +70,7 @@ pub fn submit_choice(
     }
 }
 
+// Submit: refused, kept at a place, or one record dropped.
 pub fn submit_decision(
     head: Head,
     deadlines: &[u64],
@@ -110,6 +111,7 @@ pub fn submit_decision(
     )
 }
 
+// Tick: refused, the first waiting record served, or idle.
 pub fn tick_decision(
     head: Head,
     deadlines: &[u64],
@@ -141,6 +143,7 @@ pub fn tick_decision(
     Decision::Serve
 }
 
+// Report: refused, or the client's counts with its waiting count.
 pub fn report_decision(
     head: Head,
     deadlines: &[u64],
@@ -178,6 +181,7 @@ pub fn report_decision(
     }
 }
 
+// Chart: refused, or the start slots written into an output of so many entries.
 pub fn chart_decision(
     head: Head,
     deadlines: &[u64],

@@ -12,9 +12,9 @@ ghost use Rattle.columns.specs.Columns.{stateOf};
 ghost use Rattle.decide.specs.Decisions.{Has, submitOwn, tickOwn, reportOwn, chartOwn};
 
 // Open's, by the lengths of the tables.
-pub fn open_refusal(clients: u64, period: u64, records: usize, owners: usize) -> u64
+pub fn open_refusal(clients: u64, period: u64, records: usize, accounts: usize) -> u64
     ensures { λ r. ⌜
-        ((s : State) → length (s .waitingTable) ≡ records → length (s .clientTable) ≡ owners
+        ((s : State) → length (s .waitingTable) ≡ records → length (s .clientTable) ≡ accounts
         → r ≡ firstMatch (openRefusals clients period s))
         ⌝ }
 {
@@ -27,13 +27,13 @@ pub fn open_refusal(clients: u64, period: u64, records: usize, owners: usize) ->
     if !((1 <= records) & (records <= 2048)) {
         return 4;
     }
-    if owners as u64 != clients {
+    if accounts as u64 != clients {
         return 4;
     }
     0
 }
 
-// Submit's own, with sound tables.
+// Submit's, behind 4 and 5.
 pub fn submit_own(
     head: Head,
     records: usize,
@@ -70,7 +70,7 @@ pub fn submit_own(
     0
 }
 
-// Tick's own.
+// Tick's, behind 4 and 5.
 pub fn tick_own(head: Head) -> u64
     ensures { λ r. ⌜ ((s : State) → s .head ≡ head → r ≡ firstMatch (tickOwn s)) ⌝ }
 {
@@ -80,7 +80,7 @@ pub fn tick_own(head: Head) -> u64
     0
 }
 
-// Report's own.
+// Report's, behind 4 and 5.
 pub fn report_own(head: Head, client: u64) -> u64
     ensures { λ r. ⌜ ((s : State) → s .head ≡ head → r ≡ firstMatch (reportOwn client s)) ⌝ }
 {
@@ -90,7 +90,7 @@ pub fn report_own(head: Head, client: u64) -> u64
     0
 }
 
-// Chart's own, by the length of the output.
+// Chart's, behind 4 and 5, by the length of the output.
 pub fn chart_own(head: Head, entries: usize) -> u64
     ensures { λ r. ⌜
         ((s : State) (output : List ℕ) → s .head ≡ head → length output ≡ entries → r ≡ firstMatch (chartOwn output s))
@@ -102,7 +102,7 @@ pub fn chart_own(head: Head, entries: usize) -> u64
     0
 }
 
-// Each call's whole list: first what the tables call for, then the call's own.
+// Submit's whole list: what the tables call for, then its own.
 pub fn submit_refusal(
     head: Head,
     deadlines: &[u64],
@@ -134,6 +134,7 @@ pub fn submit_refusal(
     submit_own(head, records, submitted, served, dropped, client, deadline)
 }
 
+// Tick's whole list.
 pub fn tick_refusal(
     head: Head,
     deadlines: &[u64],
@@ -162,6 +163,7 @@ pub fn tick_refusal(
     tick_own(head)
 }
 
+// Report's whole list.
 pub fn report_refusal(
     head: Head,
     deadlines: &[u64],
@@ -191,6 +193,7 @@ pub fn report_refusal(
     report_own(head, client)
 }
 
+// Chart's whole list.
 pub fn chart_refusal(
     head: Head,
     deadlines: &[u64],

@@ -1,60 +1,50 @@
 -- Laws of the passes: the tests of one record, what one turn of a pass leaves to do, the count per client, and the shape of the
 -- tables. Assumes nothing.
-use Prim.Native.Nat.{ℕ, suc, _+_, _-_, _≤_, _<_}
+use Prim.Native.Nat.{ℕ, zero, suc, _+_, _%_, _≤_, _<_}
 use mathlib.Core.Path.{_≡_, refl, sym, ap, _∙_}
-use mathlib.Core.Bool.{Bool, true, false, not, _&&_, _||_, and-eq-true-iff, and-true, and-false, and-assoc}
+use mathlib.Core.Bool.{Bool, true, false, not, _&&_, _||_, and-eq-true-iff, and-true, and-assoc}
 use mathlib.Core.List.{List, [], _∷_}
+use mathlib.Core.Logic.{_≢_}
 use native.Mathlib.Decide.{ℕ-discrete}
 use native.Mathlib.Numerals.{add-one}
 use native.Mathlib.Omega.{arith}
-use borrow.Author.Tests.{leb-true, leb-false, ltb-true, eqb-true, lt-leb, lt-ltb, le-ltb}
+use borrow.Author.Tests.{leb-true, leb-false, ltb-true, eqb-true, lt-ltb, le-ltb, ne-eqb}
+use lib.Bits.{bitOr, or-add-and, and-le-r}
 use lib.Dec.{leb, ltb, eqb}
 use lib.ListN.{length, getD, take, drop, set, replicate, length-take, length-set, length-replicate, getD-replicate}
-use lib.ListN.{drop-of-length-le, List·getD-eq-default}
+use lib.ListN.{drop-of-length-le}
 use Rattle.slots.proofs.Laws.Tests.{le, gt, order}
 use lib.Seq.{take-all, drop-cons, getD-take, getD-set-same, getD-set-other}
 use Rattle.spec.specs.declared.types.Head.{Head}
 use Rattle.spec.specs.declared.types.Request.{Request}
 use Rattle.spec.specs.declared.types.Counts.{Counts}
 use Rattle.spec.specs.Every.{isWithin, every, everyFrom}
-use Rattle.spec.specs.Tables.{mostClients, mostRecords, mostAhead, State}
+use Rattle.spec.specs.Tables.{mostClients, mostRecords, State}
 use Rattle.spec.specs.Order.{comesBefore}
 use Rattle.spec.specs.Chart.{roomTo}
-use Rattle.spec.specs.Sound.{isAhead, waitingOf, isBalanced}
+use Rattle.spec.specs.Sound.{waitingOf, isZeroRequest, isBalanced}
 use Rattle.spec.specs.Refusals.{refusal4}
 use Rattle.spec.proofs.Laws.Every.{Value, is-true, is-false, value, count-most}
 use Rattle.spec.proofs.Laws.Clients.{of-yes, of-no, waitingOf-none, waitingOf-cons}
 use Rattle.spec.proofs.Laws.Sound.{within-test, Shaped}
-use Rattle.columns.specs.Columns.{rowsOf}
+use Rattle.columns.specs.Columns.{rowsOf, requestOf}
 use Rattle.columns.proofs.Laws.{length-rows, getD-rows}
-use Rattle.sound.specs.Checks.{hasShape, isNext, areNext, doesBalance, countedIf, Tallied}
-
--- ---- a deadline, by its distance to the clock
-pub ahead-past : (clock deadline : ℕ) → deadline ≤ clock → isAhead clock deadline ≡ false
-ahead-past clock deadline h = rw (lt-leb (suc clock) deadline (omega arith))
-
-pub ahead-far : (clock deadline : ℕ) → mostAhead < deadline - clock → isAhead clock deadline ≡ false
-ahead-far clock deadline h = simp (lt-leb deadline (clock + mostAhead) (omega arith), and-false)
-
-ahead-near : (clock deadline : ℕ) → clock < deadline → deadline - clock ≤ mostAhead → isAhead clock deadline ≡ true
-ahead-near clock deadline h g = within-test (suc clock) (clock + mostAhead) deadline (omega arith) (omega arith)
+use Rattle.sound.specs.Checks.{hasShape, isNext, areNext, doesBalance, Tallied, tallySize, talliedOf, tallyPlace, oneMore}
+use Rattle.sound.specs.Checks.{countedIf}
 
 -- ---- of a record that passes the other tests, only the order is left to ask
 pub next-order : (head : Head) (i : ℕ) (before w : Request)
-    → head .clock < w .deadline
-    → w .deadline - head .clock ≤ mostAhead
     → 1 ≤ w .number
     → w .number ≤ head .last
     → w .client < head .clients
-    → i < roomTo head (w .deadline)
+    → ltb i (roomTo head (w .deadline)) ≡ true
     → isNext head i before w ≡ comesBefore before w
 unfolding isNext
-next-order head i before w past near some most owned room =
+next-order head i before w some most owned room =
     rw (
-      ahead-near (head .clock) (w .deadline) past near,
       within-test 1 (head .last) (w .number) some most,
       lt-ltb (w .client) (head .clients) owned,
-      lt-ltb i (roomTo head (w .deadline)) room,
+      room,
     )
 
 -- ---- a record that may stand where it does has a client that exists
@@ -105,6 +95,21 @@ module _ {A : Type 0} (b : Bool) (x : A) (xs l : List A) (whole : Bool) (e : l �
       rw (add-one i)
       (verdict-turn b (test i x) (everyFrom test (suc i) xs) (everyFrom test i l) whole (ap (everyFrom test i) e) h)
 
+-- ---- bits gathered from numbers: none is set where all numbers are zero
+or-zero : (a b : ℕ) → eqb (bitOr a b) 0 ≡ eqb a 0 && eqb b 0
+or-zero zero b = refl
+or-zero (suc a) b =
+    rw (
+      ne-eqb (suc a) 0 (λ e. omega arith),
+      ne-eqb (bitOr (suc a) b) 0 (λ e. omega (arith, or-add-and (suc a) b, and-le-r (suc a) b)),
+    )
+
+pub bits-zero : (bits deadline number client : ℕ)
+    → eqb (bitOr (bitOr (bitOr bits deadline) number) client) 0
+    ≡ eqb bits 0 && isZeroRequest (requestOf deadline number client)
+unfolding isZeroRequest
+bits-zero bits deadline number client = simp (or-zero, and-assoc)
+
 -- ---- the pass over the records: the next record, then the rest
 pub next-cons : (head : Head) (i : ℕ) (before w : Request) (ws l : List Request) → l ≡ w ∷ ws
     → areNext head i before l ≡ isNext head i before w && areNext head (i + 1) w ws
@@ -113,41 +118,92 @@ next-cons head i before w ws l e = rw (add-one i) (ap (areNext head i before) e)
 
 -- ---- a count per client of the requests passed: with those left it makes up all
 pub record Tallying (ws left : List Request) (tally : List ℕ) : Type 0 where
-  pub size : length tally ≡ mostClients
-  pub at : (c : ℕ) → c < mostClients → getD tally c 0 + waitingOf c left ≡ waitingOf c ws
+  pub size : length tally ≡ tallySize
+  pub at : (c : ℕ) → c < mostClients → talliedOf tally c + waitingOf c left ≡ waitingOf c ws
 
-pub tally-none : (ws : List Request) → Tallying ws ws (replicate mostClients 0)
+pub tally-none : (ws : List Request) → Tallying ws ws (replicate tallySize 0)
 tally-none ws =
     record {
-      size = length-replicate {A = ℕ} mostClients 0;
-      at = λ c h. omega (arith, getD-replicate {A = ℕ} mostClients c 0 0 h);
+      size = length-replicate {A = ℕ} tallySize 0;
+      at = λ c h. omega (
+        arith,
+        getD-replicate {A = ℕ} tallySize c 0 0 (omega arith),
+        getD-replicate {A = ℕ} tallySize (mostClients + c) 0 0 (omega arith),
+      );
     }
 
 pub tally-all : (ws : List Request) (tally : List ℕ) → Tallying ws [] tally → Tallied ws tally
 tally-all ws tally t = record { size = t .size; at = λ c h. omega (arith, t .at c h, waitingOf-none c) }
 
--- no count is larger than the number of requests
-pub tally-most : (ws left : List Request) (tally : List ℕ) → Tallying ws left tally → (c : ℕ) → getD tally c 0 ≤ length ws
+-- no client's count is larger than the number of requests, nor is one of its two numbers
+pub tally-most : (ws left : List Request) (tally : List ℕ) → Tallying ws left tally → (c : ℕ) → c < mostClients
+    → talliedOf tally c ≤ length ws
 unfolding waitingOf
-tally-most ws left tally t c =
-    elim (order (suc c) mostClients) [
-      | le h ↦ omega (arith, t .at c h, count-most (λ v. eqb (v .client) c) ws)
-      | gt h ↦ omega (arith, t .size, List·getD-eq-default tally 0 {n = c} (omega (arith, t .size)))
+tally-most ws left tally t c h = omega (arith, t .at c h, count-most (λ v. eqb (v .client) c) ws)
+
+pub place-most : (tally : List ℕ) (i client : ℕ) → getD tally (tallyPlace i client) 0 ≤ talliedOf tally client
+place-most tally i client =
+    elim (order (i % 2) 0) [
+      | le h ↦ let e : tallyPlace i client ≡ client = omega arith in rw e (omega arith)
+      | gt h ↦ let e : tallyPlace i client ≡ mostClients + client = omega arith in rw e (omega arith)
     ]
 
+-- one more in either half is one more of a client's count, and changes no other's
+more-here : (tally : List ℕ) (p q : ℕ) → q ≡ p → p < length tally → getD (oneMore p tally) q 0 ≡ getD tally q 0 + 1
+more-here tally p q e h = rw e (getD-set-same tally p (getD tally p 0 + 1) 0 h)
+
+more-elsewhere : (tally : List ℕ) (p q : ℕ) → q ≢ p → getD (oneMore p tally) q 0 ≡ getD tally q 0
+more-elsewhere tally p q e = getD-set-other tally p q (getD tally p 0 + 1) 0 e
+
+module _ (tally : List ℕ) (i client : ℕ) (h : client < mostClients) where
+  more-own : length tally ≡ tallySize → talliedOf (oneMore (tallyPlace i client) tally) client ≡ talliedOf tally client + 1
+  more-own size =
+      elim (order (i % 2) 0) [
+        | le g ↦ omega (
+          arith,
+          more-here tally (tallyPlace i client) client (omega arith) (omega arith),
+          more-elsewhere tally (tallyPlace i client) (mostClients + client) (λ e. omega arith),
+        )
+        | gt g ↦ omega (
+          arith,
+          more-elsewhere tally (tallyPlace i client) client (λ e. omega arith),
+          more-here tally (tallyPlace i client) (mostClients + client) (omega arith) (omega arith),
+        )
+      ]
+
+  more-other : (c : ℕ) → c < mostClients → c ≢ client → talliedOf (oneMore (tallyPlace i client) tally) c ≡ talliedOf tally c
+  more-other c l e =
+      omega (
+        arith,
+        more-elsewhere tally (tallyPlace i client) c (λ f. e (omega arith)),
+        more-elsewhere tally (tallyPlace i client) (mostClients + c) (λ f. e (omega arith)),
+      )
+
 -- a record that passed is counted
-pub tally-turn : (ws left : List Request) (w : Request) (tally next : List ℕ) → Tallying ws (w ∷ left) tally
-    → w .client < mostClients → next ≡ countedIf true w tally → Tallying ws left next
-tally-turn ws left w tally next t h e = rw e (record { size = simp length-set (t .size); at = λ c l. go c l (ℕ-discrete c (w .client)) })
+pub tally-turn : (ws left : List Request) (i : ℕ) (w : Request) (tally next : List ℕ) → Tallying ws (w ∷ left) tally
+    → w .client < mostClients → next ≡ countedIf true i w tally → Tallying ws left next
+tally-turn ws left i w tally next t h e =
+    rw e (record { size = simp length-set (t .size); at = λ c l. go c l (ℕ-discrete c (w .client)) })
   where
     go : (c : ℕ) → c < mostClients → Dec (c ≡ w .client)
-        → getD (set tally (w .client) (getD tally (w .client) 0 + 1)) c 0 + waitingOf c left ≡ waitingOf c ws
+        → talliedOf (oneMore (tallyPlace i (w .client)) tally) c + waitingOf c left ≡ waitingOf c ws
     go c l (yes e) =
-        rw (e, getD-set-same tally (w .client) (getD tally (w .client) 0 + 1) 0 (omega (arith, t .size)))
-        (omega (arith, t .at (w .client) h, waitingOf-cons (w .client) w left, of-yes (w .client) w refl))
+        rw e
+        (omega (
+          arith,
+          more-own tally i (w .client) h (t .size),
+          t .at (w .client) h,
+          waitingOf-cons (w .client) w left,
+          of-yes (w .client) w refl,
+        ))
     go c l (no e) =
-        rw (getD-set-other tally (w .client) c (getD tally (w .client) 0 + 1) 0 e)
-        (omega (arith, t .at c l, waitingOf-cons c w left, of-no c w e))
+        omega (
+          arith,
+          more-other tally i (w .client) h c l e,
+          t .at c l,
+          waitingOf-cons c w left,
+          of-no c w e,
+        )
 
 -- ---- the pass over the clients, with the count of a pass over the records
 from-same : {A : Type 0} (f g : ℕ → A → Bool) (i : ℕ) (xs : List A)
@@ -159,11 +215,11 @@ from-same f g i (x ∷ xs) h =
 
 pub balanced-tally : (ws : List Request) (tally : List ℕ) (n : ℕ) (cs : List Counts)
     → Tallied ws tally → length cs ≡ n → n ≤ mostClients
-    → everyFrom (λ c k. doesBalance k (getD tally c 0)) 0 (take n cs) ≡ everyFrom (isBalanced ws) 0 cs
+    → everyFrom (λ c k. doesBalance k (talliedOf tally c)) 0 (take n cs) ≡ everyFrom (isBalanced ws) 0 cs
 unfolding doesBalance isBalanced
 balanced-tally ws tally n cs t e h =
     rw (take-all n cs (omega arith))
-    (from-same (λ c k. doesBalance k (getD tally c 0)) (isBalanced ws) 0 cs (λ c k l. rw (t .at c (omega arith))))
+    (from-same (λ c k. doesBalance k (talliedOf tally c)) (isBalanced ws) 0 cs (λ c k l. rw (t .at c (omega arith))))
 
 -- ---- the shape of the tables
 abbrev pub shapeOf : State → Bool

@@ -5,8 +5,9 @@ use mathlib.Core.Path.{_≡_, refl, sym, ap, _∙_}
 use mathlib.Core.Bool.{Bool, true, false, not, _&&_, and-eq-true-iff}
 use mathlib.Core.List.{List, [], _∷_}
 use native.Mathlib.Omega.{arith}
-use borrow.Author.Tests.{ltb-true, lt-ltb}
+use borrow.Author.Tests.{leb-true, ltb-true, le-leb, lt-ltb}
 use lib.Dec.{leb}
+use Rattle.slots.proofs.Laws.Tests.{le, gt, order}
 use Rattle.slots.proofs.Laws.Sums.{All, all-imp, all-each}
 use Rattle.spec.specs.declared.types.Head.{Head}
 use Rattle.spec.specs.declared.types.Request.{Request}
@@ -16,10 +17,10 @@ use Rattle.spec.specs.Order.{comesBefore, isInOrder}
 use Rattle.spec.specs.Chart.{roomTo, dueBy, isOverfull, hasNoOverfull}
 use Rattle.spec.specs.Sound.{isHeadWithin, isAhead, isGiven, isClient, isZeroRequest, isBalanced, isSound}
 use Rattle.spec.proofs.Laws.Every.{and-both, every-test, all-two}
-use Rattle.spec.proofs.Laws.Room.{room-mono}
-use Rattle.spec.proofs.Laws.Order.{Before, InOrder, before-deadline, order-facts, before-test, earlier}
+use Rattle.spec.proofs.Laws.Room.{room-mono, room-back}
+use Rattle.spec.proofs.Laws.Order.{Before, InOrder, before-facts, before-deadline, order-facts, before-test, earlier}
 use Rattle.spec.proofs.Laws.Feasible.{due-yes, dueBy-cons, Last, none-due, last-due, last, feasible-facts, roomy-test}
-use Rattle.spec.proofs.Laws.Sound.{within-facts}
+use Rattle.spec.proofs.Laws.Sound.{within-facts, within-test}
 use Rattle.sound.specs.Checks.{isNext, areNext}
 
 -- two tests that pass together are the same
@@ -97,29 +98,47 @@ feasible-roomy head ws o e =
 -- ---- the pass
 -- what it finds of the records from the place i on, behind the one before them
 record Found (head : Head) (i : ℕ) (before : Request) (ws : List Request) : Type 0 where
+  pub near : before .deadline ≤ head .clock + mostAhead
   pub ordered : isInOrder (before ∷ ws) ≡ true
   pub ahead : every (λ w. isAhead (head .clock) (w .deadline)) ws ≡ true
   pub given : every (λ w. isGiven (head .last) (w .number)) ws ≡ true
   pub owned : every (λ w. isClient (head .clients) (w .client)) ws ≡ true
   pub roomy : Roomy head i ws
 
+-- a deadline that has room is past the clock
+room-past : (head : Head) (i deadline : ℕ) → i < roomTo head deadline → head .clock < deadline
+room-past head i deadline h =
+    elim (order deadline (head .clock)) [
+      | le g ↦ absurd (omega (arith, room-back head (head .clock) deadline g))
+      | gt g ↦ g
+    ]
+
 next-facts : (head : Head) (i : ℕ) (before : Request) (ws : List Request) → areNext head i before ws ≡ true
     → Found head i before ws
 unfolding areNext isNext every isInOrder
-next-facts head i before [] e = record { ordered = refl; ahead = refl; given = refl; owned = refl; roomy = tt }
+next-facts head i before [] e =
+    record {
+      near = leb-true (before .deadline) (head .clock + mostAhead) e;
+      ordered = refl;
+      ahead = refl;
+      given = refl;
+      owned = refl;
+      roomy = tt;
+    }
 next-facts head i before (w ∷ ws) e =
     let p = and-eq-true-iff (isNext head i before w) (areNext head (suc i) w ws) .0 e in
     let q = simp and-eq-true-iff at (p .0) in
     let f = next-facts head (suc i) w ws (p .1) in
     record {
+      near = omega (arith, before-deadline before w (before-facts before w (q .1)), f .near);
       ordered = and-both (comesBefore before w) (isInOrder (w ∷ ws)) (q .1) (f .ordered);
       ahead =
           and-both (isAhead (head .clock) (w .deadline)) (every (λ v. isAhead (head .clock) (v .deadline)) ws)
-          (and-both (leb (suc (head .clock)) (w .deadline)) (leb (w .deadline) (head .clock + mostAhead)) (q .0 .0 .0 .0 .0)
-          (q .0 .0 .0 .0 .1)) (f .ahead);
+          (within-test (suc (head .clock)) (head .clock + mostAhead) (w .deadline)
+          (room-past head i (w .deadline) (ltb-true i (roomTo head (w .deadline)) (q .0 .1))) (f .near)) (f .ahead);
       given =
           and-both (isGiven (head .last) (w .number)) (every (λ v. isGiven (head .last) (v .number)) ws)
-          (and-both (leb 1 (w .number)) (leb (w .number) (head .last)) (q .0 .0 .0 .1 .0) (q .0 .0 .0 .1 .1)) (f .given);
+          (and-both (leb 1 (w .number)) (leb (w .number) (head .last)) (q .0 .0 .0 .0) (q .0 .0 .0 .1)) (f .given);
       owned =
           and-both (isClient (head .clients) (w .client)) (every (λ v. isClient (head .clients) (v .client)) ws)
           (q .0 .0 .1) (f .owned);
@@ -129,15 +148,22 @@ next-facts head i before (w ∷ ws) e =
 next-test : (head : Head) (i : ℕ) (before : Request) (ws : List Request) → Found head i before ws
     → areNext head i before ws ≡ true
 unfolding areNext isNext every isInOrder
-next-test head i before [] f = refl
+next-test head i before [] f = le-leb (before .deadline) (head .clock + mostAhead) (f .near)
 next-test head i before (w ∷ ws) f =
     let o = and-eq-true-iff (comesBefore before w) (isInOrder (w ∷ ws)) .0 (f .ordered) in
     let a = every-cons (λ (v : Request). isAhead (head .clock) (v .deadline)) w ws (f .ahead) in
     let g = every-cons (λ (v : Request). isGiven (head .last) (v .number)) w ws (f .given) in
     let c = every-cons (λ (v : Request). isClient (head .clients) (v .client)) w ws (f .owned) in
     let r = next-test head (suc i) w ws
-    (record { ordered = o .1; ahead = a .1; given = g .1; owned = c .1; roomy = f .roomy .1 }) in
-    rw (a .0, g .0, c .0, lt-ltb i (roomTo head (w .deadline)) (f .roomy .0), o .0) r
+    (record {
+      near = within-facts (suc (head .clock)) (head .clock + mostAhead) (w .deadline) (a .0) .1;
+      ordered = o .1;
+      ahead = a .1;
+      given = g .1;
+      owned = c .1;
+      roomy = f .roomy .1;
+    }) in
+    rw (g .0, c .0, lt-ltb i (roomTo head (w .deadline)) (f .roomy .0), o .0) r
 
 -- a record that is zero stands before all that have their deadlines ahead
 first-order : (clock : ℕ) (ws : List Request) → every (λ w. isAhead clock (w .deadline)) ws ≡ true
@@ -161,6 +187,7 @@ passes : (head : Head) (ws : List Request) → isInOrder ws ≡ true → every (
     → hasNoOverfull head ws ≡ true → Found head 0 zeroRequest ws
 passes head ws o a g c f =
     record {
+      near = omega arith;
       ordered = first-order (head .clock) ws a ∙ o;
       ahead = a;
       given = g;

@@ -27,7 +27,7 @@ pub fn is_sound(
         return false;
     }
     let n = head.waiting as usize;
-    let mut tally = [0u32; 256];
+    let mut tally = [0u32; 512];
     if !crate::tables::are_next(head, deadlines, numbers, clients, n, &mut tally) {
         return false;
     }

@@ -2,10 +2,12 @@
 use spec::types::Counts;
 use spec::types::Head;
 use spec::types::Request;
+ghost use Prim.Native.Nat.{_+_, _≤_};
 ghost use mathlib.Core.Path.{_≡_};
+ghost use Rattle.spec.specs.Tables.{mostRecords, clockEnd};
 ghost use Rattle.spec.specs.Order.{comesBefore};
-ghost use Rattle.spec.specs.Sound.{isHeadWithin, isZeroRequest};
-ghost use Rattle.sound.specs.Checks.{hasShape, isNext, doesBalance};
+ghost use Rattle.spec.specs.Sound.{isHeadWithin};
+ghost use Rattle.sound.specs.Checks.{hasShape, isNext, isNear, doesBalance};
 
 // Whether a comes before b in chart order.
 pub fn comes_before(a: Request, b: Request) -> bool
@@ -22,14 +24,9 @@ pub fn comes_before(a: Request, b: Request) -> bool
 
 // Whether w can stand at the index i, behind the record before it.
 pub fn is_next(head: Head, i: u64, before: Request, w: Request) -> bool
+    requires { ⌜ (head .clock ≤ clockEnd) × (i ≤ mostRecords) ⌝ }
     ensures { λ r. ⌜ r ≡ isNext head i before w ⌝ }
 {
-    if w.deadline <= head.clock {
-        return false;
-    }
-    if 65535 < w.deadline - head.clock {
-        return false;
-    }
     if w.number < 1 {
         return false;
     }
@@ -39,24 +36,26 @@ pub fn is_next(head: Head, i: u64, before: Request, w: Request) -> bool
     if head.clients <= w.client {
         return false;
     }
-    if columns::rows::room_to(head, w.deadline) <= i {
+    if !columns::rows::has_room(head, i, w.deadline) {
         return false;
     }
     comes_before(before, w)
 }
 
-// Whether nothing stands in a record.
-pub fn is_zero(w: Request) -> bool
-    ensures { λ r. ⌜ r ≡ isZeroRequest w ⌝ }
+// Whether a deadline is past the clock by at most 65,535.
+pub fn is_near(head: Head, deadline: u64) -> bool
+    requires { ⌜ head .clock ≤ clockEnd ⌝ }
+    ensures { λ r. ⌜ r ≡ isNear head deadline ⌝ }
 {
-    (w.deadline == 0) & (w.number == 0) & (w.client == 0)
+    deadline <= head.clock + 65535
 }
 
-// Whether a client's counts balance with so many waiting. The sum is of 64 bits, where it cannot wrap.
-pub fn does_balance(k: Counts, waits: u32) -> bool
-    ensures { λ r. ⌜ r ≡ doesBalance k waits ⌝ }
+// Whether a client's counts balance with those waiting, counted in two parts. The sum is of 64 bits, where it cannot wrap.
+pub fn does_balance(k: Counts, even: u32, odd: u32) -> bool
+    ensures { λ r. ⌜ r ≡ doesBalance k (even + odd) ⌝ }
 {
-    let all = k.served as u64 + k.dropped as u64 + waits as u64;
+    let waits = even as u64 + odd as u64;
+    let all = k.served as u64 + k.dropped as u64 + waits;
     (k.submitted as u64 == all) & (k.submitted <= 268435455)
 }
 

@@ -5,7 +5,8 @@ use mathlib.Core.List.{_++_}
 use native.Mathlib.Omega.{arith}
 use lib.ListN.{length, getD, take, drop, take-append-drop, length-set}
 use borrow.Author.Needs.{needs}
-use Rattle.columns.specs.Slots.{startSlots, largest}
+use Rattle.columns.specs.Charted.{startSlots}
+use Rattle.columns.specs.Columns.{largest64}
 use Rattle.columns.proofs.Drawing.{starts-none, starts-more, set-last}
 use Rattle.columns.proofs.chart.write_starts.Statement.{statement}
 use Rattle.columns.proofs.chart.write_starts.Tie as tie
@@ -15,7 +16,7 @@ Inv-loop deadlines n output₀ i₀ next₀ output i next =
     (i ≤ n)
     × (length output ≡ length output₀)
     × (output ≡ take i output₀ ++ (startSlots (drop i (take n deadlines)) ++ drop n output₀))
-    × (next ≡ getD (startSlots (drop i (take n deadlines))) 0 largest)
+    × (next ≡ getD (startSlots (drop i (take n deadlines))) 0 largest64)
 
 abbrev μ-loop : tie.MeasureT-loop
 μ-loop deadlines n output₀ i₀ next₀ output i next = i

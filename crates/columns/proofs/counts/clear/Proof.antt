@@ -5,7 +5,7 @@ use mathlib.Core.List.{_++_}
 use native.Mathlib.Omega.{arith}
 use lib.ListN.{length, drop, replicate, length-set}
 use borrow.Author.Needs.{needs}
-use Rattle.columns.proofs.Drawing.{cleared-more, cleared-all}
+use Rattle.columns.proofs.Counting.{cleared-more, cleared-all}
 use Rattle.columns.proofs.counts.clear.Statement.{statement}
 use Rattle.columns.proofs.counts.clear.Tie as tie
 

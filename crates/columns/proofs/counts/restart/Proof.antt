@@ -1,6 +1,5 @@
 -- `columns::counts::restart` meets its contract. Assumes nothing.
 use borrow.Author.Needs.{needs}
-use Rattle.columns.proofs.Fields.{restart-columns}
 use Rattle.columns.proofs.counts.restart.Statement.{statement}
 use Rattle.columns.proofs.counts.restart.Tie as tie
 
@@ -23,14 +22,12 @@ same-length-3 : tie.Need-same-length-3
 same-length-3 c = search needs
 
 returns : tie.Need-returns
-returns c ws e =
-    rw (
-      c .before .before .before .before .before .before .before .before .before .before .recount .ensures,
-      c .before .before .before .before .before .before .clear .ensures,
-      c .before .before .clear2 .ensures,
-      ← e,
-    )
-    (restart-columns ws 0 _ _ _)
+returns c =
+    record {
+      counted = c .before .before .before .before .before .before .before .before .before .before .recount .ensures;
+      none-served = c .before .before .before .before .before .before .clear .ensures;
+      none-dropped = c .before .before .clear2 .ensures;
+    }
 
 pub restart-spec : {M : Type 1} → statement M
 restart-spec =

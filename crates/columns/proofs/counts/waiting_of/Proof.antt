@@ -5,8 +5,8 @@ use mathlib.Core.Logic.{⊎-elim}
 use native.Mathlib.Omega.{arith}
 use lib.ListN.{take, drop}
 use borrow.Author.Needs.{needs}
-use Rattle.columns.specs.Slots.{waitingIn}
-use Rattle.columns.proofs.Drawing.{waiting-yes, waiting-no, waiting-none}
+use Rattle.columns.specs.Scans.{waitingIn}
+use Rattle.columns.proofs.Counting.{waiting-yes, waiting-no, waiting-none}
 use Rattle.columns.proofs.counts.waiting_of.Statement.{statement}
 use Rattle.columns.proofs.counts.waiting_of.Tie as tie
 

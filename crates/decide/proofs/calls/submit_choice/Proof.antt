@@ -26,14 +26,14 @@ smallest-ratio-place-requires c κs = search needs
 returns : tie.Need-returns
 returns c s h a =
     let m = c .before .before in
-    choice-keeps _ _ _ _ _ _ s h _ _ a _ (m .before .due-by .ensures .1 (column-sorted _ _ _ _ _ _ s h _ _ a))
+    choice-keeps h _ _ a _ (m .before .due-by .ensures .1 (column-sorted h _ _ a))
     (sym (c .enum-told .given .1) ∙ m .first-overfull .ensures)
 
 returns-2 : tie.Need-returns-2
 returns-2 c s h a =
     let m = c .before .before .before .before .before in
-    let o = column-sorted _ _ _ _ _ _ s h _ _ a in
-    choice-drops _ _ _ _ _ _ s h _ _ a _ (m .before .due-by .ensures .1 o) _ _ _
+    let o = column-sorted h _ _ a in
+    choice-drops h _ _ a _ (m .before .due-by .ensures .1 o) _ _ _
     (sym (c .before .before .before .found .given .1) ∙ m .first-overfull .ensures) (c .before .due-by2 .ensures .1 o)
     (c .smallest-ratio-place .ensures)
 

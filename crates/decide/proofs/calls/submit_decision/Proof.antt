@@ -15,7 +15,7 @@ submit-choice-requires : tie.Need-submit-choice-requires
 submit-choice-requires c κs =
     let r = submit-ready _ _ _ (accepted _ (c .before .submit-refusal .ensures) (c .if1 .left)) in
     let f = fits _ _ _ _ _ _ _ (r .ready) in
-    (f .0, f .2, f .3, small _ _ _ _ _ _ _ _ _ r)
+    (f .0, f .2, small _ _ _ _ _ _ _ _ _ r)
 
 returns-2 : tie.Need-returns-2
 returns-2 c =

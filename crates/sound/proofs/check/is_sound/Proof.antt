@@ -9,9 +9,9 @@ use denote.Ref.{now}
 use lib.ListN.{length}
 use lib.Seq.{take-length}
 use Rattle.spec.specs.Every.{every, everyFrom}
-use Rattle.spec.specs.Tables.{mostClients, zeroRequest, State, waiting, behind}
+use Rattle.spec.specs.Tables.{zeroRequest, State, waiting, behind}
 use Rattle.spec.specs.Sound.{isHeadWithin, isZeroRequest, isBalanced}
-use Rattle.spec.proofs.Laws.Sound.{Shaped, head-facts}
+use Rattle.spec.proofs.Laws.Sound.{Shaped, HeadWithin, head-facts}
 use Rattle.columns.specs.Columns.{requestOf, countOf, stateOf}
 use Rattle.columns.proofs.Laws.{length-rows}
 use Rattle.sound.specs.Checks.{areNext}
@@ -40,8 +40,8 @@ start c = c .before .before .before .before .before .before .before .before
 headed : (c : tie.Else1) → isHeadWithin (state (start c) .head) ≡ true
 headed c = sym (c .before .is-head-within .ensures) ∙ not-false _ (c .if1 .left)
 
-most : (c : tie.Else1) → state (start c) .head .clients ≤ mostClients
-most c = head-facts (state (start c) .head) (headed c) .most-clients
+bounds : (c : tie.Else1) → HeadWithin (state (start c) .head)
+bounds c = head-facts (state (start c) .head) (headed c)
 
 -- behind the second: the waiting records pass
 passed : (c : tie.Else2) →
@@ -63,7 +63,7 @@ balanced c =
     (balanced-tally (waiting (state s)) _ (state s .head .clients) (state s .clientTable)
     (c .before .before .before .before .before .before .are-next .ensures .tallied
     (not-false _ (c .before .before .before .before .before .if2 .left)))
-    (shaped s .clients) (most (c .before .before .before .before .before .before .before .before))) at
+    (shaped s .clients) (bounds (c .before .before .before .before .before .before .before .before) .most-clients)) at
     (c .are-balanced .ensures)
 
 is-head-within-requires : tie.Need-is-head-within-requires
@@ -75,7 +75,8 @@ returns c = rw (sound-pass, sym (c .before .is-head-within .ensures) ∙ not-tru
 are-next-requires : tie.Need-are-next-requires
 are-next-requires c κs =
     let f = shaped (start (c .before)) in
-    (rows-reach requestOf _ _ _ _ (f .waits), ((omega arith, most (c .before)), refl))
+    let h = bounds (c .before) in
+    (rows-reach requestOf _ _ _ _ (f .waits), ((omega arith, h .most-clients, h .clock), refl))
 
 returns-2 : tie.Need-returns-2
 returns-2 c = simp (sound-pass, sym (c .before .are-next .ensures .verdict) ∙ not-true _ (c .if2 .taken), and-false)
@@ -93,7 +94,7 @@ are-balanced-requires : tie.Need-are-balanced-requires
 are-balanced-requires c κs =
     let s = c .before .before .before .before .before .before .before in
     let r = rows-reach countOf _ _ _ _ (accounts (start s)) in
-    (r .0, r .1, r .2, most s)
+    (r .0, r .1, r .2, bounds s .most-clients)
 
 returns-4 : tie.Need-returns-4
 returns-4 c = simp (sound-pass, sym (balanced (c .before)) ∙ not-true _ (c .if4 .taken), and-false)

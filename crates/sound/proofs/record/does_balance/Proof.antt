@@ -4,6 +4,9 @@ use Rattle.sound.specs.Checks.{doesBalance}
 use Rattle.sound.proofs.record.does_balance.Statement.{statement}
 use Rattle.sound.proofs.record.does_balance.Tie as tie
 
+add-waits : tie.Need-add-waits
+add-waits c = search needs
+
 cast-all : tie.Need-cast-all
 cast-all c = search needs
 
@@ -24,4 +27,4 @@ unfolding doesBalance
 returns c = search needs
 
 pub does-balance-spec : {M : Type 1} → statement M
-does-balance-spec = tie.close (tie.spec cast-all cast-all-2 add-all add-all-2 cast-result returns)
+does-balance-spec = tie.close (tie.spec add-waits cast-all cast-all-2 add-all add-all-2 cast-result returns)

@@ -6,11 +6,11 @@ use mathlib.Core.List.{List}
 use native.Mathlib.Omega.{arith}
 use borrow.Author.Needs.{needs}
 use denote.Ref.{now}
-use lib.ListN.{getD, take, drop}
+use lib.ListN.{take, drop}
 use Rattle.spec.specs.declared.types.Counts.{Counts}
 use Rattle.spec.specs.Every.{everyFrom}
 use Rattle.columns.specs.Columns.{countOf, countsOf}
-use Rattle.sound.specs.Checks.{doesBalance}
+use Rattle.sound.specs.Checks.{talliedOf, doesBalance}
 use Rattle.sound.proofs.Laws.{left-cons, left-none, verdict-end, from-turn}
 use Rattle.sound.proofs.tables.are_balanced.Statement.{statement}
 use Rattle.sound.proofs.tables.are_balanced.Tie as tie
@@ -19,7 +19,7 @@ abbrev table : List ℕ → List ℕ → List ℕ → ℕ → List Counts
 table submitted served dropped n = take n (countsOf submitted served dropped)
 
 abbrev test : List ℕ → ℕ → Counts → Bool
-test tally c k = doesBalance k (getD tally c 0)
+test tally c k = doesBalance k (talliedOf tally c)
 
 -- the verdict so far, with that on the clients left, is that on all
 abbrev Inv-loop : tie.InvT-loop
@@ -39,12 +39,6 @@ mul-t10 c = search needs
 shared-slice-read-t12 : tie.Need-shared-slice-read-t12 Inv-loop μ-loop
 shared-slice-read-t12 c = search needs
 
-mul-t13 : tie.Need-mul-t13 Inv-loop μ-loop
-mul-t13 c = search needs
-
-shared-slice-read-t15 : tie.Need-shared-slice-read-t15 Inv-loop μ-loop
-shared-slice-read-t15 c = search needs
-
 mul-does-balance : tie.Need-mul-does-balance Inv-loop μ-loop
 mul-does-balance c = search needs
 
@@ -54,8 +48,23 @@ shared-slice-read-does-balance c = search needs
 mul-does-balance-2 : tie.Need-mul-does-balance-2 Inv-loop μ-loop
 mul-does-balance-2 c = search needs
 
+shared-slice-read-does-balance-2 : tie.Need-shared-slice-read-does-balance-2 Inv-loop μ-loop
+shared-slice-read-does-balance-2 c = search needs
+
+mul-does-balance-3 : tie.Need-mul-does-balance-3 Inv-loop μ-loop
+mul-does-balance-3 c = search needs
+
 element-copy-out-does-balance : tie.Need-element-copy-out-does-balance Inv-loop μ-loop
 element-copy-out-does-balance c = search needs
+
+add-does-balance : tie.Need-add-does-balance Inv-loop μ-loop
+add-does-balance c = search needs
+
+mul-does-balance-4 : tie.Need-mul-does-balance-4 Inv-loop μ-loop
+mul-does-balance-4 c = search needs
+
+element-copy-out-does-balance-2 : tie.Need-element-copy-out-does-balance-2 Inv-loop μ-loop
+element-copy-out-does-balance-2 c = search needs
 
 does-balance-requires : tie.Need-does-balance-requires Inv-loop μ-loop
 does-balance-requires c κs = search needs
@@ -68,8 +77,8 @@ loop-less c = search needs
 
 loop-again : tie.Need-loop-again Inv-loop μ-loop
 loop-again c =
-    let a = c .before .before .before .before .before .before .before .before .before .before .args in
-    let l = c .before .before .before .before .before .before .loop in
+    let a = c .before .before .before .before .before .before .before .before .before .before .before .args in
+    let l = c .before .before .before .before .before .before .before .loop in
     rw (c .does-balance .ensures)
     (from-turn (l .balanced) _ _ _ _
     (left-cons countOf (now (a .submitted)) (now (a .served)) (now (a .dropped)) (a .n) (l .i)
@@ -95,12 +104,15 @@ are-balanced-spec =
     loop-holds
     mul-t10
     shared-slice-read-t12
-    mul-t13
-    shared-slice-read-t15
     mul-does-balance
     shared-slice-read-does-balance
     mul-does-balance-2
+    shared-slice-read-does-balance-2
+    mul-does-balance-3
     element-copy-out-does-balance
+    add-does-balance
+    mul-does-balance-4
+    element-copy-out-does-balance-2
     does-balance-requires
     add-i
     loop-less

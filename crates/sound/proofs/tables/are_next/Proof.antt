@@ -1,7 +1,7 @@
 -- `sound::tables::are_next` meets its contract. Assumes nothing.
 use Prim.Native.Nat.{ℕ, _-_, _+_, _≤_}
 use mathlib.Core.Path.{_≡_, refl, sym, _∙_}
-use mathlib.Core.Bool.{_&&_, true, false, false≢true}
+use mathlib.Core.Bool.{_&&_, false≢true}
 use mathlib.Core.List.{List, _∷_}
 use native.Mathlib.Omega.{arith}
 use borrow.Author.Needs.{needs}
@@ -83,8 +83,10 @@ shared-slice-read-step c = search needs
 
 step-requires : tie.Need-step-requires Inv-loop μ-loop
 step-requires c κs =
-    let t = c .before .before .before .before in
-    (omega arith, omega (arith, few t, tally-most _ _ _ (t .before .loop .inv .1) (row t .client)))
+    let t = c .before .before .before .before in (
+      (omega arith, omega arith, omega arith),
+      λ h. omega (arith, few t, tally-most _ _ _ (t .before .loop .inv .1) (row t .client) h),
+    )
 
 returns : tie.Need-returns Inv-loop μ-loop
 returns c =
@@ -107,20 +109,23 @@ loop-again c =
     let r = not-false _ (c .if1 .left) in
     let p = sym (c .before .step .ensures .verdict) ∙ r in (
       rw p at (turn t),
-      tally-turn _ _ (row t) _ _ (rw (left t) at (t .before .loop .inv .1)) (omega (arith, next-client _ _ _ _ p))
+      tally-turn _ _ _ (row t) _ _ (rw (left t) at (t .before .loop .inv .1)) (omega (arith, next-client _ _ _ _ p))
           (rw r at (c .before .step .ensures .counted)),
     )
+
+is-near-requires : tie.Need-is-near-requires Inv-loop μ-loop
+is-near-requires c κs = search needs
 
 returns-2 : tie.Need-returns-2 Inv-loop μ-loop
 unfolding areNext
 returns-2 c =
-    let a = c .before .before .before .before .before .args in
+    let a = c .before .before .before .before .before .before .args in
+    let l = c .before .before .loop in
     let none =
-    left-none requestOf (now (a .deadlines)) (now (a .numbers)) (now (a .clients)) (a .n) (c .before .loop .i)
-    (c .loop-test .left) in
+    left-none requestOf (now (a .deadlines)) (now (a .numbers)) (now (a .clients)) (a .n) (l .i) (c .before .loop-test .left) in
     record {
-      verdict = rw none at (c .before .loop .inv .0);
-      tallied = λ e. tally-all _ _ (rw none at (c .before .loop .inv .1));
+      verdict = c .is-near .ensures ∙ (rw none at (l .inv .0));
+      tallied = λ e. tally-all _ _ (rw none at (l .inv .1));
     }
 
 pub are-next-spec : {M : Type 1} → statement M
@@ -141,4 +146,5 @@ are-next-spec =
     add-i
     loop-less
     loop-again
+    is-near-requires
     returns-2)

@@ -6,50 +6,48 @@ use mathlib.Core.List.{List}
 use native.Mathlib.Omega.{arith}
 use borrow.Author.Needs.{needs}
 use denote.Ref.{now}
+use lib.Dec.{eqb}
 use lib.ListN.{take, drop}
 use Rattle.spec.specs.declared.types.Request.{Request}
 use Rattle.spec.specs.Every.{every}
 use Rattle.spec.specs.Sound.{isZeroRequest}
 use Rattle.columns.specs.Columns.{requestOf, requestsOf}
-use Rattle.sound.proofs.Laws.{left-cons, left-none, verdict-end, every-turn}
+use Rattle.sound.proofs.Laws.{left-cons, left-none, verdict-end, every-turn, bits-zero}
 use Rattle.sound.proofs.tables.are_zero.Statement.{statement}
 use Rattle.sound.proofs.tables.are_zero.Tie as tie
 
 abbrev table : List ℕ → List ℕ → List ℕ → ℕ → List Request
 table deadlines numbers clients to = take to (requestsOf deadlines numbers clients)
 
--- the verdict so far, with that on the records left, is that on all
+-- no bit so far, with the verdict on the records left, is the verdict on all
 abbrev Inv-loop : tie.InvT-loop
-Inv-loop deadlines numbers clients from to zero₀ i₀ zero i =
-    (zero && every isZeroRequest (drop i (table deadlines numbers clients to)))
+Inv-loop deadlines numbers clients from to bits₀ i₀ bits i =
+    (eqb bits 0 && every isZeroRequest (drop i (table deadlines numbers clients to)))
     ≡ every isZeroRequest (drop from (table deadlines numbers clients to))
 
 abbrev μ-loop : tie.MeasureT-loop
-μ-loop deadlines numbers clients from to zero₀ i₀ zero i = to - i
+μ-loop deadlines numbers clients from to bits₀ i₀ bits i = to - i
 
 loop-holds : tie.Need-loop-holds Inv-loop μ-loop
 loop-holds c = refl
 
-mul-t10 : tie.Need-mul-t10 Inv-loop μ-loop
-mul-t10 c = search needs
+mul-bits : tie.Need-mul-bits Inv-loop μ-loop
+mul-bits c = search needs
 
-shared-slice-read-t12 : tie.Need-shared-slice-read-t12 Inv-loop μ-loop
-shared-slice-read-t12 c = search needs
+shared-slice-read-bits : tie.Need-shared-slice-read-bits Inv-loop μ-loop
+shared-slice-read-bits c = search needs
 
-mul-t13 : tie.Need-mul-t13 Inv-loop μ-loop
-mul-t13 c = search needs
+mul-bits-2 : tie.Need-mul-bits-2 Inv-loop μ-loop
+mul-bits-2 c = search needs
 
-shared-slice-read-t15 : tie.Need-shared-slice-read-t15 Inv-loop μ-loop
-shared-slice-read-t15 c = search needs
+shared-slice-read-bits-2 : tie.Need-shared-slice-read-bits-2 Inv-loop μ-loop
+shared-slice-read-bits-2 c = search needs
 
-mul-t16 : tie.Need-mul-t16 Inv-loop μ-loop
-mul-t16 c = search needs
+mul-bits-3 : tie.Need-mul-bits-3 Inv-loop μ-loop
+mul-bits-3 c = search needs
 
-shared-slice-read-t18 : tie.Need-shared-slice-read-t18 Inv-loop μ-loop
-shared-slice-read-t18 c = search needs
-
-is-zero-requires : tie.Need-is-zero-requires Inv-loop μ-loop
-is-zero-requires c κs = search needs
+shared-slice-read-bits-3 : tie.Need-shared-slice-read-bits-3 Inv-loop μ-loop
+shared-slice-read-bits-3 c = search needs
 
 add-i : tie.Need-add-i Inv-loop μ-loop
 add-i c = search needs
@@ -59,10 +57,10 @@ loop-less c = search needs
 
 loop-again : tie.Need-loop-again Inv-loop μ-loop
 loop-again c =
-    let a = c .before .before .before .before .before .before .before .before .before .args in
-    let l = c .before .before .before .before .before .loop in
-    rw (c .is-zero .ensures)
-    (every-turn (l .zero) _ _ _ _
+    let a = c .before .before .before .before .before .args in
+    let l = c .before .before .before .before .loop in
+    rw (bits-zero (l .bits))
+    (every-turn (eqb (l .bits) 0) _ _ _ _
     (left-cons requestOf (now (a .deadlines)) (now (a .numbers)) (now (a .clients)) (a .to) (l .i)
     (omega arith) (omega arith) (omega arith) (omega arith))
     isZeroRequest (l .inv))
@@ -70,7 +68,7 @@ loop-again c =
 returns : tie.Need-returns Inv-loop μ-loop
 unfolding every
 returns c =
-    let a = c .before .before .before .before .before .args in
+    let a = c .before .before .args in
     verdict-end _ _ _
     (ap (every isZeroRequest)
     (left-none requestOf (now (a .deadlines)) (now (a .numbers)) (now (a .clients)) (a .to) (c .before .loop .i)
@@ -84,13 +82,12 @@ are-zero-spec =
     Inv-loop
     μ-loop
     loop-holds
-    mul-t10
-    shared-slice-read-t12
-    mul-t13
-    shared-slice-read-t15
-    mul-t16
-    shared-slice-read-t18
-    is-zero-requires
+    mul-bits
+    shared-slice-read-bits
+    mul-bits-2
+    shared-slice-read-bits-2
+    mul-bits-3
+    shared-slice-read-bits-3
     add-i
     loop-less
     loop-again

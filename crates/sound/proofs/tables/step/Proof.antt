@@ -4,8 +4,9 @@ use mathlib.Core.Path.{refl, sym, _∙_}
 use native.Mathlib.Omega.{arith}
 use borrow.Author.Needs.{needs}
 use borrow.Author.Tests.{not-true, not-false}
+use denote.Ref.{now}
 use Rattle.spec.specs.Tables.{mostClients}
-use Rattle.sound.proofs.Laws.{next-client}
+use Rattle.sound.proofs.Laws.{next-client, place-most}
 use Rattle.sound.proofs.tables.step.Statement.{statement}
 use Rattle.sound.proofs.tables.step.Tie as tie
 
@@ -19,24 +20,39 @@ is-next-requires c κs = search needs
 returns : tie.Need-returns
 returns c = record { verdict = sym (not-true _ (c .if1 .taken)) ∙ c .before .is-next .ensures; counted = refl }
 
+mul-at : tie.Need-mul-at
+mul-at c = search needs
+
+add-at : tie.Need-add-at
+add-at c = omega (arith, owned (c .before))
+
 mul-tally : tie.Need-mul-tally
-mul-tally c = omega (arith, owned c)
+mul-tally c = omega (arith, owned (c .before))
 
 element-copy-out-tally : tie.Need-element-copy-out-tally
-element-copy-out-tally c = owned c
+element-copy-out-tally c = omega (arith, owned (c .before))
 
 add-tally : tie.Need-add-tally
-add-tally c = search needs
+add-tally c =
+    let a = c .before .before .before .before .args in
+    omega (
+      arith,
+      place-most (now (a .tally)) (a .i) (a .w .client),
+      c .before .before .before .before .pre .1 (owned (c .before .before)),
+    )
 
 mul-tally-2 : tie.Need-mul-tally-2
-mul-tally-2 c = omega (arith, owned (c .before))
+mul-tally-2 c = omega (arith, owned (c .before .before))
 
 element-write-tally : tie.Need-element-write-tally
-element-write-tally c = owned (c .before)
+element-write-tally c = omega (arith, owned (c .before .before))
 
 returns-2 : tie.Need-returns-2
 returns-2 c =
-    record { verdict = sym (not-false _ (c .before .if1 .left)) ∙ c .before .before .is-next .ensures; counted = refl }
+    record {
+      verdict = sym (not-false _ (c .before .before .if1 .left)) ∙ c .before .before .before .is-next .ensures;
+      counted = refl;
+    }
 
 pub step-spec : {M : Type 1} → statement M
 step-spec =
@@ -44,6 +60,8 @@ step-spec =
     (tie.spec
     is-next-requires
     returns
+    mul-at
+    add-at
     mul-tally
     element-copy-out-tally
     add-tally
