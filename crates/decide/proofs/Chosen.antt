@@ -17,15 +17,15 @@ use Rattle.spec.specs.Tables.{zeroRequest, zeroCounts, State, waiting}
 use Rattle.spec.specs.Order.{placeOf, putInOrder}
 use Rattle.spec.specs.Chart.{roomTo, dueBy, hasNoOverfull, Search}
 use Rattle.spec.specs.Victim.{isCandidate, candidatesFrom, candidates, keepIf, countsAt, betterOf, smallestOf, victimOf}
-use Rattle.spec.proofs.Laws.Order.{InOrder, before}
+use Rattle.spec.proofs.Laws.Order.{InOrder}
 use Rattle.spec.proofs.Laws.Feasible.{due-yes, due-no, dueBy-cons, dueBy-none, dueBy-put, Feasible, Verdict, fine, over}
 use Rattle.spec.proofs.Laws.Feasible.{verdict, feasible-facts, feasible-test}
 use Rattle.spec.proofs.Calls.Fair.{candidate-finish, finish-candidate, helps-exactly, new-ordered}
 use Rattle.spec.specs.Calls.{newRequest, countedIn, withNew, victimPlace}
 use Rattle.spec.proofs.Laws.Sound.{Given}
 use Rattle.spec.proofs.Laws.Accepted.{SubmitReady}
-use Rattle.spec.proofs.Laws.Every.{value, is-true, is-false}
-use Rattle.sound.proofs.Pass.{Roomy, feasible-roomy, same-test}
+use Rattle.spec.proofs.Laws.Every.{value, is-true, is-false, same-test}
+use Rattle.spec.proofs.Laws.Places.{Roomy, feasible-roomy}
 use Rattle.columns.specs.declared.search.Overfull.{Overfull}
 use Rattle.columns.specs.declared.search.Overfull.the-variants.{None, At}
 use Rattle.columns.proofs.Fields.{column-insert}

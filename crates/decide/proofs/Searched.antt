@@ -18,7 +18,7 @@ use Rattle.spec.proofs.Laws.Order.{before-deadline}
 use Rattle.spec.proofs.Laws.Feasible.{due-yes, due-no, dueBy-cons, dueBy-none, Verdict, fine, over, verdict, feasible-test}
 use Rattle.spec.proofs.Laws.Every.{all-two, count-most}
 use Rattle.spec.proofs.Laws.Room.{room-mono}
-use Rattle.sound.proofs.Pass.{Roomy, feasible-roomy}
+use Rattle.spec.proofs.Laws.Places.{Roomy, feasible-roomy}
 use Rattle.columns.specs.declared.search.Overfull.{Overfull}
 use Rattle.columns.specs.declared.search.Overfull.the-variants.{None, At}
 use Rattle.columns.specs.Scans.{Sorted, overfullFrom}

@@ -11,7 +11,7 @@ use native.Mathlib.Omega.{arith}
 use borrow.Author.Tests.{leb-true, leb-false, ltb-true, eqb-true, lt-ltb, le-ltb, ne-eqb}
 use lib.Bits.{bitOr, or-add-and, and-le-r}
 use lib.Dec.{leb, ltb, eqb}
-use lib.ListN.{length, getD, take, drop, set, replicate, length-take, length-set, length-replicate, getD-replicate}
+use lib.ListN.{length, getD, take, drop, replicate, length-take, length-set, length-replicate, getD-replicate}
 use lib.ListN.{drop-of-length-le}
 use Rattle.slots.proofs.Laws.Tests.{le, gt, order}
 use lib.Seq.{take-all, drop-cons, getD-take, getD-set-same, getD-set-other}

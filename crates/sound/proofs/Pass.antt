@@ -1,99 +1,31 @@
 -- One pass finds what soundness asks of the waiting records: an overfull deadline shows at the last record that has it.
 -- Assumes nothing.
 use Prim.Native.Nat.{ℕ, suc, _+_, _≤_, _<_}
-use mathlib.Core.Path.{_≡_, refl, sym, ap, _∙_}
-use mathlib.Core.Bool.{Bool, true, false, not, _&&_, and-eq-true-iff}
+use mathlib.Core.Path.{_≡_, refl, sym, _∙_}
+use mathlib.Core.Bool.{Bool, true, _&&_, and-eq-true-iff}
 use mathlib.Core.List.{List, [], _∷_}
 use native.Mathlib.Omega.{arith}
 use borrow.Author.Tests.{leb-true, ltb-true, le-leb, lt-ltb}
 use lib.Dec.{leb}
 use Rattle.slots.proofs.Laws.Tests.{le, gt, order}
-use Rattle.slots.proofs.Laws.Sums.{All, all-imp, all-each}
 use Rattle.spec.specs.declared.types.Head.{Head}
 use Rattle.spec.specs.declared.types.Request.{Request}
 use Rattle.spec.specs.Every.{every, everyFrom}
 use Rattle.spec.specs.Tables.{mostAhead, zeroRequest, State, waiting, behind}
 use Rattle.spec.specs.Order.{comesBefore, isInOrder}
-use Rattle.spec.specs.Chart.{roomTo, dueBy, isOverfull, hasNoOverfull}
+use Rattle.spec.specs.Chart.{roomTo, hasNoOverfull}
 use Rattle.spec.specs.Sound.{isHeadWithin, isAhead, isGiven, isClient, isZeroRequest, isBalanced, isSound}
-use Rattle.spec.proofs.Laws.Every.{and-both, every-test, all-two}
-use Rattle.spec.proofs.Laws.Room.{room-mono, room-back}
-use Rattle.spec.proofs.Laws.Order.{Before, InOrder, before-facts, before-deadline, order-facts, before-test, earlier}
-use Rattle.spec.proofs.Laws.Feasible.{due-yes, dueBy-cons, Last, none-due, last-due, last, feasible-facts, roomy-test}
+use Rattle.spec.proofs.Laws.Every.{and-both, same-test}
+use Rattle.spec.proofs.Laws.Room.{room-back}
+use Rattle.spec.proofs.Laws.Order.{before-facts, before-deadline, order-facts, before-test, earlier}
 use Rattle.spec.proofs.Laws.Sound.{within-facts, within-test}
+use Rattle.spec.proofs.Laws.Places.{Roomy, roomy-feasible, feasible-roomy}
 use Rattle.sound.specs.Checks.{isNext, areNext}
-
--- two tests that pass together are the same
-pub same-test : (a b : Bool) → (a ≡ true → b ≡ true) → (b ≡ true → a ≡ true) → a ≡ b
-same-test true b f g = sym (f refl)
-same-test false true f g = g refl
-same-test false false f g = refl
 
 every-cons : (p : Request → Bool) (w : Request) (ws : List Request) → every p (w ∷ ws) ≡ true
     → (p w ≡ true) × (every p ws ≡ true)
 unfolding every
 every-cons p w ws e = and-eq-true-iff (p w) (every p ws) .0 e
-
--- ---- overfull deadlines, by place
--- each request, the first at the place i, has room for those before it and itself
-abbrev pub Roomy : Head → ℕ → List Request → Type 0
-Roomy head i [] = Unit {0}
-Roomy head i (w ∷ ws) = (i < roomTo head (w .deadline)) × Roomy head (suc i) ws
-
--- each deadline has room for i requests and those of these that are due by it
-abbrev Fits : Head → ℕ → List Request → Request → Type 0
-Fits head i ws v = i + dueBy (v .deadline) ws ≤ roomTo head (v .deadline)
-
--- with one more in front, which is due by all deadlines behind it
-fits-later : (head : Head) (i : ℕ) (w : Request) (ws : List Request) (v : Request) → w .deadline ≤ v .deadline
-    → Fits head i (w ∷ ws) v → Fits head (suc i) ws v
-fits-later head i w ws v h f = omega (arith, dueBy-cons (v .deadline) w ws, due-yes (v .deadline) w h)
-
-fits-front : (head : Head) (i : ℕ) (w : Request) (ws : List Request) (v : Request) → w .deadline ≤ v .deadline
-    → Fits head (suc i) ws v → Fits head i (w ∷ ws) v
-fits-front head i w ws v h f = omega (arith, dueBy-cons (v .deadline) w ws, due-yes (v .deadline) w h)
-
-fits-roomy : (head : Head) (i : ℕ) (ws : List Request) → InOrder ws → All (Fits head i ws) ws → Roomy head i ws
-fits-roomy head i [] o f = tt
-fits-roomy head i (w ∷ ws) o f = (
-  omega (arith, f .0, dueBy-cons (w .deadline) w ws, due-yes (w .deadline) w (omega arith)),
-  fits-roomy head (suc i) ws (o .1)
-      (all-two (Before w) (Fits head i (w ∷ ws)) (Fits head (suc i) ws) ws
-      (λ v b g. fits-later head i w ws v (before-deadline w v b) g) (o .0) (f .1)),
-)
-
--- of those with the first one's deadline the last one counts them all
-first-fits : (head : Head) (i : ℕ) (w : Request) (ws : List Request) → i < roomTo head (w .deadline)
-    → Last (Fits head (suc i) ws) (w .deadline) ws → Fits head i (w ∷ ws) w
-first-fits head i w ws r (none-due e) =
-    omega (arith, dueBy-cons (w .deadline) w ws, due-yes (w .deadline) w (omega arith))
-first-fits head i w ws r (last-due v f l h) =
-    omega (
-      arith,
-      dueBy-cons (w .deadline) w ws,
-      due-yes (w .deadline) w (omega arith),
-      room-mono head (head .clock) (v .deadline) (w .deadline) l,
-    )
-
-roomy-fits : (head : Head) (i : ℕ) (ws : List Request) → InOrder ws → Roomy head i ws → All (Fits head i ws) ws
-roomy-fits head i [] o r = tt
-roomy-fits head i (w ∷ ws) o r =
-    let later = roomy-fits head (suc i) ws (o .1) (r .1) in (
-      first-fits head i w ws (r .0) (last (Fits head (suc i) ws) (w .deadline) ws later),
-      all-two (Before w) (Fits head (suc i) ws) (Fits head i (w ∷ ws)) ws
-          (λ v b g. fits-front head i w ws v (before-deadline w v b) g) (o .0) later,
-    )
-
-roomy-feasible : (head : Head) (ws : List Request) → InOrder ws → Roomy head 0 ws → hasNoOverfull head ws ≡ true
-unfolding hasNoOverfull
-roomy-feasible head ws o r =
-    every-test (λ w. not (isOverfull head ws (w .deadline))) ws
-    (all-imp (Fits head 0 ws) (λ (w : Request). not (isOverfull head ws (w .deadline)) ≡ true) ws
-    (λ w f. ap not (roomy-test head ws (w .deadline) (omega arith))) (roomy-fits head 0 ws o r))
-
-pub feasible-roomy : (head : Head) (ws : List Request) → InOrder ws → hasNoOverfull head ws ≡ true → Roomy head 0 ws
-feasible-roomy head ws o e =
-    fits-roomy head 0 ws o (all-each (Fits head 0 ws) ws (λ w. omega (arith, feasible-facts head ws e (w .deadline))))
 
 -- ---- the pass
 -- what it finds of the records from the place i on, behind the one before them

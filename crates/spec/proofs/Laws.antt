@@ -3,6 +3,7 @@ pub mod Every
 pub mod Order
 pub mod Room
 pub mod Feasible
+pub mod Places
 pub mod Entries
 pub mod Clients
 pub mod Sound
