@@ -1,4 +1,5 @@
--- What scans of the columns find: the first overfull deadline, the place of the smallest ratio, waiting counts. Assumes nothing.
+-- What scans of the columns find: the first overfull deadline, the place of the smallest ratio, waiting counts.
+-- Assumes nothing.
 use Prim.Native.Nat.{ℕ, zero, suc, _≤_, _<_}
 use mathlib.Core.Path.{_≡_}
 use mathlib.Core.Bool.{cond}

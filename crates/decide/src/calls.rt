@@ -1,4 +1,4 @@
-// What each call has to do, decided on the columns of the tables. The columns are the tables: as long as they are, and no longer.
+// What each call has to do, decided on the columns of the tables: these are the tables, just as long as they are.
 use crate::refusals;
 use crate::types::Decision;
 use columns::counts;
