@@ -29,8 +29,8 @@ use Rattle.spec.proofs.Laws.Clients.{of-yes, of-no, waitingOf-none, waitingOf-c
 use Rattle.spec.proofs.Laws.Sound.{within-test, Shaped}
 use Rattle.columns.specs.Columns.{rowsOf, requestOf}
 use Rattle.columns.proofs.Laws.{length-rows, getD-rows}
-use Rattle.sound.specs.Checks.{hasShape, isNext, areNext, doesBalance, Tallied, tallySize, talliedOf, tallyPlace, oneMore}
-use Rattle.sound.specs.Checks.{countedIf}
+use Rattle.sound.specs.Checks.{hasShape, isNext, areNext, doesBalance, tallySize, talliedOf, tallyPlace, oneMore}
+use Rattle.sound.specs.Checks.{countedIf, Countable, Tallied}
 
 -- ---- of a record that passes the other tests, only the order is left to ask
 pub next-order : (head : Head) (i : ℕ) (before w : Request)
@@ -117,30 +117,36 @@ unfolding areNext
 next-cons head i before w ws l e = rw (add-one i) (ap (areNext head i before) e)
 
 -- ---- a count per client of the requests passed: with those left it makes up all
-pub record Tallying (ws left : List Request) (tally : List ℕ) : Type 0 where
+pub record Tallying (tally₀ : List ℕ) (ws left : List Request) (tally : List ℕ) : Type 0 where
   pub size : length tally ≡ tallySize
-  pub at : (c : ℕ) → c < mostClients → talliedOf tally c + waitingOf c left ≡ waitingOf c ws
+  pub at : (c : ℕ) → c < mostClients → talliedOf tally c + waitingOf c left ≡ talliedOf tally₀ c + waitingOf c ws
 
-pub tally-none : (ws : List Request) → Tallying ws ws (replicate tallySize 0)
-tally-none ws =
-    record {
-      size = length-replicate {A = ℕ} tallySize 0;
-      at = λ c h. omega (
-        arith,
-        getD-replicate {A = ℕ} tallySize c 0 0 (omega arith),
-        getD-replicate {A = ℕ} tallySize (mostClients + c) 0 0 (omega arith),
-      );
-    }
+pub tally-none : (tally : List ℕ) (ws : List Request) → length tally ≡ tallySize → Tallying tally ws ws tally
+tally-none tally ws e = record { size = e; at = λ c h. refl }
 
-pub tally-all : (ws : List Request) (tally : List ℕ) → Tallying ws [] tally → Tallied ws tally
-tally-all ws tally t = record { size = t .size; at = λ c h. omega (arith, t .at c h, waitingOf-none c) }
+pub tally-all : (tally₀ : List ℕ) (ws : List Request) (tally : List ℕ) → Tallying tally₀ ws [] tally → Tallied ws tally₀ tally
+tally-all tally₀ ws tally t = record { at = λ c h. omega (arith, t .at c h, waitingOf-none c) }
 
--- no client's count is larger than the number of requests, nor is one of its two numbers
-pub tally-most : (ws left : List Request) (tally : List ℕ) → Tallying ws left tally → (c : ℕ) → c < mostClients
-    → talliedOf tally c ≤ length ws
+-- a client's count grew by no more than the number of requests
+pub tally-most : (tally₀ : List ℕ) (ws left : List Request) (tally : List ℕ) → Tallying tally₀ ws left tally
+    → (c : ℕ) → c < mostClients → talliedOf tally c ≤ talliedOf tally₀ c + length ws
 unfolding waitingOf
-tally-most ws left tally t c h = omega (arith, t .at c h, count-most (λ v. eqb (v .client) c) ws)
+tally-most tally₀ ws left tally t c h = omega (arith, t .at c h, count-most (λ v. eqb (v .client) c) ws)
 
+-- a count of zeros
+tally-zero : (c : ℕ) → c < mostClients → talliedOf (replicate tallySize 0) c ≡ 0
+tally-zero c h =
+    omega (
+      arith,
+      getD-replicate {A = ℕ} tallySize c 0 0 (omega arith),
+      getD-replicate {A = ℕ} tallySize (mostClients + c) 0 0 (omega arith),
+    )
+
+pub zero-countable : Countable (replicate tallySize 0)
+zero-countable =
+    record { size = length-replicate {A = ℕ} tallySize 0; most = λ c h. omega (arith, tally-zero c h) }
+
+-- neither of a client's two numbers is larger than their sum
 pub place-most : (tally : List ℕ) (i client : ℕ) → getD tally (tallyPlace i client) 0 ≤ talliedOf tally client
 place-most tally i client =
     elim (order (i % 2) 0) [
@@ -180,13 +186,14 @@ module _ (tally : List ℕ) (i client : ℕ) (h : client < mostClients) where
       )
 
 -- a record that passed is counted
-pub tally-turn : (ws left : List Request) (i : ℕ) (w : Request) (tally next : List ℕ) → Tallying ws (w ∷ left) tally
-    → w .client < mostClients → next ≡ countedIf true i w tally → Tallying ws left next
-tally-turn ws left i w tally next t h e =
+pub tally-turn : (tally₀ : List ℕ) (ws left : List Request) (i : ℕ) (w : Request) (tally next : List ℕ)
+    → Tallying tally₀ ws (w ∷ left) tally → w .client < mostClients → next ≡ countedIf true i w tally
+    → Tallying tally₀ ws left next
+tally-turn tally₀ ws left i w tally next t h e =
     rw e (record { size = simp length-set (t .size); at = λ c l. go c l (ℕ-discrete c (w .client)) })
   where
     go : (c : ℕ) → c < mostClients → Dec (c ≡ w .client)
-        → talliedOf (oneMore (tallyPlace i (w .client)) tally) c + waitingOf c left ≡ waitingOf c ws
+        → talliedOf (oneMore (tallyPlace i (w .client)) tally) c + waitingOf c left ≡ talliedOf tally₀ c + waitingOf c ws
     go c l (yes e) =
         rw e
         (omega (
@@ -214,12 +221,14 @@ from-same f g i (x ∷ xs) h =
     λ j. h i x (omega arith) j && from-same f g (suc i) xs (λ c y l. h c y (omega arith)) j
 
 pub balanced-tally : (ws : List Request) (tally : List ℕ) (n : ℕ) (cs : List Counts)
-    → Tallied ws tally → length cs ≡ n → n ≤ mostClients
+    → Tallied ws (replicate tallySize 0) tally → length cs ≡ n → n ≤ mostClients
     → everyFrom (λ c k. doesBalance k (talliedOf tally c)) 0 (take n cs) ≡ everyFrom (isBalanced ws) 0 cs
 unfolding doesBalance isBalanced
 balanced-tally ws tally n cs t e h =
     rw (take-all n cs (omega arith))
-    (from-same (λ c k. doesBalance k (talliedOf tally c)) (isBalanced ws) 0 cs (λ c k l. rw (t .at c (omega arith))))
+    (from-same (λ c k. doesBalance k (talliedOf tally c)) (isBalanced ws) 0 cs
+    (λ c k l.
+    let q : talliedOf tally c ≡ waitingOf c ws = omega (arith, t .at c (omega arith), tally-zero c (omega arith)) in rw q))
 
 -- ---- the shape of the tables
 abbrev pub shapeOf : State → Bool

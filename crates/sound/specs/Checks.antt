@@ -1,5 +1,5 @@
 -- The tests of one pass over the waiting records, and of one over the clients. Assumes nothing.
-use Prim.Native.Nat.{ℕ, suc, _+_, _*_, _%_, _<_}
+use Prim.Native.Nat.{ℕ, suc, _+_, _*_, _%_, _≤_, _<_}
 use mathlib.Core.Path.{_≡_}
 use mathlib.Core.Bool.{Bool, true, cond, _&&_}
 use mathlib.Core.List.{List, [], _∷_}
@@ -64,15 +64,19 @@ areNext head i before (w ∷ ws) = isNext head i before w && areNext head (suc i
 unfoldable pub doesBalance : Counts → ℕ → Bool
 doesBalance k waits = eqb (k .submitted) (k .served + k .dropped + waits) && leb (k .submitted) mostCounted
 
--- the count is of these requests
-pub record Tallied (ws : List Request) (tally : List ℕ) : Type 0 where
+-- a count per client has room for as many again as a table can have
+pub record Countable (tally : List ℕ) : Type 0 where
   pub size : length tally ≡ tallySize
-  pub at : (c : ℕ) → c < mostClients → talliedOf tally c ≡ waitingOf c ws
+  pub most : (c : ℕ) → c < mostClients → talliedOf tally c ≤ mostRecords
+
+-- a count per client with these requests counted
+pub record Tallied (ws : List Request) (tally₀ tally : List ℕ) : Type 0 where
+  pub at : (c : ℕ) → c < mostClients → talliedOf tally c ≡ talliedOf tally₀ c + waitingOf c ws
 
 -- what the pass over the records finds: whether they are as they should be, and then the count per client
-pub record Passed (head : Head) (ws : List Request) (r : Bool) (tally : List ℕ) : Type 0 where
+pub record Passed (head : Head) (ws : List Request) (tally₀ : List ℕ) (r : Bool) (tally : List ℕ) : Type 0 where
   pub verdict : r ≡ areNext head 0 zeroRequest ws
-  pub tallied : r ≡ true → Tallied ws tally
+  pub tallied : r ≡ true → Tallied ws tally₀ tally
 
 -- what the tables call for, before a call's own refusals: 4 or 5, or 0 where none of both matches
 unfoldable pub tablesRefusal : State → ℕ

@@ -4,19 +4,19 @@ use spec::types::Head;
 use spec::types::Request;
 ghost use Prim.Native.Nat.{_≤_, _<_};
 ghost use mathlib.Core.Path.{_≡_};
-ghost use lib.ListN.{length, take, drop, replicate};
+ghost use lib.ListN.{length, take, drop};
 ghost use Rattle.spec.specs.Every.{every, everyFrom};
 ghost use Rattle.spec.specs.Tables.{mostClients, mostRecords, clockEnd};
 ghost use Rattle.spec.specs.Sound.{isZeroRequest};
-ghost use Rattle.columns.specs.Columns.{requestsOf, countsOf};
-ghost use Rattle.sound.specs.Checks.{tallySize, talliedOf, doesBalance, Stepped, Passed};
+ghost use Rattle.columns.specs.Columns.{requestsOf, countsOf, largest32};
+ghost use Rattle.sound.specs.Checks.{talliedOf, doesBalance, Stepped, Countable, Passed};
 
 // One turn of the pass over the records: whether the record may stand at its index behind the one before it; if so it is
 // counted. The record comes by value, so that a pass over a table of records can take the same step. The tally has two halves,
 // used by turns: adding to one place twice in a row waits for the store. Measured, that doubled the time of a single client.
 pub fn step(head: Head, i: u64, before: Request, w: Request, tally: &mut [u32; 512]) -> bool
     requires { ⌜ (head .clients ≤ mostClients) × (head .clock ≤ clockEnd) × (i ≤ mostRecords) ⌝ }
-    requires { ⌜ (w .client < mostClients → talliedOf (now tally) (w .client) ≤ mostRecords) ⌝ }
+    requires { ⌜ (w .client < mostClients → talliedOf (now tally) (w .client) < largest32) ⌝ }
     ensures { λ r. ⌜ Stepped head i before w (now (tally .entry)) r (now (tally .exit)) ⌝ }
 {
     if !crate::record::is_next(head, i, before, w) {
@@ -39,9 +39,9 @@ pub fn are_next(
 ) -> bool
     requires { ⌜ (n ≤ length (now deadlines)) × (n ≤ length (now numbers)) × (n ≤ length (now clients)) ⌝ }
     requires { ⌜ (n ≤ mostRecords) × (head .clients ≤ mostClients) × (head .clock ≤ clockEnd) ⌝ }
-    requires { ⌜ now tally ≡ replicate tallySize 0 ⌝ }
-    ensures { λ r. ⌜ Passed head (take n (requestsOf (now (deadlines .entry)) (now (numbers .entry)) (now (clients .entry)))) r
-        (now (tally .exit)) ⌝ }
+    requires { ⌜ Countable (now tally) ⌝ }
+    ensures { λ r. ⌜ Passed head (take n (requestsOf (now (deadlines .entry)) (now (numbers .entry)) (now (clients .entry))))
+        (now (tally .entry)) r (now (tally .exit)) ⌝ }
 {
     let mut before = Request {
         deadline: 0,

@@ -1,6 +1,6 @@
 -- `sound::check::is_sound` meets its contract. Assumes nothing.
 use Prim.Native.Nat.{_≤_}
-use mathlib.Core.Path.{_≡_, refl, sym, _∙_}
+use mathlib.Core.Path.{_≡_, sym, _∙_}
 use mathlib.Core.Bool.{true, and-false}
 use native.Mathlib.Omega.{arith}
 use borrow.Author.Tests.{not-true, not-false}
@@ -15,7 +15,7 @@ use Rattle.spec.proofs.Laws.Sound.{Shaped, HeadWithin, head-facts}
 use Rattle.columns.specs.Columns.{requestOf, countOf, stateOf}
 use Rattle.columns.proofs.Laws.{length-rows}
 use Rattle.sound.specs.Checks.{areNext}
-use Rattle.sound.proofs.Laws.{rows-reach, shape-facts, balanced-tally}
+use Rattle.sound.proofs.Laws.{rows-reach, shape-facts, zero-countable, balanced-tally}
 use Rattle.sound.proofs.Pass.{sound-pass}
 use Rattle.sound.proofs.check.is_sound.Statement.{statement}
 use Rattle.sound.proofs.check.is_sound.Tie as tie
@@ -76,7 +76,7 @@ are-next-requires : tie.Need-are-next-requires
 are-next-requires c κs =
     let f = shaped (start (c .before)) in
     let h = bounds (c .before) in
-    (rows-reach requestOf _ _ _ _ (f .waits), ((omega arith, h .most-clients, h .clock), refl))
+    (rows-reach requestOf _ _ _ _ (f .waits), ((omega arith, h .most-clients, h .clock), zero-countable))
 
 returns-2 : tie.Need-returns-2
 returns-2 c = simp (sound-pass, sym (c .before .are-next .ensures .verdict) ∙ not-true _ (c .if2 .taken), and-false)

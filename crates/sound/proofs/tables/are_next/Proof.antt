@@ -25,7 +25,7 @@ abbrev Inv-loop : tie.InvT-loop
 Inv-loop head deadlines numbers clients n tally₀ before₀ i₀ tally before i =
     (areNext head i before (drop i (table deadlines numbers clients n))
     ≡ areNext head 0 zeroRequest (table deadlines numbers clients n))
-    × Tallying (table deadlines numbers clients n) (drop i (table deadlines numbers clients n)) tally
+    × Tallying tally₀ (table deadlines numbers clients n) (drop i (table deadlines numbers clients n)) tally
 
 abbrev μ-loop : tie.MeasureT-loop
 μ-loop head deadlines numbers clients n tally₀ before₀ i₀ tally before i = n - i
@@ -61,7 +61,7 @@ turn : (c : tie.In-loop Inv-loop μ-loop) →
 turn c = sym (next-cons _ _ _ _ _ _ (left c)) ∙ c .before .loop .inv .0
 
 loop-holds : tie.Need-loop-holds Inv-loop μ-loop
-loop-holds c = (refl, rw (c .before .before .before .pre .1 .1) (tally-none _))
+loop-holds c = (refl, tally-none _ _ (c .before .before .before .pre .1 .1 .size))
 
 mul-t11 : tie.Need-mul-t11 Inv-loop μ-loop
 mul-t11 c = search needs
@@ -85,7 +85,12 @@ step-requires : tie.Need-step-requires Inv-loop μ-loop
 step-requires c κs =
     let t = c .before .before .before .before in (
       (omega arith, omega arith, omega arith),
-      λ h. omega (arith, few t, tally-most _ _ _ (t .before .loop .inv .1) (row t .client) h),
+      λ h. omega (
+        arith,
+        few t,
+        tally-most _ _ _ _ (t .before .loop .inv .1) (row t .client) h,
+        t .before .before .before .before .before .pre .1 .1 .most (row t .client) h,
+      ),
     )
 
 returns : tie.Need-returns Inv-loop μ-loop
@@ -109,7 +114,7 @@ loop-again c =
     let r = not-false _ (c .if1 .left) in
     let p = sym (c .before .step .ensures .verdict) ∙ r in (
       rw p at (turn t),
-      tally-turn _ _ _ (row t) _ _ (rw (left t) at (t .before .loop .inv .1)) (omega (arith, next-client _ _ _ _ p))
+      tally-turn _ _ _ _ (row t) _ _ (rw (left t) at (t .before .loop .inv .1)) (omega (arith, next-client _ _ _ _ p))
           (rw r at (c .before .step .ensures .counted)),
     )
 
@@ -125,7 +130,7 @@ returns-2 c =
     left-none requestOf (now (a .deadlines)) (now (a .numbers)) (now (a .clients)) (a .n) (l .i) (c .before .loop-test .left) in
     record {
       verdict = c .is-near .ensures ∙ (rw none at (l .inv .0));
-      tallied = λ e. tally-all _ _ (rw none at (l .inv .1));
+      tallied = λ e. tally-all _ _ _ (rw none at (l .inv .1));
     }
 
 pub are-next-spec : {M : Type 1} → statement M
