@@ -9,11 +9,24 @@ use borrow.Author.Tests.{le-ltb, lt-ltb, lt-leb, eq-eqb, ne-eqb}
 use lib.ListN.{getD}
 use Rattle.spec.specs.Tables.{mostAhead, mostCounted, zeroCounts, State}
 use Rattle.spec.specs.Refusals.{submitRefusals, tickRefusals, reportRefusals, chartRefusals, Refusal, firstMatch, refusal4}
-use Rattle.spec.specs.Refusals.{refusal5, refusal6, refusal7, refusal8, refusal9, refusal10}
+use Rattle.spec.specs.Refusals.{refusal5, refusal6, refusal7, refusal8, refusal9, refusal10, refusal11, refusal12}
 use Rattle.spec.proofs.Laws.Sound.{within-test}
 use Rattle.spec.proofs.Laws.Accepted.{none-match}
 use Rattle.sound.specs.Checks.{tablesRefusal}
-use Rattle.decide.specs.Decisions.{submitOwn, tickOwn, reportOwn, chartOwn}
+
+-- the refusals of a call behind 4 and 5: those of document 01's list from 6 on
+abbrev submitOwn : ℕ → ℕ → State → List Refusal
+submitOwn client deadline s =
+    refusal6 client s ∷ refusal7 deadline s ∷ refusal8 client s ∷ refusal9 s ∷ refusal10 s ∷ []
+
+abbrev tickOwn : State → List Refusal
+tickOwn s = refusal11 s ∷ []
+
+abbrev reportOwn : ℕ → State → List Refusal
+reportOwn client s = refusal6 client s ∷ []
+
+abbrev chartOwn : List ℕ → State → List Refusal
+chartOwn output s = refusal12 output s ∷ []
 
 -- ---- one refusal of a list
 pub match-here : (r : Refusal) (rs : List Refusal) → r .holds ≡ true → r .number ≡ firstMatch (r ∷ rs)
@@ -53,19 +66,19 @@ module _
 
 pub submit-list : (client deadline : ℕ) (s : State)
     → submitRefusals client deadline s ≡ refusal4 s ∷ refusal5 s ∷ submitOwn client deadline s
-unfolding submitRefusals submitOwn
+unfolding submitRefusals
 submit-list client deadline s = refl
 
 pub tick-list : (s : State) → tickRefusals s ≡ refusal4 s ∷ refusal5 s ∷ tickOwn s
-unfolding tickRefusals tickOwn
+unfolding tickRefusals
 tick-list s = refl
 
 pub report-list : (client : ℕ) (s : State) → reportRefusals client s ≡ refusal4 s ∷ refusal5 s ∷ reportOwn client s
-unfolding reportRefusals reportOwn
+unfolding reportRefusals
 report-list client s = refl
 
 pub chart-list : (output : List ℕ) (s : State) → chartRefusals output s ≡ refusal4 s ∷ refusal5 s ∷ chartOwn output s
-unfolding chartRefusals chartOwn
+unfolding chartRefusals
 chart-list output s = refl
 
 -- ---- "6. Submit and report: the client does not exist."
@@ -87,28 +100,30 @@ fails7 : (deadline : ℕ) (s : State) → s .head .clock < deadline → deadline
 fails7 deadline s h g = ap not (within-test (suc (s .head .clock)) (s .head .clock + mostAhead) deadline h g)
 
 -- ---- submit's, one after the other
-module _ (client deadline : ℕ) (s : State) where
-  pub own6 : s .head .clients ≤ client → 6 ≡ firstMatch (submitOwn client deadline s)
-  unfolding submitOwn
-  own6 h = match-here (refusal6 client s) _ (holds6 client s h)
+module _ (client deadline : ℕ) (s : State) {tables : ℕ} (found : tables ≡ tablesRefusal s) (none : tables ≡ 0) where
+  after5 : {n : ℕ} → n ≡ firstMatch (submitOwn client deadline s) → n ≡ firstMatch (submitRefusals client deadline s)
+  after5 e = tables-pass s _ _ (submit-list client deadline s) found none e
+
+  pub own6 : s .head .clients ≤ client → 6 ≡ firstMatch (submitRefusals client deadline s)
+  own6 h = after5 (match-here (refusal6 client s) _ (holds6 client s h))
 
   module _ (exists : client < s .head .clients) where
     after6 : {n : ℕ} → n ≡ firstMatch (refusal7 deadline s ∷ refusal8 client s ∷ refusal9 s ∷ refusal10 s ∷ [])
-        → n ≡ firstMatch (submitOwn client deadline s)
-    unfolding submitOwn
-    after6 e = match-next (refusal6 client s) _ (fails6 client s exists) e
+        → n ≡ firstMatch (submitRefusals client deadline s)
+    after6 e = after5 (match-next (refusal6 client s) _ (fails6 client s exists) e)
 
-    pub own7 : refusal7 deadline s .holds ≡ true → 7 ≡ firstMatch (submitOwn client deadline s)
+    pub own7 : refusal7 deadline s .holds ≡ true → 7 ≡ firstMatch (submitRefusals client deadline s)
     own7 e = after6 (match-here (refusal7 deadline s) _ e)
 
     module _ (late : s .head .clock < deadline) (near : deadline ≤ s .head .clock + mostAhead) where
       after7 : {n : ℕ} → n ≡ firstMatch (refusal8 client s ∷ refusal9 s ∷ refusal10 s ∷ [])
-          → n ≡ firstMatch (submitOwn client deadline s)
+          → n ≡ firstMatch (submitRefusals client deadline s)
       after7 e = after6 (match-next (refusal7 deadline s) _ (fails7 deadline s late near) e)
 
-      pub own8 : getD (s .clientTable) client zeroCounts .submitted ≡ mostCounted → 8 ≡ firstMatch (submitOwn client deadline s)
+      pub own8 : getD (s .clientTable) client zeroCounts .submitted ≡ mostCounted
+          → 8 ≡ firstMatch (submitRefusals client deadline s)
       own8 e = after7 (match-here (refusal8 client s) _ (eq-eqb _ mostCounted e))
 
       pub after8 : getD (s .clientTable) client zeroCounts .submitted ≢ mostCounted → {n : ℕ}
-          → n ≡ firstMatch (refusal9 s ∷ refusal10 s ∷ []) → n ≡ firstMatch (submitOwn client deadline s)
+          → n ≡ firstMatch (refusal9 s ∷ refusal10 s ∷ []) → n ≡ firstMatch (submitRefusals client deadline s)
       after8 countable e = after7 (match-next (refusal8 client s) _ (ne-eqb _ mostCounted countable) e)

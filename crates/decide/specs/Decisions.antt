@@ -13,26 +13,11 @@ use Rattle.spec.specs.Order.{placeOf}
 use Rattle.spec.specs.Chart.{hasNoOverfull}
 use Rattle.spec.specs.Sound.{waitingOf}
 use Rattle.spec.specs.Refusals.{Refusal, firstMatch, openRefusals, submitRefusals, tickRefusals, reportRefusals, chartRefusals}
-use Rattle.spec.specs.Refusals.{refusal6, refusal7, refusal8, refusal9, refusal10, refusal11, refusal12}
 use Rattle.spec.specs.Calls.{newRequest, withNew, victimPlace}
 use Rattle.spec.specs.Lists.{Call, opening, submit, tick, report, chart}
 use Rattle.columns.specs.Columns.{countsOf, deadlinesOf, clientsOf}
 use Rattle.decide.specs.declared.types.Decision.{Decision}
 use Rattle.decide.specs.declared.types.Decision.the-variants.{Refuse, Open, Keep, Drop, Serve, Idle, Report, Chart}
-
--- the refusals of a call behind 4 and 5: those of document 01's list from 6 on
-unfoldable pub submitOwn : ℕ → ℕ → State → List Refusal
-submitOwn client deadline s =
-    refusal6 client s ∷ refusal7 deadline s ∷ refusal8 client s ∷ refusal9 s ∷ refusal10 s ∷ []
-
-unfoldable pub tickOwn : State → List Refusal
-tickOwn s = refusal11 s ∷ []
-
-unfoldable pub reportOwn : ℕ → State → List Refusal
-reportOwn client s = refusal6 client s ∷ []
-
-unfoldable pub chartOwn : List ℕ → State → List Refusal
-chartOwn output s = refusal12 output s ∷ []
 
 -- "first match wins": the number of the first refusal that matches, or else what the call goes on to do
 abbrev pub unless : List Refusal → Decision → Decision

@@ -6,6 +6,7 @@ use columns::rows;
 use columns::search;
 use columns::search::Overfull;
 use columns::victim;
+use sound::check;
 use spec::types::Head;
 ghost use mathlib.Core.Path.{_≡_};
 ghost use mathlib.Core.List.{List};
@@ -70,6 +71,43 @@ pub fn submit_choice(
     }
 }
 
+// Submit's refusal, of tables in columns.
+fn submit_refused(
+    head: Head,
+    deadlines: &[u64],
+    numbers: &[u64],
+    clients: &[u64],
+    submitted: &[u32],
+    served: &[u32],
+    dropped: &[u32],
+    client: u64,
+    deadline: u64,
+) -> u64
+    ensures { λ r. ⌜ r ≡ firstMatch (submitRefusals client deadline (stateOf head (now (deadlines .entry))
+        (now (numbers .entry)) (now (clients .entry)) (now (submitted .entry)) (now (served .entry)) (now (dropped .entry)))) ⌝ }
+{
+    let tables = check::tables_refusal(
+        head,
+        deadlines,
+        numbers,
+        clients,
+        submitted,
+        served,
+        dropped,
+    );
+    let records = rows::shortest(deadlines.len(), numbers.len(), clients.len());
+    refusals::submit_refusal(
+        tables,
+        head,
+        records,
+        submitted,
+        served,
+        dropped,
+        client,
+        deadline,
+    )
+}
+
 // Submit: refused, kept at a place, or one record dropped.
 pub fn submit_decision(
     head: Head,
@@ -85,7 +123,7 @@ pub fn submit_decision(
     ensures { λ r. ⌜ r ≡ submitDecision client deadline (stateOf head (now (deadlines .entry)) (now (numbers .entry))
         (now (clients .entry)) (now (submitted .entry)) (now (served .entry)) (now (dropped .entry))) ⌝ }
 {
-    let refusal = refusals::submit_refusal(
+    let refusal = submit_refused(
         head,
         deadlines,
         numbers,
@@ -125,7 +163,7 @@ pub fn tick_decision(
         (stateOf head (now (deadlines .entry)) (now (numbers .entry)) (now (clients .entry)) (now (submitted .entry))
         (now (served .entry)) (now (dropped .entry))) ⌝ }
 {
-    let refusal = refusals::tick_refusal(
+    let tables = check::tables_refusal(
         head,
         deadlines,
         numbers,
@@ -134,6 +172,7 @@ pub fn tick_decision(
         served,
         dropped,
     );
+    let refusal = refusals::tick_refusal(tables, head);
     if refusal != 0 {
         return Decision::Refuse { number: refusal };
     }
@@ -158,7 +197,7 @@ pub fn report_decision(
         (stateOf head (now (deadlines .entry)) (now (numbers .entry)) (now (clients .entry)) (now (submitted .entry))
         (now (served .entry)) (now (dropped .entry))) ⌝ }
 {
-    let refusal = refusals::report_refusal(
+    let tables = check::tables_refusal(
         head,
         deadlines,
         numbers,
@@ -166,8 +205,8 @@ pub fn report_decision(
         submitted,
         served,
         dropped,
-        client,
     );
+    let refusal = refusals::report_refusal(tables, head, client);
     if refusal != 0 {
         return Decision::Refuse { number: refusal };
     }
@@ -198,7 +237,7 @@ pub fn chart_decision(
         (now (served .entry)) (now (dropped .entry))))
         ⌝ }
 {
-    let refusal = refusals::chart_refusal(
+    let tables = check::tables_refusal(
         head,
         deadlines,
         numbers,
@@ -206,8 +245,8 @@ pub fn chart_decision(
         submitted,
         served,
         dropped,
-        entries,
     );
+    let refusal = refusals::chart_refusal(tables, head, entries);
     if refusal != 0 {
         return Decision::Refuse { number: refusal };
     }

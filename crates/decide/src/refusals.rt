@@ -1,6 +1,6 @@
-// The refusals, first match wins: each function gives the number of the first that matches, or 0.
+// The refusals, first match wins: each function gives the number of the first that matches, or 0. `tables` is what the tables
+// call for, 4 or 5 or 0, however it was found: refusals 4 and 5 stand first in every list but open's.
 use columns::rows;
-use sound::check;
 use spec::types::Head;
 ghost use mathlib.Core.Path.{_≡_};
 ghost use mathlib.Core.List.{List};
@@ -8,8 +8,8 @@ ghost use Prim.Native.Nat.{ℕ};
 ghost use lib.ListN.{length};
 ghost use Rattle.spec.specs.Tables.{State};
 ghost use Rattle.spec.specs.Refusals.{firstMatch, openRefusals, submitRefusals, tickRefusals, reportRefusals, chartRefusals};
-ghost use Rattle.columns.specs.Columns.{stateOf};
-ghost use Rattle.decide.specs.Decisions.{Has, submitOwn, tickOwn, reportOwn, chartOwn};
+ghost use Rattle.sound.specs.Checks.{tablesRefusal};
+ghost use Rattle.decide.specs.Decisions.{Has};
 
 // Open's, by the lengths of the tables.
 pub fn open_refusal(clients: u64, period: u64, records: usize, accounts: usize) -> u64
@@ -33,8 +33,9 @@ pub fn open_refusal(clients: u64, period: u64, records: usize, accounts: usize) 
     0
 }
 
-// Submit's, behind 4 and 5.
-pub fn submit_own(
+// Submit's.
+pub fn submit_refusal(
+    tables: u64,
     head: Head,
     records: usize,
     submitted: &[u32],
@@ -44,10 +45,14 @@ pub fn submit_own(
     deadline: u64,
 ) -> u64
     ensures { λ r. ⌜
-        ((s : State) → Has head records (now (submitted .entry)) (now (served .entry)) (now (dropped .entry)) s
-        → r ≡ firstMatch (submitOwn client deadline s))
+        ((s : State) → tables ≡ tablesRefusal s
+        → Has head records (now (submitted .entry)) (now (served .entry)) (now (dropped .entry)) s
+        → r ≡ firstMatch (submitRefusals client deadline s))
         ⌝ }
 {
+    if tables != 0 {
+        return tables;
+    }
     if head.clients <= client {
         return 6;
     }
@@ -57,8 +62,7 @@ pub fn submit_own(
     if 65535 < deadline - head.clock {
         return 7;
     }
-    let counts = rows::counts_at(submitted, served, dropped, client);
-    if counts.submitted == 268435455 {
+    if rows::counts_at(submitted, served, dropped, client).submitted == 268435455 {
         return 8;
     }
     if head.last == 281474976710655 {
@@ -70,157 +74,44 @@ pub fn submit_own(
     0
 }
 
-// Tick's, behind 4 and 5.
-pub fn tick_own(head: Head) -> u64
-    ensures { λ r. ⌜ ((s : State) → s .head ≡ head → r ≡ firstMatch (tickOwn s)) ⌝ }
+// Tick's.
+pub fn tick_refusal(tables: u64, head: Head) -> u64
+    ensures { λ r. ⌜ ((s : State) → tables ≡ tablesRefusal s → s .head ≡ head → r ≡ firstMatch (tickRefusals s)) ⌝ }
 {
+    if tables != 0 {
+        return tables;
+    }
     if head.clock == 281474976710655 {
         return 11;
     }
     0
 }
 
-// Report's, behind 4 and 5.
-pub fn report_own(head: Head, client: u64) -> u64
-    ensures { λ r. ⌜ ((s : State) → s .head ≡ head → r ≡ firstMatch (reportOwn client s)) ⌝ }
+// Report's.
+pub fn report_refusal(tables: u64, head: Head, client: u64) -> u64
+    ensures { λ r. ⌜ ((s : State) → tables ≡ tablesRefusal s → s .head ≡ head → r ≡ firstMatch (reportRefusals client s)) ⌝ }
 {
+    if tables != 0 {
+        return tables;
+    }
     if head.clients <= client {
         return 6;
     }
     0
 }
 
-// Chart's, behind 4 and 5, by the length of the output.
-pub fn chart_own(head: Head, entries: usize) -> u64
+// Chart's, by the length of the output.
+pub fn chart_refusal(tables: u64, head: Head, entries: usize) -> u64
     ensures { λ r. ⌜
-        ((s : State) (output : List ℕ) → s .head ≡ head → length output ≡ entries → r ≡ firstMatch (chartOwn output s))
+        ((s : State) (output : List ℕ) → tables ≡ tablesRefusal s → s .head ≡ head → length output ≡ entries
+        → r ≡ firstMatch (chartRefusals output s))
         ⌝ }
 {
+    if tables != 0 {
+        return tables;
+    }
     if (entries as u64) < head.waiting {
         return 12;
     }
     0
-}
-
-// Submit's whole list: what the tables call for, then its own.
-pub fn submit_refusal(
-    head: Head,
-    deadlines: &[u64],
-    numbers: &[u64],
-    clients: &[u64],
-    submitted: &[u32],
-    served: &[u32],
-    dropped: &[u32],
-    client: u64,
-    deadline: u64,
-) -> u64
-    ensures { λ r. ⌜ r ≡ firstMatch (submitRefusals client deadline
-        (stateOf head (now (deadlines .entry)) (now (numbers .entry)) (now (clients .entry)) (now (submitted .entry))
-        (now (served .entry)) (now (dropped .entry)))) ⌝ }
-{
-    let tables = check::tables_refusal(
-        head,
-        deadlines,
-        numbers,
-        clients,
-        submitted,
-        served,
-        dropped,
-    );
-    if tables != 0 {
-        return tables;
-    }
-    let records = rows::shortest(deadlines.len(), numbers.len(), clients.len());
-    submit_own(head, records, submitted, served, dropped, client, deadline)
-}
-
-// Tick's whole list.
-pub fn tick_refusal(
-    head: Head,
-    deadlines: &[u64],
-    numbers: &[u64],
-    clients: &[u64],
-    submitted: &[u32],
-    served: &[u32],
-    dropped: &[u32],
-) -> u64
-    ensures { λ r. ⌜ r ≡ firstMatch (tickRefusals
-        (stateOf head (now (deadlines .entry)) (now (numbers .entry)) (now (clients .entry)) (now (submitted .entry))
-        (now (served .entry)) (now (dropped .entry)))) ⌝ }
-{
-    let tables = check::tables_refusal(
-        head,
-        deadlines,
-        numbers,
-        clients,
-        submitted,
-        served,
-        dropped,
-    );
-    if tables != 0 {
-        return tables;
-    }
-    tick_own(head)
-}
-
-// Report's whole list.
-pub fn report_refusal(
-    head: Head,
-    deadlines: &[u64],
-    numbers: &[u64],
-    clients: &[u64],
-    submitted: &[u32],
-    served: &[u32],
-    dropped: &[u32],
-    client: u64,
-) -> u64
-    ensures { λ r. ⌜ r ≡ firstMatch (reportRefusals client
-        (stateOf head (now (deadlines .entry)) (now (numbers .entry)) (now (clients .entry)) (now (submitted .entry))
-        (now (served .entry)) (now (dropped .entry)))) ⌝ }
-{
-    let tables = check::tables_refusal(
-        head,
-        deadlines,
-        numbers,
-        clients,
-        submitted,
-        served,
-        dropped,
-    );
-    if tables != 0 {
-        return tables;
-    }
-    report_own(head, client)
-}
-
-// Chart's whole list.
-pub fn chart_refusal(
-    head: Head,
-    deadlines: &[u64],
-    numbers: &[u64],
-    clients: &[u64],
-    submitted: &[u32],
-    served: &[u32],
-    dropped: &[u32],
-    entries: usize,
-) -> u64
-    ensures { λ r. ⌜
-        ((output : List ℕ) → length output ≡ entries → r ≡ firstMatch (chartRefusals output
-        (stateOf head (now (deadlines .entry)) (now (numbers .entry)) (now (clients .entry)) (now (submitted .entry))
-        (now (served .entry)) (now (dropped .entry)))))
-        ⌝ }
-{
-    let tables = check::tables_refusal(
-        head,
-        deadlines,
-        numbers,
-        clients,
-        submitted,
-        served,
-        dropped,
-    );
-    if tables != 0 {
-        return tables;
-    }
-    chart_own(head, entries)
 }
