@@ -1,5 +1,5 @@
 // Holds the proved check of the tables to two written by hand in Rust: that all answer the same, and how long each takes.
-// With the argument `agree` only the first.
+// With the argument `agree` only the first. This holds the compiler and the boundary to Rust; what the check means is proved.
 use std::hint::black_box;
 use std::process::exit;
 use std::time::Instant;
@@ -11,11 +11,12 @@ const MOST_AHEAD: u64 = 65_535;
 const MOST_COUNTED: u32 = 268_435_455;
 const END: u64 = (1 << 48) - 1;
 const CASES: u32 = 200_000;
+const ROUNDS: u32 = 5000;
 
 type Tally = [u32; MOST_CLIENTS];
 
 // The head is clients, period, clock, last and waiting.
-#[derive(Clone, Debug)]
+#[derive(Debug)]
 struct Tables {
     head: [u64; 5],
     deadlines: Vec<u64>,
@@ -47,7 +48,7 @@ extern "C" {
 }
 
 fn proved(t: &Tables) -> u64 {
-    // SAFETY: each pointer is to as many numbers as its length says, and the check only reads them.
+    // SAFETY: the head has five numbers, each other pointer is to as many as its length says, and the check only reads them.
     unsafe {
         timed_tables_refusal(
             t.head.as_ptr(),
@@ -79,7 +80,8 @@ fn by_hand_tuned(t: &Tables) -> u64 {
     )
 }
 
-// The check by hand, one test after the other in one loop over the records. Tables have as many records as their shortest column.
+// The check by hand, one test after the other in one loop over the records. Tables have as many records as their shortest
+// column.
 #[inline(never)]
 fn plain(t: &Tables) -> u64 {
     let [many, period, clock, last, waiting] = t.head;
@@ -118,7 +120,7 @@ fn plain(t: &Tables) -> u64 {
     0
 }
 
-// The same, the fastest of more than ten ways that were tried.
+// The same, written for speed.
 #[inline(never)]
 fn tuned(
     head: &[u64; 5],
@@ -228,10 +230,10 @@ impl Random {
     }
 }
 
-// A small sound table: deadlines with ties and gaps, clocks and counts at their ends too.
-fn sound_tables(rnd: &mut Random) -> Tables {
-    let k = 1 + rnd.below(6);
-    let records = 1 + rnd.below(20);
+// A sound table of at most so many records and clients: deadlines with ties and gaps, clocks and counts at their ends too.
+fn sound_tables(rnd: &mut Random, most_records: usize, most_clients: usize) -> Tables {
+    let k = 1 + rnd.below(most_clients);
+    let records = 1 + rnd.below(most_records);
     let n = rnd.below(records + 1);
     let clock = [0, 5, END, rnd.next() >> 16][rnd.below(4)];
     let mut t = Tables {
@@ -345,13 +347,18 @@ fn agree() {
     let mut rnd = Random(0x9E37_79B9_7F4A_7C15);
     let mut answers = [0; 6];
     for case in 0..CASES {
-        let mut t = sound_tables(&mut rnd);
+        let large = case % 50 == 0;
+        let mut t = if large {
+            sound_tables(&mut rnd, MOST_RECORDS, MOST_CLIENTS)
+        } else {
+            sound_tables(&mut rnd, 20, 6)
+        };
         if case % 4 != 0 {
             damage_tables(&mut rnd, &mut t);
         }
         let (a, b, c) = (proved(&t), plain(&t), by_hand_tuned(&t));
         if a != b || a != c {
-            println!("case {case}: proved {a}, by hand {b}, tuned {c}: {t:?}");
+            println!("case {case}: proved {a}, plain {b}, tuned {c}: {t:?}");
             exit(1);
         }
         answers[a as usize] += 1;
@@ -364,8 +371,9 @@ fn agree() {
     }
 }
 
-// A sound table of the largest size, its deadlines as early as they may be but for ties, its clients spread.
+// A sound table of the largest size, its deadlines early and with ties, its clients in no order.
 fn timed_tables(n: usize, k: usize) -> Tables {
+    let mut rnd = Random(0x2545_F491_4F6C_DD1D);
     let mut t = Tables {
         head: [k as u64, 1_000_000, 1_000_000, 100_000, n as u64],
         deadlines: vec![0; MOST_RECORDS],
@@ -375,13 +383,15 @@ fn timed_tables(n: usize, k: usize) -> Tables {
         served: vec![4; k],
         dropped: vec![3; k],
     };
+    let mut ahead = 0;
     for i in 0..n {
-        t.deadlines[i] = t.head[2] + (1 + i + i % 3) as u64;
+        ahead = (i + 1).max(ahead + rnd.below(3));
+        let c = rnd.below(k);
+        t.deadlines[i] = t.head[2] + ahead as u64;
         t.numbers[i] = 10 + i as u64;
-        t.clients[i] = (i * 7 % k) as u64;
-        t.submitted[i * 7 % k] += 1;
+        t.clients[i] = c as u64;
+        t.submitted[c] += 1;
     }
-    t.deadlines[..n].sort();
     t
 }
 
@@ -404,7 +414,7 @@ fn compare() {
         for k in [1, MOST_CLIENTS] {
             let t = timed_tables(n, k);
             let (mut a, mut b, mut c) = (f64::MAX, f64::MAX, f64::MAX);
-            for _ in 0..5000 {
+            for _ in 0..ROUNDS {
                 a = a.min(time(proved, &t));
                 b = b.min(time(plain, &t));
                 c = c.min(time(by_hand_tuned, &t));
@@ -415,8 +425,15 @@ fn compare() {
 }
 
 fn main() {
-    agree();
-    if std::env::args().nth(1).as_deref() != Some("agree") {
-        compare();
+    match std::env::args().nth(1).as_deref() {
+        None => {
+            agree();
+            compare();
+        }
+        Some("agree") => agree(),
+        Some(other) => {
+            println!("no such argument: {other}");
+            exit(2);
+        }
     }
 }

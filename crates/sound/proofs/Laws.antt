@@ -252,7 +252,7 @@ ltb-not a b = go (value (leb b a))
     go (is-true e) = rw (e, le-ltb a b (leb-true b a e))
     go (is-false e) = rw (e, lt-ltb a b (leb-false b a e))
 
--- refusal 4 is for tables that have another
+-- refusal 4 is for tables of another shape
 pub shape-refused : (s : State) → refusal4 s .holds ≡ not (shapeOf s)
 unfolding hasShape
 shape-refused s =

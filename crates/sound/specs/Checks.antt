@@ -15,11 +15,12 @@ use Rattle.spec.specs.Chart.{roomTo}
 use Rattle.spec.specs.Refusals.{firstMatch, refusal4, refusal5}
 use Rattle.spec.specs.Sound.{isGiven, isClient, waitingOf}
 
--- what refusal 4 does not ask for: tables of these lengths fit the head
+-- where refusal 4 does not hold: tables of these lengths fit the head
 unfoldable pub hasShape : Head → ℕ → ℕ → Bool
 hasShape head records clients = isWithin 1 mostRecords records && eqb clients (head .clients) && leb (head .waiting) records
 
--- the clauses of soundness that speak of waiting records, of one record: its index, the record before it, the record
+-- the clauses of soundness that speak of waiting records, but for how far ahead a deadline is (`isNear`), of one record: its
+-- index, the record before it, the record
 unfoldable pub isNext : Head → ℕ → Request → Request → Bool
 isNext head i before w =
     isGiven (head .last) (w .number)
@@ -29,7 +30,7 @@ isNext head i before w =
 
 -- ---- a count per client, in two halves: records are counted in them by turns, and a client's count is the sum of both
 abbrev pub tallySize : ℕ
-tallySize = 512
+tallySize = mostClients + mostClients
 
 abbrev pub talliedOf : List ℕ → ℕ → ℕ
 talliedOf tally client = getD tally client 0 + getD tally (mostClients + client) 0
@@ -64,7 +65,7 @@ areNext head i before (w ∷ ws) = isNext head i before w && areNext head (suc i
 unfoldable pub doesBalance : Counts → ℕ → Bool
 doesBalance k waits = eqb (k .submitted) (k .served + k .dropped + waits) && leb (k .submitted) mostCounted
 
--- a count per client has room for as many again as a table can have
+-- a count per client with no count above what a table can have: so many more can be added
 pub record Countable (tally : List ℕ) : Type 0 where
   pub size : length tally ≡ tallySize
   pub most : (c : ℕ) → c < mostClients → talliedOf tally c ≤ mostRecords
@@ -78,6 +79,6 @@ pub record Passed (head : Head) (ws : List Request) (tally₀ : List ℕ) (r : B
   pub verdict : r ≡ areNext head 0 zeroRequest ws
   pub tallied : r ≡ true → Tallied ws tally₀ tally
 
--- what the tables call for, before a call's own refusals: 4 or 5, or 0 where none of both matches
+-- what the tables call for, before a call's own refusals: 4 or 5, or 0 where neither matches
 unfoldable pub tablesRefusal : State → ℕ
 tablesRefusal s = firstMatch (refusal4 s ∷ refusal5 s ∷ [])

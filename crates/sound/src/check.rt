@@ -8,7 +8,7 @@ ghost use Rattle.columns.specs.Columns.{requestsOf, countsOf, stateOf};
 ghost use Rattle.sound.specs.Checks.{hasShape, tablesRefusal};
 
 // Whether tables whose lengths fit the head are sound.
-pub fn is_sound(
+fn is_sound(
     head: Head,
     deadlines: &[u64],
     numbers: &[u64],

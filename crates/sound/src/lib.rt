@@ -1,4 +1,4 @@
-// Soundness of the tables, in one pass over the records and one over the clients.
+// Soundness of the tables, each record and each client looked at once.
 pub mod check;
 pub mod record;
 pub mod tables;

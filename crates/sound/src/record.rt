@@ -22,7 +22,7 @@ pub fn comes_before(a: Request, b: Request) -> bool
     false
 }
 
-// Whether w can stand at the index i, behind the record before it.
+// Whether w can stand at the index i, behind the record before it; how far ahead it is, `is_near` asks of the last one.
 pub fn is_next(head: Head, i: u64, before: Request, w: Request) -> bool
     requires { ⌜ (head .clock ≤ clockEnd) × (i ≤ mostRecords) ⌝ }
     ensures { λ r. ⌜ r ≡ isNext head i before w ⌝ }

@@ -1,4 +1,4 @@
-// One pass over the waiting records, one over those behind them, and one over the clients.
+// The waiting records one after the other, then those behind them, then the clients: each record and each client once.
 use spec::types::Counts;
 use spec::types::Head;
 use spec::types::Request;
@@ -13,7 +13,7 @@ ghost use Rattle.sound.specs.Checks.{talliedOf, doesBalance, Stepped, Co
 
 // One turn of the pass over the records: whether the record may stand at its index behind the one before it; if so it is
 // counted. The record comes by value, so that a pass over a table of records can take the same step. The tally has two halves,
-// used by turns: adding to one place twice in a row waits for the store. Measured, that doubled the time of a single client.
+// used by turns: adding to one place twice in a row waits for the store, which with few clients was half of the time.
 pub fn step(head: Head, i: u64, before: Request, w: Request, tally: &mut [u32; 512]) -> bool
     requires { ⌜ (head .clients ≤ mostClients) × (head .clock ≤ clockEnd) × (i ≤ mostRecords) ⌝ }
     requires { ⌜ (w .client < mostClients → talliedOf (now tally) (w .client) < largest32) ⌝ }
@@ -28,7 +28,7 @@ pub fn step(head: Head, i: u64, before: Request, w: Request, tally: &mut [u32; 5
 }
 
 // Whether the first n records are as waiting ones should be, and how many of them each client has. Deadlines ascend, so that
-// only the last is asked whether it is near; where there is none, the zero record is.
+// only the last is asked whether it is near; where there is none, the zero record is asked.
 pub fn are_next(
     head: Head,
     deadlines: &[u64],
@@ -65,7 +65,7 @@ pub fn are_next(
 }
 
 // Whether the records from one index up to another are zero. Their bits are gathered and tested once, at the end: so the
-// compiler takes several records a turn, which measured a third quicker than a test of each.
+// compiler takes several records a turn.
 pub fn are_zero(deadlines: &[u64], numbers: &[u64], clients: &[u64], from: usize, to: usize) -> bool
     requires { ⌜ (to ≤ length (now deadlines)) × (to ≤ length (now numbers)) × (to ≤ length (now clients)) ⌝ }
     ensures { λ r. ⌜ r ≡ every isZeroRequest
