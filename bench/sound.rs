@@ -230,21 +230,27 @@ impl Random {
     }
 }
 
-// A sound table of at most so many records and clients: deadlines with ties and gaps, clocks and counts at their ends too.
-fn sound_tables(rnd: &mut Random, most_records: usize, most_clients: usize) -> Tables {
-    let k = 1 + rnd.below(most_clients);
-    let records = 1 + rnd.below(most_records);
-    let n = rnd.below(records + 1);
-    let clock = [0, 5, END, rnd.next() >> 16][rnd.below(4)];
-    let mut t = Tables {
-        head: [k as u64, 1 + (rnd.next() >> 33), clock, 0, n as u64],
+// Tables of so many records, and of the head's clients, all zero.
+fn zero_tables(head: [u64; 5], records: usize) -> Tables {
+    let k = head[0] as usize;
+    Tables {
+        head,
         deadlines: vec![0; records],
         numbers: vec![0; records],
         clients: vec![0; records],
         submitted: vec![0; k],
         served: vec![0; k],
         dropped: vec![0; k],
-    };
+    }
+}
+
+// A sound table of at most so many records and clients: deadlines with ties and gaps, clocks and counts at their ends too.
+fn sound_tables(rnd: &mut Random, most_records: usize, most_clients: usize) -> Tables {
+    let k = 1 + rnd.below(most_clients);
+    let records = 1 + rnd.below(most_records);
+    let n = rnd.below(records + 1);
+    let clock = [0, 5, END, rnd.next() >> 16][rnd.below(4)];
+    let mut t = zero_tables([k as u64, 1 + (rnd.next() >> 33), clock, 0, n as u64], records);
     let mut ahead = 0;
     for i in 0..n {
         ahead = (i + 1).max(ahead + [0, 0, 1, 3][rnd.below(4)]);
@@ -374,15 +380,8 @@ fn agree() {
 // A sound table of the largest size, its deadlines early and with ties, its clients in no order.
 fn timed_tables(n: usize, k: usize) -> Tables {
     let mut rnd = Random(0x2545_F491_4F6C_DD1D);
-    let mut t = Tables {
-        head: [k as u64, 1_000_000, 1_000_000, 100_000, n as u64],
-        deadlines: vec![0; MOST_RECORDS],
-        numbers: vec![0; MOST_RECORDS],
-        clients: vec![0; MOST_RECORDS],
-        submitted: vec![7; k],
-        served: vec![4; k],
-        dropped: vec![3; k],
-    };
+    let mut t = zero_tables([k as u64, 1_000_000, 1_000_000, 100_000, n as u64], MOST_RECORDS);
+    (t.submitted, t.served, t.dropped) = (vec![7; k], vec![4; k], vec![3; k]);
     let mut ahead = 0;
     for i in 0..n {
         ahead = (i + 1).max(ahead + rnd.below(3));

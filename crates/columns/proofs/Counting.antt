@@ -5,11 +5,11 @@ use mathlib.Core.List.{List, _++_, append-nil}
 use native.Mathlib.Decide.{ℕ-discrete}
 use native.Mathlib.Numerals.{add-one}
 use native.Mathlib.Omega.{arith}
+use borrow.Author.Tests.{eq-eqb, ne-eqb}
 use lib.Dec.{eqb}
 use lib.ListN.{length, getD, take, drop, set, replicate, length-take, length-set, drop-of-length-le, length-replicate}
 use lib.ListN.{getD-replicate, replicate-append-replicate}
 use lib.Seq.{drop-cons, append-snoc, set-at, ext-getD, getD-set-same, getD-set-other}
-use borrow.Author.Tests.{eq-eqb, ne-eqb}
 use Rattle.spec.specs.Every.{countIf, mapFrom}
 use Rattle.spec.proofs.Laws.Every.{count-most, length-mapFrom, getD-mapFrom, number-yes, number-no}
 use Rattle.columns.specs.Scans.{waitingIn}
@@ -20,12 +20,12 @@ module _ (cs : List ℕ) (n i client : ℕ) where
   pub waiting-yes : i < n → n ≤ length cs → getD cs i 0 ≡ client
       → waitingIn (drop i (take n cs)) client ≡ waitingIn (drop (i + 1) (take n cs)) client + 1
   unfolding countIf
-  waiting-yes h l e = rw (rest-cons cs n i h l) (omega (arith, number-yes (eqb (getD cs i 0) client) (eq-eqb _ _ e)))
+  waiting-yes h l e = rw (rest-cons cs n i 0 h l) (omega (arith, number-yes (eqb (getD cs i 0) client) (eq-eqb _ _ e)))
 
   pub waiting-no : i < n → n ≤ length cs → (getD cs i 0 ≡ client → ⊥)
       → waitingIn (drop i (take n cs)) client ≡ waitingIn (drop (i + 1) (take n cs)) client
   unfolding countIf
-  waiting-no h l e = rw (rest-cons cs n i h l) (omega (arith, number-no (eqb (getD cs i 0) client) (ne-eqb _ _ e)))
+  waiting-no h l e = rw (rest-cons cs n i 0 h l) (omega (arith, number-no (eqb (getD cs i 0) client) (ne-eqb _ _ e)))
 
   pub waiting-none : n ≤ i → waitingIn (drop i (take n cs)) client ≡ 0
   unfolding countIf

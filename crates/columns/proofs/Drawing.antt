@@ -5,16 +5,16 @@ use mathlib.Core.Bool.{Bool, true, false, cond}
 use mathlib.Core.List.{List, [], _∷_, _++_}
 use native.Mathlib.Numerals.{add-one}
 use native.Mathlib.Omega.{arith}
+use borrow.Author.Tests.{eq-eqb, ne-eqb}
 use lib.ListN.{length, getD, take, drop, set}
 use lib.Seq.{take-suc, append-snoc, set-at, length-take-le}
-use borrow.Author.Tests.{eq-eqb, ne-eqb}
 use Rattle.spec.specs.Chart.{Segment, doTouch, joinLeft, segmentsOf}
 use Rattle.columns.specs.Charted.{startSlot, startSlots, segment}
 use Rattle.columns.specs.Columns.{largest64}
 use Rattle.columns.proofs.Laws.{rest-cons, rest-none}
 
 -- ---- start slots
--- with nothing behind, the largest64 number stands for the start behind: no deadline is larger
+-- with nothing behind, the largest number stands for the start behind: no deadline is larger
 start-behind : (d : ℕ) (later : List ℕ) → d ≤ largest64 → startSlot d later ≡ min d (getD later 0 largest64) - 1
 start-behind d [] h = omega arith
 start-behind d (s ∷ later) h = refl
@@ -31,7 +31,7 @@ pub starts-more : (ds : List ℕ) (n i next : ℕ) → 0 < i → i ≤ n → n �
 unfolding startSlots
 starts-more ds n i next p h l b e =
     let q : i - 1 + 1 ≡ i = omega arith in
-    rw (rest-cons ds n (i - 1) (omega arith) l, q, e, start-behind (getD ds (i - 1) 0) (startSlots (drop i (take n ds))) b)
+    rw (rest-cons ds n (i - 1) 0 (omega arith) l, q, e, start-behind (getD ds (i - 1) 0) (startSlots (drop i (take n ds))) b)
 
 -- .. and it is written in front of those that stand already
 pub set-last : (o t : List ℕ) (i v : ℕ) → 0 < i → i ≤ length o → set (take i o ++ t) (i - 1) v ≡ take (i - 1) o ++ (v ∷ t)
@@ -83,18 +83,18 @@ module _ (s : List ℕ) (n k : ℕ) where
   pub run-begins : k < n → n ≤ length s
       → segmentsOf (drop k (take n s)) ≡ glue (getD s k 0) (getD s k 0 + 1) (segmentsOf (drop (k + 1) (take n s)))
   unfolding segmentsOf
-  run-begins h l = rw (rest-cons s n k h l) (join-glue (getD s k 0) (segmentsOf (drop (k + 1) (take n s))))
+  run-begins h l = rw (rest-cons s n k 0 h l) (join-glue (getD s k 0) (segmentsOf (drop (k + 1) (take n s))))
 
   pub run-more : (left right : ℕ) → k < n → n ≤ length s → getD s k 0 ≡ right
       → glue left right (segmentsOf (drop k (take n s))) ≡ glue left (right + 1) (segmentsOf (drop (k + 1) (take n s)))
   unfolding segmentsOf
-  run-more left right h l e = rw (rest-cons s n k h l, e) (glue-more left right (segmentsOf (drop (k + 1) (take n s))))
+  run-more left right h l e = rw (rest-cons s n k 0 h l, e) (glue-more left right (segmentsOf (drop (k + 1) (take n s))))
 
   pub run-ends : (left right : ℕ) → k < n → n ≤ length s → (getD s k 0 ≡ right → ⊥)
       → glue left right (segmentsOf (drop k (take n s))) ≡ segment left right ∷ segmentsOf (drop k (take n s))
   unfolding segmentsOf
   run-ends left right h l e =
-      rw (rest-cons s n k h l)
+      rw (rest-cons s n k 0 h l)
       (glue-ends left right (getD s k 0) (segmentsOf (drop (k + 1) (take n s))) (λ q. e (sym q)))
 
   pub run-last : (left right : ℕ) → n ≤ k

@@ -7,12 +7,12 @@ use lib.Dec.{leb}
 use lib.ListN.{length, getD, take, replicate}
 use Rattle.spec.specs.declared.types.Request.{Request}
 use Rattle.spec.specs.Every.{toNumber, countIf, mapFrom}
-use Rattle.spec.specs.Tables.{State}
+use Rattle.spec.specs.Tables.{State, deadlinesOf, clientsOf}
 use Rattle.spec.specs.Order.{insertAt}
 use Rattle.spec.specs.Chart.{startsOf, endOf, dueBy}
 use Rattle.spec.specs.Sound.{waitingOf}
 use Rattle.spec.specs.Calls.{restarted}
-use Rattle.columns.specs.Columns.{rowsOf, requestOf, countOf, countsOf, stateOf, deadlinesOf, clientsOf, largest64}
+use Rattle.columns.specs.Columns.{rowsOf, requestOf, countOf, countsOf, stateOf, largest64}
 use Rattle.columns.specs.Scans.{putAt, waitingIn, Restarted}
 use Rattle.columns.specs.Charted.{startSlot, startSlots}
 

@@ -33,10 +33,11 @@ module _ {A : Type 0} (f : ℕ → ℕ → ℕ → A) where
   getD-rows-none xs ys zs k d h = List·getD-eq-default (rowsOf f xs ys zs) d {n = k} (omega (arith, length-rows xs ys zs))
 
 -- ---- what is left of the first n entries from a place on
-pub rest-cons : (xs : List ℕ) (n i : ℕ) → i < n → n ≤ length xs → drop i (take n xs) ≡ getD xs i 0 ∷ drop (i + 1) (take n xs)
-rest-cons xs n i h l =
-    let m : i < length (take n xs) = omega (arith, length-take n xs) in
-    rw (add-one, drop-cons (take n xs) i 0 m, getD-take n xs i 0 h)
+module _ {A : Type 0} (xs : List A) (n i : ℕ) where
+  pub rest-cons : (d : A) → i < n → n ≤ length xs → drop i (take n xs) ≡ getD xs i d ∷ drop (i + 1) (take n xs)
+  rest-cons d h l =
+      let m : i < length (take n xs) = omega (arith, length-take n xs) in
+      rw (add-one, drop-cons (take n xs) i d m, getD-take n xs i d h)
 
-pub rest-none : (xs : List ℕ) (n i : ℕ) → n ≤ i → drop i (take n xs) ≡ []
-rest-none xs n i h = drop-of-length-le (take n xs) {i = i} (omega (arith, length-take n xs))
+  pub rest-none : n ≤ i → drop i (take n xs) ≡ []
+  rest-none h = drop-of-length-le (take n xs) {i = i} (omega (arith, length-take n xs))

@@ -7,10 +7,10 @@ use mathlib.Core.List.{List, [], _∷_}
 use native.Mathlib.Nat.{mul-le-mul}
 use native.Mathlib.Numerals.{add-one}
 use native.Mathlib.Omega.{arith}
-use lib.Dec.{leb}
-use lib.ListN.{length, getD, take, drop, drop-of-length-le, List·getD-append}
-use lib.Seq.{length-take-le, drop-cons, set-out, getD-set-same, getD-set-other, getD-take, getD-at}
 use borrow.Author.Tests.{lt-ltb, le-ltb, le-leb, lt-leb}
+use lib.Dec.{leb}
+use lib.ListN.{length, getD, take, drop, List·getD-append}
+use lib.Seq.{length-take-le, set-out, getD-set-same, getD-set-other, getD-take, getD-at}
 use Rattle.spec.specs.declared.types.Head.{Head}
 use Rattle.spec.specs.declared.types.Counts.{Counts}
 use Rattle.spec.specs.Every.{countIf}
@@ -22,7 +22,7 @@ use Rattle.spec.proofs.Laws.Every.{number-yes, number-no}
 use Rattle.columns.specs.declared.search.Overfull.the-variants.{None, At}
 use Rattle.columns.specs.Columns.{countOf, countsOf}
 use Rattle.columns.specs.Scans.{Sorted, overfullFrom, putAt, smallestFrom}
-use Rattle.columns.proofs.Laws.{getD-rows}
+use Rattle.columns.proofs.Laws.{getD-rows, rest-cons, rest-none}
 
 -- ---- the binary search: the entries before `low` are at most d, and those from `high` on are larger
 pub record Cut (d low high : ℕ) (xs : List ℕ) : Type 0 where
@@ -120,14 +120,11 @@ module _ (head : Head) (ds : List ℕ) (n i d : ℕ) where
       → overfullFrom head (i + 1) (getD ds i 0 ∷ drop (i + 1) (take n ds)) ≡ overfullFrom head i (d ∷ drop i (take n ds))
   unfolding overfullFrom
   overfull-next fits inside h =
-      let l : i < length (take n ds) = omega (arith, length-take-le n ds fits) in
-      rw (le-ltb (roomTo head d) (suc i) (omega arith), drop-cons (take n ds) i 0 l, getD-take n ds i 0 inside, add-one)
+      rw (le-ltb (roomTo head d) (suc i) (omega arith), rest-cons ds n i 0 inside fits, add-one)
 
-  pub overfull-none : n ≤ length ds → n ≤ i → i + 1 ≤ roomTo head d → None ≡ overfullFrom head i (d ∷ drop i (take n ds))
+  pub overfull-none : n ≤ i → i + 1 ≤ roomTo head d → None ≡ overfullFrom head i (d ∷ drop i (take n ds))
   unfolding overfullFrom
-  overfull-none fits past h =
-      let l : length (take n ds) ≤ i = omega (arith, length-take-le n ds fits) in
-      rw (le-ltb (roomTo head d) (suc i) (omega arith), drop-of-length-le (take n ds) l)
+  overfull-none past h = rw (le-ltb (roomTo head d) (suc i) (omega arith), rest-none ds n i past)
 
 -- ---- a column of n entries with one more, x at the place k
 behind : (k x : ℕ) (xs : List ℕ) (j : ℕ) → k ≤ length xs → k ≤ j → getD (putAt k x xs) (suc j) 0 ≡ getD xs j 0

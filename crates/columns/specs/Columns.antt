@@ -1,6 +1,6 @@
 -- The two tables as columns: a column holds one field of every record. Assumes nothing.
 use Prim.Native.Nat.{ℕ}
-use mathlib.Core.List.{List, [], _∷_, map}
+use mathlib.Core.List.{List, [], _∷_}
 use Rattle.spec.specs.declared.types.Head.{Head}
 use Rattle.spec.specs.declared.types.Request.{Request}
 use Rattle.spec.specs.declared.types.Counts.{Counts}
@@ -25,13 +25,6 @@ requestsOf deadlines numbers clients = rowsOf requestOf deadlines numbers client
 
 abbrev pub countsOf : List ℕ → List ℕ → List ℕ → List Counts
 countsOf submitted served dropped = rowsOf countOf submitted served dropped
-
--- columns of requests
-abbrev pub deadlinesOf : List Request → List ℕ
-deadlinesOf ws = map (λ w. w .deadline) ws
-
-abbrev pub clientsOf : List Request → List ℕ
-clientsOf ws = map (λ w. w .client) ws
 
 -- the whole state
 abbrev pub stateOf : Head → List ℕ → List ℕ → List ℕ → List ℕ → List ℕ → List ℕ → State

@@ -26,7 +26,7 @@ pub fn shortest(a: usize, b: usize, c: usize) -> usize
 }
 
 // How many requests the slots from the clock to the deadline can take.
-pub fn room_to(head: Head, deadline: u64) -> u64
+pub(crate) fn room_to(head: Head, deadline: u64) -> u64
     ensures { λ r. ⌜ r ≡ roomTo head deadline ⌝ }
 {
     if deadline < head.clock {

@@ -1,5 +1,4 @@
--- What is decided is what the call does: the decision determines answer and state, and the start slots a chart's output.
--- Assumes nothing.
+-- What is decided is what the call does, case by case, and the start slots are a chart's output. Assumes nothing.
 use Prim.Native.Nat.{ℕ}
 use mathlib.Core.Path.{_≡_, refl, _∙_}
 use mathlib.Core.Logic.{_≢_}
@@ -10,7 +9,7 @@ use lib.ListN.{length, drop}
 use Rattle.slots.proofs.Laws.Tests.{Same, same-yes, same-no, same}
 use Rattle.spec.specs.declared.types.Request.{Request}
 use Rattle.spec.specs.declared.types.Answer.the-variants.{Refused, Reported}
-use Rattle.spec.specs.Tables.{State, waiting}
+use Rattle.spec.specs.Tables.{State, waiting, deadlinesOf}
 use Rattle.spec.specs.Order.{placeOf}
 use Rattle.spec.specs.Chart.{hasNoOverfull, startsOf}
 use Rattle.spec.specs.Refusals.{firstMatch, chartRefusals}
@@ -21,7 +20,6 @@ use Rattle.spec.specs.Lists.{Call, opening, submit, tick, report, chart, outcom
 use Rattle.spec.proofs.Demands.Words.{refusalsOf}
 use Rattle.spec.proofs.Laws.Accepted.{chart-ready, waiting-length}
 use Rattle.spec.proofs.Calls.Refused.{Written, untouched, written, output-written, length-starts}
-use Rattle.columns.specs.Columns.{deadlinesOf}
 use Rattle.columns.specs.Charted.{startSlots}
 use Rattle.columns.proofs.Fields.{starts-column}
 use Rattle.decide.specs.declared.types.Decision.{Decision}

@@ -8,33 +8,32 @@ use native.Mathlib.Omega.{arith}
 use borrow.Author.Tests.{le-leb, leb-true}
 use lib.Dec.{leb}
 use lib.ListN.{length, getD, drop, List·getD-map}
-use Rattle.slots.proofs.Laws.Sums.{all-imp, all-each}
+use Rattle.slots.proofs.Laws.Sums.{all-imp}
 use Rattle.slots.proofs.Laws.Tests.{Test, holds, fails, test, le, gt, order}
 use Rattle.spec.specs.declared.types.Head.{Head}
 use Rattle.spec.specs.declared.types.Request.{Request}
 use Rattle.spec.specs.declared.types.Counts.{Counts}
-use Rattle.spec.specs.Tables.{zeroRequest, zeroCounts, State, waiting}
+use Rattle.spec.specs.Tables.{zeroRequest, zeroCounts, State, waiting, deadlinesOf, clientsOf}
 use Rattle.spec.specs.Order.{placeOf, putInOrder}
 use Rattle.spec.specs.Chart.{roomTo, dueBy, hasNoOverfull, Search}
 use Rattle.spec.specs.Victim.{isCandidate, candidatesFrom, candidates, keepIf, countsAt, betterOf, smallestOf, victimOf}
+use Rattle.spec.specs.Calls.{newRequest, countedIn, withNew, victimPlace}
 use Rattle.spec.proofs.Laws.Order.{InOrder}
 use Rattle.spec.proofs.Laws.Feasible.{due-yes, due-no, dueBy-cons, dueBy-none, dueBy-put, Feasible, Verdict, fine, over}
 use Rattle.spec.proofs.Laws.Feasible.{verdict, feasible-facts, feasible-test}
 use Rattle.spec.proofs.Calls.Fair.{candidate-finish, finish-candidate, helps-exactly, new-ordered}
-use Rattle.spec.specs.Calls.{newRequest, countedIn, withNew, victimPlace}
 use Rattle.spec.proofs.Laws.Sound.{Given}
 use Rattle.spec.proofs.Laws.Accepted.{SubmitReady}
 use Rattle.spec.proofs.Laws.Every.{value, is-true, is-false, same-test}
 use Rattle.spec.proofs.Laws.Places.{Roomy, feasible-roomy}
 use Rattle.columns.specs.declared.search.Overfull.{Overfull}
 use Rattle.columns.specs.declared.search.Overfull.the-variants.{None, At}
-use Rattle.columns.proofs.Fields.{column-insert}
 use Rattle.columns.specs.Scans.{overfullFrom, putAt, smallestFrom}
+use Rattle.columns.proofs.Fields.{column-insert}
 use Rattle.decide.specs.declared.types.Decision.{Decision}
 use Rattle.decide.specs.declared.types.Decision.the-variants.{Keep, Drop}
 use Rattle.decide.specs.Decisions.{submitChoice}
-use Rattle.columns.specs.Columns.{deadlinesOf, clientsOf}
-use Rattle.decide.proofs.Searched.{none-before, few-due, place-due, Below, search-over, search-none, search-skip}
+use Rattle.decide.proofs.Searched.{none-before, few-due, place-due, search-skip, overfullOf, search-same}
 
 -- ---- the candidates: the places up to the last request that is due by the smallest overfull deadline
 placesFrom : ℕ → ℕ → List ℕ
@@ -187,20 +186,12 @@ module _ (client deadline : ℕ) (s : State) (r : SubmitReady client deadline s)
       (overfullFrom head (dueBy deadline (waiting s))
       (deadline ∷ drop (dueBy deadline (waiting s)) (deadlinesOf (waiting s))))
       (submitChoice client deadline s)
-  chosen = rw same-search (go (verdict head all ordered))
+  chosen = rw (same-search, search-same head all ordered) (go (verdict head all ordered))
     where
       ordered : InOrder all
       ordered = new-ordered client deadline s r
 
       go : {f : Search} → Verdict head all f
-          → Chosen (dueBy deadline (waiting s)) (victimBy client deadline s) (overfullFrom head 0 (deadlinesOf all))
-          (submitChoice client deadline s)
-      go (fine f) =
-          rw (search-none head 0 all (feasible-roomy head all ordered (feasible-test head all f)), kept f) keeps
-      go (over D h g) =
-          rw (
-            search-over head D 0 all ordered (omega arith) (omega arith)
-                (all-each (Below head D 0 all) all (λ v l. omega (arith, g (v .deadline) l))),
-            dropped D h g,
-          )
-          (drops D)
+          → Chosen (dueBy deadline (waiting s)) (victimBy client deadline s) (overfullOf f) (submitChoice client deadline s)
+      go (fine f) = rw (kept f) keeps
+      go (over D h g) = rw (dropped D h g) (drops D)

@@ -9,6 +9,7 @@ use lib.Dec.{leb, ltb}
 use lib.ListN.{length, getD, take}
 use Rattle.slots.proofs.Laws.Sums.{All, all-imp, all-each}
 use Rattle.slots.proofs.Laws.Tests.{Test, holds, fails, test, le, gt, order}
+use Rattle.spec.specs.Tables.{deadlinesOf}
 use Rattle.spec.specs.declared.types.Head.{Head}
 use Rattle.spec.specs.declared.types.Request.{Request}
 use Rattle.spec.specs.Order.{comesBefore, placeOf}
@@ -22,7 +23,6 @@ use Rattle.spec.proofs.Laws.Places.{Roomy, feasible-roomy}
 use Rattle.columns.specs.declared.search.Overfull.{Overfull}
 use Rattle.columns.specs.declared.search.Overfull.the-variants.{None, At}
 use Rattle.columns.specs.Scans.{Sorted, overfullFrom}
-use Rattle.columns.specs.Columns.{deadlinesOf}
 
 -- none of these is due before a number that is smaller than the first one's deadline
 pub none-before : (D : ℕ) (w : Request) (ws : List Request) → D < w .deadline → All (Before w) ws → dueBy D ws ≡ 0
@@ -72,7 +72,7 @@ sorted (w ∷ ws) o (suc j) (suc k) l h = sorted ws (o .1) j k (omega arith) (om
 
 -- ---- the search: by places it finds the smallest overfull deadline, or none
 -- the first i requests and these: those due before D have room
-abbrev pub Below : Head → ℕ → ℕ → List Request → Request → Type 0
+abbrev Below : Head → ℕ → ℕ → List Request → Request → Type 0
 Below head D i ws v = v .deadline < D → i + dueBy (v .deadline) ws ≤ roomTo head (v .deadline)
 
 below-later : (head : Head) (D i : ℕ) (w : Request) (ws : List Request) (v : Request) → Before w v → Below head D i (w ∷ ws) v
@@ -80,7 +80,7 @@ below-later : (head : Head) (D i : ℕ) (w : Request) (ws : List Request) (v : R
 below-later head D i w ws v b f h =
     omega (arith, f h, dueBy-cons (v .deadline) w ws, due-yes (v .deadline) w (before-deadline w v b))
 
-pub search-over : (head : Head) (D i : ℕ) (ws : List Request) → InOrder ws → i ≤ roomTo head D → roomTo head D < i + dueBy D ws
+search-over : (head : Head) (D i : ℕ) (ws : List Request) → InOrder ws → i ≤ roomTo head D → roomTo head D < i + dueBy D ws
     → All (Below head D i ws) ws → overfullFrom head i (deadlinesOf ws) ≡ At D
 unfolding overfullFrom
 search-over head D i [] o h f a = absurd (omega (arith, dueBy-none D [] tt))
@@ -114,7 +114,7 @@ search-over head D i (w ∷ ws) o h f a =
     go true (holds g) ih = ap At (here (omega arith))
     go false (fails g) ih = ih (omega (arith, room-mono head (head .clock) (w .deadline) D early))
 
-pub search-none : (head : Head) (i : ℕ) (ws : List Request) → Roomy head i ws → overfullFrom head i (deadlinesOf ws) ≡ None
+search-none : (head : Head) (i : ℕ) (ws : List Request) → Roomy head i ws → overfullFrom head i (deadlinesOf ws) ≡ None
 unfolding overfullFrom
 search-none head i [] r = refl
 search-none head i (w ∷ ws) r =

@@ -8,7 +8,7 @@ use lib.ListN.{getD, take, drop}
 use Rattle.spec.specs.declared.types.Head.{Head}
 use Rattle.spec.specs.declared.types.Counts.{Counts}
 use Rattle.spec.specs.Every.{countIf}
-use Rattle.spec.specs.Tables.{State, waiting}
+use Rattle.spec.specs.Tables.{State, waiting, deadlinesOf}
 use Rattle.spec.specs.Chart.{dueBy}
 use Rattle.spec.specs.Refusals.{firstMatch, submitRefusals}
 use Rattle.spec.proofs.Laws.Accepted.{SubmitReady, submit-ready}
@@ -21,7 +21,6 @@ use Rattle.decide.specs.declared.types.Decision.the-variants.{Keep, Drop
 use Rattle.decide.specs.Decisions.{Shows, submitChoice}
 use Rattle.decide.proofs.Searched.{sorted}
 use Rattle.decide.proofs.Chosen.{Chosen, keeps, drops, countsBy, victimBy, chosen}
-use Rattle.columns.specs.Columns.{deadlinesOf}
 
 -- what was found says which it is
 none-chosen : {place : ℕ} {victim : ℕ → ℕ} {o : Overfull} {d : Decision} → Chosen place victim o d → None ≡ o → Keep place ≡ d

@@ -8,14 +8,14 @@ use lib.ListN.{length, getD, take}
 use Rattle.spec.specs.declared.types.Head.{Head}
 use Rattle.spec.specs.declared.types.Request.{Request}
 use Rattle.spec.specs.declared.types.Counts.{Counts}
-use Rattle.spec.specs.Tables.{zeroCounts, State, waiting}
+use Rattle.spec.specs.Tables.{zeroCounts, State, waiting, deadlinesOf, clientsOf}
 use Rattle.spec.specs.Order.{placeOf}
 use Rattle.spec.specs.Chart.{hasNoOverfull}
 use Rattle.spec.specs.Sound.{waitingOf}
 use Rattle.spec.specs.Refusals.{Refusal, firstMatch, openRefusals, submitRefusals, tickRefusals, reportRefusals, chartRefusals}
 use Rattle.spec.specs.Calls.{newRequest, withNew, victimPlace}
 use Rattle.spec.specs.Lists.{Call, opening, submit, tick, report, chart}
-use Rattle.columns.specs.Columns.{countsOf, deadlinesOf, clientsOf}
+use Rattle.columns.specs.Columns.{countsOf}
 use Rattle.decide.specs.declared.types.Decision.{Decision}
 use Rattle.decide.specs.declared.types.Decision.the-variants.{Refuse, Open, Keep, Drop, Serve, Idle, Report, Chart}
 

@@ -11,10 +11,9 @@ use native.Mathlib.Omega.{arith}
 use borrow.Author.Tests.{leb-true, leb-false, ltb-true, eqb-true, lt-ltb, le-ltb, ne-eqb}
 use lib.Bits.{bitOr, or-add-and, and-le-r}
 use lib.Dec.{leb, ltb, eqb}
-use lib.ListN.{length, getD, take, drop, replicate, length-take, length-set, length-replicate, getD-replicate}
-use lib.ListN.{drop-of-length-le}
+use lib.ListN.{length, getD, take, drop, replicate, length-set, length-replicate, getD-replicate}
+use lib.Seq.{take-all, getD-set-same, getD-set-other}
 use Rattle.slots.proofs.Laws.Tests.{le, gt, order}
-use lib.Seq.{take-all, drop-cons, getD-take, getD-set-same, getD-set-other}
 use Rattle.spec.specs.declared.types.Head.{Head}
 use Rattle.spec.specs.declared.types.Request.{Request}
 use Rattle.spec.specs.declared.types.Counts.{Counts}
@@ -28,7 +27,7 @@ use Rattle.spec.proofs.Laws.Every.{Value, is-true, is-false, value, count-most}
 use Rattle.spec.proofs.Laws.Clients.{of-yes, of-no, waitingOf-none, waitingOf-cons}
 use Rattle.spec.proofs.Laws.Sound.{within-test, Shaped}
 use Rattle.columns.specs.Columns.{rowsOf, requestOf}
-use Rattle.columns.proofs.Laws.{length-rows, getD-rows}
+use Rattle.columns.proofs.Laws.{length-rows, getD-rows, rest-cons}
 use Rattle.sound.specs.Checks.{hasShape, isNext, areNext, doesBalance, tallySize, talliedOf, tallyPlace, oneMore}
 use Rattle.sound.specs.Checks.{countedIf, Countable, Tallied}
 
@@ -64,16 +63,9 @@ module _ {A : Type 0} (f : ℕ → ℕ → ℕ → A) (xs ys zs : List ℕ) (n i
       → drop i (take n (rowsOf f xs ys zs))
       ≡ f (getD xs i 0) (getD ys i 0) (getD zs i 0) ∷ drop (i + 1) (take n (rowsOf f xs ys zs))
   left-cons hx hy hz h =
-      rw (add-one i)
-      (drop-cons (take n (rowsOf f xs ys zs)) i (f 0 0 0)
-      (omega (arith, length-take n (rowsOf f xs ys zs), length-rows f xs ys zs))
-      ∙ ap (λ (a : A). a ∷ drop (suc i) (take n (rowsOf f xs ys zs)))
-      (getD-take n (rowsOf f xs ys zs) i (f 0 0 0) h
-      ∙ getD-rows f xs ys zs i (f 0 0 0) (omega arith) (omega arith) (omega arith)))
-
-  pub left-none : n ≤ i → drop i (take n (rowsOf f xs ys zs)) ≡ []
-  left-none h =
-      drop-of-length-le (take n (rowsOf f xs ys zs)) {i = i} (omega (arith, length-take n (rowsOf f xs ys zs)))
+      rest-cons (rowsOf f xs ys zs) n i (f 0 0 0) h (omega (arith, length-rows f xs ys zs))
+      ∙ ap (λ (a : A). a ∷ drop (i + 1) (take n (rowsOf f xs ys zs)))
+      (getD-rows f xs ys zs i (f 0 0 0) (omega arith) (omega arith) (omega arith))
 
 -- ---- a pass that does not end early: its verdict b so far and the verdict on what is left make up the whole. A turn takes
 -- the next test into b, and at the end nothing is left

@@ -35,10 +35,7 @@ fn is_sound(
     if !crate::tables::are_zero(deadlines, numbers, clients, n, records) {
         return false;
     }
-    if !crate::tables::are_balanced(&tally, submitted, served, dropped, head.clients as usize) {
-        return false;
-    }
-    true
+    crate::tables::are_balanced(&tally, submitted, served, dropped, head.clients as usize)
 }
 
 // The refusal that the tables call for, 0 where there is none.

@@ -10,7 +10,7 @@ ghost use Rattle.spec.specs.Sound.{isHeadWithin};
 ghost use Rattle.sound.specs.Checks.{hasShape, isNext, isNear, doesBalance};
 
 // Whether a comes before b in chart order.
-pub fn comes_before(a: Request, b: Request) -> bool
+pub(crate) fn comes_before(a: Request, b: Request) -> bool
     ensures { λ r. ⌜ r ≡ comesBefore a b ⌝ }
 {
     if a.deadline < b.deadline {
@@ -23,7 +23,7 @@ pub fn comes_before(a: Request, b: Request) -> bool
 }
 
 // Whether w can stand at the index i, behind the record before it; how far ahead it is, `is_near` asks of the last one.
-pub fn is_next(head: Head, i: u64, before: Request, w: Request) -> bool
+pub(crate) fn is_next(head: Head, i: u64, before: Request, w: Request) -> bool
     requires { ⌜ (head .clock ≤ clockEnd) × (i ≤ mostRecords) ⌝ }
     ensures { λ r. ⌜ r ≡ isNext head i before w ⌝ }
 {
@@ -43,7 +43,7 @@ pub fn is_next(head: Head, i: u64, before: Request, w: Request) -> bool
 }
 
 // Whether a deadline is past the clock by at most 65,535.
-pub fn is_near(head: Head, deadline: u64) -> bool
+pub(crate) fn is_near(head: Head, deadline: u64) -> bool
     requires { ⌜ head .clock ≤ clockEnd ⌝ }
     ensures { λ r. ⌜ r ≡ isNear head deadline ⌝ }
 {
@@ -51,7 +51,7 @@ pub fn is_near(head: Head, deadline: u64) -> bool
 }
 
 // Whether a client's counts balance with those waiting, counted in two parts. The sum is of 64 bits, where it cannot wrap.
-pub fn does_balance(k: Counts, even: u32, odd: u32) -> bool
+pub(crate) fn does_balance(k: Counts, even: u32, odd: u32) -> bool
     ensures { λ r. ⌜ r ≡ doesBalance k (even + odd) ⌝ }
 {
     let waits = even as u64 + odd as u64;
@@ -60,7 +60,7 @@ pub fn does_balance(k: Counts, even: u32, odd: u32) -> bool
 }
 
 // Whether the head is within its bounds.
-pub fn is_head_within(head: Head) -> bool
+pub(crate) fn is_head_within(head: Head) -> bool
     ensures { λ r. ⌜ r ≡ isHeadWithin head ⌝ }
 {
     ((1 <= head.clients) & (head.clients <= 256))
@@ -70,7 +70,7 @@ pub fn is_head_within(head: Head) -> bool
 }
 
 // Whether tables of these lengths fit the head.
-pub fn has_shape(head: Head, records: usize, clients: usize) -> bool
+pub(crate) fn has_shape(head: Head, records: usize, clients: usize) -> bool
     ensures { λ r. ⌜ r ≡ hasShape head records clients ⌝ }
 {
     ((1 <= records) & (records <= 2048))

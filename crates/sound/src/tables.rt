@@ -29,7 +29,7 @@ pub fn step(head: Head, i: u64, before: Request, w: Request, tally: &mut [u32; 5
 
 // Whether the first n records are as waiting ones should be, and how many of them each client has. Deadlines ascend, so that
 // only the last is asked whether it is near; where there is none, the zero record is asked.
-pub fn are_next(
+pub(crate) fn are_next(
     head: Head,
     deadlines: &[u64],
     numbers: &[u64],
@@ -66,7 +66,13 @@ pub fn are_next(
 
 // Whether the records from one index up to another are zero. Their bits are gathered and tested once, at the end: so the
 // compiler takes several records a turn.
-pub fn are_zero(deadlines: &[u64], numbers: &[u64], clients: &[u64], from: usize, to: usize) -> bool
+pub(crate) fn are_zero(
+    deadlines: &[u64],
+    numbers: &[u64],
+    clients: &[u64],
+    from: usize,
+    to: usize,
+) -> bool
     requires { ⌜ (to ≤ length (now deadlines)) × (to ≤ length (now numbers)) × (to ≤ length (now clients)) ⌝ }
     ensures { λ r. ⌜ r ≡ every isZeroRequest
         (drop from (take to (requestsOf (now (deadlines .entry)) (now (numbers .entry)) (now (clients .entry))))) ⌝ }
@@ -81,7 +87,7 @@ pub fn are_zero(deadlines: &[u64], numbers: &[u64], clients: &[u64], from: usize
 }
 
 // Whether the counts of the first n clients balance with both halves of the tally.
-pub fn are_balanced(
+pub(crate) fn are_balanced(
     tally: &[u32; 512],
     submitted: &[u32],
     served: &[u32],

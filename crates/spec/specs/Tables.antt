@@ -1,7 +1,7 @@
 -- Bounds, records and the whole state of the queue: document 01, "Tables and bounds". Each bound stands here once, under a name.
 -- Assumes nothing.
 use Prim.Native.Nat.{ℕ, _-_}
-use mathlib.Core.List.{List, _++_}
+use mathlib.Core.List.{List, _++_, map}
 use lib.ListN.{length, take, drop, replicate}
 use Rattle.spec.specs.declared.types.Head.{Head}
 use Rattle.spec.specs.declared.types.Request.{Request}
@@ -53,6 +53,13 @@ waiting s = take (s .head .waiting) (s .waitingTable)
 
 abbrev pub behind : State → List Request
 behind s = drop (s .head .waiting) (s .waitingTable)
+
+-- one field of each request: the deadlines, and the clients
+abbrev pub deadlinesOf : List Request → List ℕ
+deadlinesOf ws = map (λ w. w .deadline) ws
+
+abbrev pub clientsOf : List Request → List ℕ
+clientsOf ws = map (λ w. w .client) ws
 
 -- a table of n records that holds these requests: "every record behind the waiting ones is zero"
 abbrev pub holding : ℕ → List Request → List Request

@@ -14,9 +14,9 @@ use Rattle.slots.proofs.Laws.Tests.{Same, same-yes, same-no, same}
 use Rattle.slots.proofs.Laws.Sums.{All, all-each, all-imp}
 use Rattle.spec.specs.declared.types.Head.{Head}
 use Rattle.spec.specs.declared.types.Request.{Request}
-use Rattle.spec.specs.Tables.{State, waiting}
+use Rattle.spec.specs.Tables.{State, waiting, deadlinesOf}
 use Rattle.spec.specs.Chart.{capacityOf, room, startBefore, startsOf, Segment, joinLeft, segmentsOf, dueBy}
-use Rattle.spec.proofs.Demands.Words.{Ascending, Pairs, deadlinesOf, Finish, ChartFits, slotsOfAll, Apart}
+use Rattle.spec.proofs.Demands.Words.{Ascending, Pairs, Finish, ChartFits, slotsOfAll, Apart}
 use Rattle.spec.proofs.Laws.Order.{order-drop, before-deadline, InOrder}
 use Rattle.spec.proofs.Laws.Feasible.{FeasibleAt, due-yes, dueBy-cons}
 use Rattle.spec.proofs.Laws.Room.{capacity-one}

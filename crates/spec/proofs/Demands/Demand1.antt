@@ -13,15 +13,15 @@ use Rattle.slots.specs.Plan.{CanAllFinish}
 use Rattle.slots.proofs.Laws.Sums.{All}
 use Rattle.spec.specs.declared.types.Answer.the-variants.{Charted, Refused}
 use Rattle.spec.specs.Every.{exists}
-use Rattle.spec.specs.Tables.{zeroCounts, State, waiting}
+use Rattle.spec.specs.Tables.{zeroCounts, State, waiting, deadlinesOf}
 use Rattle.spec.specs.Chart.{Segment, capacityOf, startsOf, segmentsOf}
 use Rattle.spec.specs.Sound.{isSound}
 use Rattle.spec.specs.Refusals.{firstMatch, refusal4, chartRefusals}
 use Rattle.spec.specs.Calls.{Outcome, openOf, reportOf, reportAnswer, chartAccepted, chartOf, chartOutput}
 use Rattle.spec.specs.Frames.{field, valuesOf}
 use Rattle.spec.specs.Lists.{Call, chart, outcomeOf, run, Event, history, isRefused, isOpened, waitingBy, countsSince}
-use Rattle.spec.proofs.Demands.Words.{FitsField, deadlinesOf, refusalsOf, FirstHolds, Ascending, Pairs, Finish}
-use Rattle.spec.proofs.Demands.Words.{ChartFits, from, slotsOfAll, Apart}
+use Rattle.spec.proofs.Demands.Words.{FitsField, refusalsOf, FirstHolds, Ascending, Pairs, Finish, ChartFits, from}
+use Rattle.spec.proofs.Demands.Words.{slotsOfAll, Apart}
 use Rattle.spec.proofs.Laws.Sound.{sound-test}
 use Rattle.spec.proofs.Laws.Accepted.{Decided, accepts, refuses, decided, ChartReady, chart-ready, waiting-length}
 use Rattle.spec.proofs.Calls.Refused.{accepted-same, acceptedOf, outcome-decided, accepted-answer, accepted-none}

@@ -17,8 +17,8 @@ use Rattle.spec.specs.Tables.{zeroRequest, State, waiting}
 use Rattle.spec.specs.Order.{isInOrder, placeOf, removeAt}
 use Rattle.spec.specs.Chart.{isOverfull, Search, nothing, found, firstOverfull}
 use Rattle.spec.specs.Victim.{hasSmallerRatio, countsAt}
-use Rattle.spec.specs.Calls.{Outcome, kept, droppedAt, requestAt, newRequest, countedIn, withNew, requestAt, kept}
-use Rattle.spec.specs.Calls.{victimPlace, submitAccepted, submitOf, tickAccepted, tickOf}
+use Rattle.spec.specs.Calls.{Outcome, kept, droppedAt, requestAt, newRequest, countedIn, withNew, victimPlace}
+use Rattle.spec.specs.Calls.{submitAccepted, submitOf, tickAccepted, tickOf}
 use Rattle.spec.specs.Lists.{submit, tick, outcomeOf, isRefused}
 use Rattle.spec.proofs.Demands.Words.{CanFinish}
 use Rattle.spec.proofs.Laws.Order.{getD-put, remove-put, order-test, InOrder, first-earliest}

@@ -3,13 +3,13 @@
 use Prim.Native.Nat.{ℕ, zero, suc, _-_, _≤_, _<_, _^_}
 use mathlib.Core.Path.{_≡_}
 use mathlib.Core.Bool.{true, false}
-use mathlib.Core.List.{List, [], _∷_, _++_, map}
+use mathlib.Core.List.{List, [], _∷_, _++_}
 use lib.ListN.{length}
 use Rattle.slots.specs.Plan.{EndedBy, CanAllFinish}
 use Rattle.slots.proofs.Laws.Sums.{All}
 use Rattle.spec.specs.declared.types.Head.{Head}
 use Rattle.spec.specs.declared.types.Request.{Request}
-use Rattle.spec.specs.Tables.{State}
+use Rattle.spec.specs.Tables.{State, deadlinesOf}
 use Rattle.spec.specs.Chart.{capacityOf, Segment}
 use Rattle.spec.specs.Refusals.{Refusal, openRefusals, submitRefusals, tickRefusals, reportRefusals, chartRefusals}
 use Rattle.spec.specs.Frames.{Field}
@@ -41,10 +41,6 @@ Pairs p [] [] = Unit {0}
 Pairs p [] (y ∷ ys) = ⊥
 Pairs p (x ∷ xs) [] = ⊥
 Pairs p (x ∷ xs) (y ∷ ys) = p x y × Pairs p xs ys
-
--- the requests' deadlines
-abbrev pub deadlinesOf : List Request → List ℕ
-deadlinesOf ws = map (λ w. w .deadline) ws
 
 -- "every request can still finish": these requests, all from the head's clock on
 abbrev pub CanFinish : Head → List Request → Type 0

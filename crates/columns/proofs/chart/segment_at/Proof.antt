@@ -2,8 +2,8 @@
 use Prim.Native.Nat.{_-_, _≤_, _<_}
 use mathlib.Core.Path.{_≡_, _∙_}
 use native.Mathlib.Omega.{arith}
-use lib.ListN.{take, drop}
 use borrow.Author.Needs.{needs}
+use lib.ListN.{take, drop}
 use Rattle.spec.specs.Chart.{segmentsOf}
 use Rattle.columns.proofs.Drawing.{glue, run-begins, run-more, run-ends, run-last}
 use Rattle.columns.proofs.chart.segment_at.Statement.{statement}

@@ -3,8 +3,8 @@ use Prim.Native.Nat.{_-_, _≤_}
 use mathlib.Core.Path.{_≡_, refl, sym}
 use mathlib.Core.List.{_++_}
 use native.Mathlib.Omega.{arith}
-use lib.ListN.{length, getD, take, drop, take-append-drop, length-set}
 use borrow.Author.Needs.{needs}
+use lib.ListN.{length, getD, take, drop, take-append-drop, length-set}
 use Rattle.columns.specs.Charted.{startSlots}
 use Rattle.columns.specs.Columns.{largest64}
 use Rattle.columns.proofs.Drawing.{starts-none, starts-more, set-last}

@@ -3,8 +3,8 @@ use Prim.Native.Nat.{_-_, _≤_}
 use mathlib.Core.Path.{_≡_, refl, _∙_}
 use mathlib.Core.List.{_++_}
 use native.Mathlib.Omega.{arith}
-use lib.ListN.{length, drop, replicate, length-set}
 use borrow.Author.Needs.{needs}
+use lib.ListN.{length, drop, replicate, length-set}
 use Rattle.columns.proofs.Counting.{cleared-more, cleared-all}
 use Rattle.columns.proofs.counts.clear.Statement.{statement}
 use Rattle.columns.proofs.counts.clear.Tie as tie

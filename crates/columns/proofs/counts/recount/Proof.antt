@@ -3,8 +3,8 @@ use Prim.Native.Nat.{_-_, _≤_}
 use mathlib.Core.Path.{_≡_, refl, ap, _∙_}
 use mathlib.Core.Logic.{⊎-elim}
 use native.Mathlib.Omega.{arith}
-use lib.ListN.{length, length-set, length-replicate}
 use borrow.Author.Needs.{needs}
+use lib.ListN.{length, length-set, length-replicate}
 use Rattle.columns.proofs.Counting.{Counting, counting-none, counting-more, counting-pass, counting-most, counting-done}
 use Rattle.columns.proofs.counts.recount.Statement.{statement}
 use Rattle.columns.proofs.counts.recount.Tie as tie

@@ -3,8 +3,8 @@ use Prim.Native.Nat.{_+_, _-_, _≤_}
 use mathlib.Core.Path.{_≡_}
 use mathlib.Core.Logic.{⊎-elim}
 use native.Mathlib.Omega.{arith}
-use lib.ListN.{take, drop}
 use borrow.Author.Needs.{needs}
+use lib.ListN.{take, drop}
 use Rattle.columns.specs.Scans.{waitingIn}
 use Rattle.columns.proofs.Counting.{waiting-yes, waiting-no, waiting-none}
 use Rattle.columns.proofs.counts.waiting_of.Statement.{statement}

@@ -1,10 +1,10 @@
 -- `columns::rows::counts_at` meets its contract. Assumes nothing.
 use mathlib.Core.Path.{sym}
 use native.Mathlib.Omega.{arith}
+use borrow.Author.Needs.{needs}
 use Rattle.spec.specs.Tables.{zeroCounts}
 use Rattle.columns.specs.Columns.{countOf}
 use Rattle.columns.proofs.Laws.{getD-rows, getD-rows-none}
-use borrow.Author.Needs.{needs}
 use Rattle.columns.proofs.rows.counts_at.Statement.{statement}
 use Rattle.columns.proofs.rows.counts_at.Tie as tie
 

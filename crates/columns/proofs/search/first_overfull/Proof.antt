@@ -3,8 +3,8 @@ use Prim.Native.Nat.{_-_, _≤_}
 use mathlib.Core.Path.{_≡_, refl, _∙_}
 use mathlib.Core.List.{_∷_}
 use native.Mathlib.Omega.{arith}
-use lib.ListN.{take, drop}
 use borrow.Author.Needs.{needs}
+use lib.ListN.{take, drop}
 use Rattle.columns.specs.Scans.{overfullFrom}
 use Rattle.columns.proofs.Scanning.{overfull-here, overfull-next, overfull-none}
 use Rattle.columns.proofs.search.first_overfull.Statement.{statement}
@@ -57,7 +57,7 @@ returns-2 : tie.Need-returns-2 Inv-loop μ-loop
 returns-2 c =
     let a = c .before .before .before .before .before .args in
     let l = c .before .before .before .loop in
-    overfull-none (a .head) (a .deadlines .now) (a .n) (l .i) (l .d) (omega arith) (omega arith) (omega arith) ∙ l .inv .1
+    overfull-none (a .head) (a .deadlines .now) (a .n) (l .i) (l .d) (omega arith) (omega arith) ∙ l .inv .1
 
 pub first-overfull-spec : {M : Type 1} → statement M
 first-overfull-spec =

@@ -1,6 +1,6 @@
 -- `columns::victim::has_smaller_ratio` meets its contract. Assumes nothing.
-use borrow.Author.Needs.{needs}
 use native.Mathlib.Omega.{arith}
+use borrow.Author.Needs.{needs}
 use Rattle.spec.specs.Victim.{hasSmallerRatio}
 use Rattle.columns.proofs.Scanning.{product-fits}
 use Rattle.columns.proofs.victim.has_smaller_ratio.Statement.{statement}

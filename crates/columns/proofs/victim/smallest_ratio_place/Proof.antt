@@ -1,8 +1,8 @@
 -- `columns::victim::smallest_ratio_place` meets its contract. Assumes nothing.
 use mathlib.Core.Path.{sym, _∙_}
 use native.Mathlib.Omega.{arith}
-use lib.ListN.{getD, take}
 use borrow.Author.Needs.{needs}
+use lib.ListN.{getD, take}
 use Rattle.columns.specs.Scans.{putAt, countsWith}
 use Rattle.columns.proofs.Scanning.{Smallest, smallest-start, smallest-here, smallest-later, smallest-all}
 use Rattle.columns.proofs.victim.smallest_ratio_place.Statement.{statement}

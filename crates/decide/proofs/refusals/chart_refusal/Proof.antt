@@ -1,7 +1,7 @@
 -- `decide::refusals::chart_refusal` meets its contract. Assumes nothing.
 use mathlib.Core.List.{[]}
-use lib.ListN.{length}
 use borrow.Author.Tests.{le-ltb, lt-ltb}
+use lib.ListN.{length}
 use Rattle.spec.specs.Refusals.{refusal12}
 use Rattle.decide.proofs.Matching.{match-here, match-only, tables-match, tables-pass, chart-list}
 use Rattle.decide.proofs.refusals.chart_refusal.Statement.{statement}

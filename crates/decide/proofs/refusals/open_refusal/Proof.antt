@@ -3,9 +3,9 @@ use Prim.Native.Nat.{ℕ}
 use mathlib.Core.Path.{_≡_, ap, _∙_}
 use mathlib.Core.Bool.{false, not}
 use mathlib.Core.List.{[], _∷_}
+use borrow.Author.Tests.{eq-eqb, ne-eqb}
 use lib.Dec.{eqb}
 use lib.ListN.{length}
-use borrow.Author.Tests.{eq-eqb, ne-eqb}
 use Rattle.spec.specs.Every.{isWithin}
 use Rattle.spec.specs.Tables.{mostRecords, State}
 use Rattle.spec.specs.Refusals.{firstMatch, openRefusals, refusal2, refusal3, refusal4Open}

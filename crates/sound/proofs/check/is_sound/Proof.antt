@@ -97,17 +97,14 @@ are-balanced-requires c κs =
     (r .0, r .1, r .2, bounds s .most-clients)
 
 returns-4 : tie.Need-returns-4
-returns-4 c = simp (sound-pass, sym (balanced (c .before)) ∙ not-true _ (c .if4 .taken), and-false)
-
-returns-5 : tie.Need-returns-5
-returns-5 c =
+returns-4 c =
     rw (
       sound-pass,
-      headed (c .before .before .before .before .before .before .before .before .before),
-      passed (c .before .before .before .before .before .before),
-      sym (zeros (c .before .before .before .before)) ∙ not-false _ (c .before .before .before .if3 .left),
-      sym (balanced (c .before)) ∙ not-false _ (c .if4 .left),
+      headed (c .before .before .before .before .before .before .before .before),
+      passed (c .before .before .before .before .before),
+      sym (zeros (c .before .before .before)) ∙ not-false _ (c .before .before .if3 .left),
     )
+    (balanced c)
 
 pub is-sound-spec : {M : Type 1} → statement M
 is-sound-spec =
@@ -121,5 +118,4 @@ is-sound-spec =
     are-zero-requires
     returns-3
     are-balanced-requires
-    returns-4
-    returns-5)
+    returns-4)

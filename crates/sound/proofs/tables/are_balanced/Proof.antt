@@ -10,8 +10,9 @@ use lib.ListN.{take, drop}
 use Rattle.spec.specs.declared.types.Counts.{Counts}
 use Rattle.spec.specs.Every.{everyFrom}
 use Rattle.columns.specs.Columns.{countOf, countsOf}
+use Rattle.columns.proofs.Laws.{rest-none}
 use Rattle.sound.specs.Checks.{talliedOf, doesBalance}
-use Rattle.sound.proofs.Laws.{left-cons, left-none, verdict-end, from-turn}
+use Rattle.sound.proofs.Laws.{left-cons, verdict-end, from-turn}
 use Rattle.sound.proofs.tables.are_balanced.Statement.{statement}
 use Rattle.sound.proofs.tables.are_balanced.Tie as tie
 
@@ -91,7 +92,7 @@ returns c =
     let a = c .before .before .before .before .before .args in
     verdict-end _ _ _
     (ap (everyFrom (test (now (a .tally))) (c .before .loop .i))
-    (left-none countOf (now (a .submitted)) (now (a .served)) (now (a .dropped)) (a .n) (c .before .loop .i)
+    (rest-none (countsOf (now (a .submitted)) (now (a .served)) (now (a .dropped))) (a .n) (c .before .loop .i)
     (c .loop-test .left)))
     (c .before .loop .inv)
 

@@ -11,9 +11,9 @@ use lib.ListN.{getD, take, drop, length, length-take}
 use Rattle.spec.specs.declared.types.Request.{Request}
 use Rattle.spec.specs.Tables.{mostRecords, zeroRequest}
 use Rattle.columns.specs.Columns.{requestOf, requestsOf}
+use Rattle.columns.proofs.Laws.{rest-none}
 use Rattle.sound.specs.Checks.{isNext, areNext}
-use Rattle.sound.proofs.Laws.{left-cons, left-none, next-cons, next-client, Tallying, tally-none, tally-all, tally-most}
-use Rattle.sound.proofs.Laws.{tally-turn}
+use Rattle.sound.proofs.Laws.{left-cons, next-cons, next-client, Tallying, tally-none, tally-all, tally-most, tally-turn}
 use Rattle.sound.proofs.tables.are_next.Statement.{statement}
 use Rattle.sound.proofs.tables.are_next.Tie as tie
 
@@ -127,7 +127,7 @@ returns-2 c =
     let a = c .before .before .before .before .before .before .args in
     let l = c .before .before .loop in
     let none =
-    left-none requestOf (now (a .deadlines)) (now (a .numbers)) (now (a .clients)) (a .n) (l .i) (c .before .loop-test .left) in
+    rest-none (requestsOf (now (a .deadlines)) (now (a .numbers)) (now (a .clients))) (a .n) (l .i) (c .before .loop-test .left) in
     record {
       verdict = c .is-near .ensures ∙ (rw none at (l .inv .0));
       tallied = λ e. tally-all _ _ _ (rw none at (l .inv .1));

@@ -12,7 +12,8 @@ use Rattle.spec.specs.declared.types.Request.{Request}
 use Rattle.spec.specs.Every.{every}
 use Rattle.spec.specs.Sound.{isZeroRequest}
 use Rattle.columns.specs.Columns.{requestOf, requestsOf}
-use Rattle.sound.proofs.Laws.{left-cons, left-none, verdict-end, every-turn, bits-zero}
+use Rattle.columns.proofs.Laws.{rest-none}
+use Rattle.sound.proofs.Laws.{left-cons, verdict-end, every-turn, bits-zero}
 use Rattle.sound.proofs.tables.are_zero.Statement.{statement}
 use Rattle.sound.proofs.tables.are_zero.Tie as tie
 
@@ -71,7 +72,7 @@ returns c =
     let a = c .before .before .args in
     verdict-end _ _ _
     (ap (every isZeroRequest)
-    (left-none requestOf (now (a .deadlines)) (now (a .numbers)) (now (a .clients)) (a .to) (c .before .loop .i)
+    (rest-none (requestsOf (now (a .deadlines)) (now (a .numbers)) (now (a .clients))) (a .to) (c .before .loop .i)
     (c .loop-test .left)))
     (c .before .loop .inv)
 
