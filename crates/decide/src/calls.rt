@@ -83,8 +83,9 @@ fn submit_refused(
     client: u64,
     deadline: u64,
 ) -> u64
-    ensures { λ r. ⌜ r ≡ firstMatch (submitRefusals client deadline (stateOf head (now (deadlines .entry))
-        (now (numbers .entry)) (now (clients .entry)) (now (submitted .entry)) (now (served .entry)) (now (dropped .entry)))) ⌝ }
+    ensures { λ r. ⌜ r ≡ firstMatch (submitRefusals client deadline
+        (stateOf head (now (deadlines .entry)) (now (numbers .entry)) (now (clients .entry)) (now (submitted .entry))
+        (now (served .entry)) (now (dropped .entry)))) ⌝ }
 {
     let tables = check::tables_refusal(
         head,

@@ -126,8 +126,8 @@ unfolding areNext
 returns-2 c =
     let a = c .before .before .before .before .before .before .args in
     let l = c .before .before .loop in
-    let none =
-    rest-none (requestsOf (now (a .deadlines)) (now (a .numbers)) (now (a .clients))) (a .n) (l .i) (c .before .loop-test .left) in
+    let rows = requestsOf (now (a .deadlines)) (now (a .numbers)) (now (a .clients)) in
+    let none = rest-none rows (a .n) (l .i) (c .before .loop-test .left) in
     record {
       verdict = c .is-near .ensures ∙ (rw none at (l .inv .0));
       tallied = λ e. tally-all _ _ _ (rw none at (l .inv .1));
