@@ -1,13 +1,13 @@
 -- Laws of the start slots and the segments, one for each turn of a loop over columns. Assumes nothing.
 use Prim.Native.Nat.{ℕ, zero, suc, _+_, _-_, _≤_, _<_, min}
-use mathlib.Core.Path.{_≡_, refl, sym}
+use mathlib.Core.Path.{_≡_, refl, sym, _∙_}
 use mathlib.Core.Bool.{Bool, true, false, cond}
 use mathlib.Core.List.{List, [], _∷_, _++_}
 use native.Mathlib.Numerals.{add-one}
 use native.Mathlib.Omega.{arith}
 use borrow.Author.Tests.{eq-eqb, ne-eqb}
-use lib.ListN.{length, getD, take, drop, set}
-use lib.Seq.{take-suc, append-snoc, set-at, length-take-le}
+use lib.ListN.{length, getD, take, drop, set, List·getD-append}
+use lib.Seq.{take-suc, append-snoc, set-at, length-take-le, getD-take}
 use Rattle.spec.specs.Chart.{Segment, doTouch, joinLeft, segmentsOf}
 use Rattle.columns.specs.Charted.{startSlot, startSlots, segment}
 use Rattle.columns.specs.Columns.{largest64}
@@ -39,6 +39,11 @@ set-last o t zero v p h = absurd (omega arith)
 set-last o t (suc j) v p h =
     let q : suc j - 1 ≡ j = omega arith in
     rw (q, take-suc o j 0 h, append-snoc, set-at (take j o) (getD o j 0) t v j (length-take-le j o (omega arith)))
+
+-- .. which hold the deadline there still
+pub last-same : (o t : List ℕ) (i : ℕ) → 0 < i → i ≤ length o → getD (take i o ++ t) (i - 1) 0 ≡ getD o (i - 1) 0
+last-same o t i p h =
+    List·getD-append (take i o) t 0 (i - 1) (omega (arith, length-take-le i o h)) ∙ getD-take i o (i - 1) 0 (omega arith)
 
 -- ---- segments
 -- the segments with a run from l to r on their left, which goes on into the first of them where they touch

@@ -4,16 +4,14 @@ use mathlib.Core.Path.{_≡_, refl, ap}
 use mathlib.Core.List.{List, [], _∷_, map}
 use native.Mathlib.Omega.{arith}
 use lib.Dec.{leb}
-use lib.ListN.{length, getD, take, replicate}
+use lib.ListN.{length, getD, take}
 use Rattle.spec.specs.declared.types.Request.{Request}
-use Rattle.spec.specs.Every.{toNumber, countIf, mapFrom}
-use Rattle.spec.specs.Tables.{State, deadlinesOf, clientsOf}
+use Rattle.spec.specs.Every.{toNumber, countIf}
+use Rattle.spec.specs.Tables.{State, deadlinesOf}
 use Rattle.spec.specs.Order.{insertAt}
 use Rattle.spec.specs.Chart.{startsOf, endOf, dueBy}
-use Rattle.spec.specs.Sound.{waitingOf}
-use Rattle.spec.specs.Calls.{restarted}
-use Rattle.columns.specs.Columns.{rowsOf, requestOf, countOf, countsOf, stateOf, largest64}
-use Rattle.columns.specs.Scans.{putAt, waitingIn, Restarted}
+use Rattle.columns.specs.Columns.{rowsOf, countOf, stateOf, largest64}
+use Rattle.columns.specs.Scans.{putAt}
 use Rattle.columns.specs.Charted.{startSlot, startSlots}
 
 -- the columns of a table, put together again, are the table
@@ -23,16 +21,13 @@ unfolding rowsOf
 rows-columns f x y z e [] = refl
 rows-columns f x y z e (a ∷ rows) = λ i. e a i ∷ rows-columns f x y z e rows i
 
--- so a state's own columns hold the state
+-- so every state is held by its head, its waiting table and the columns of its client table
 pub state-columns : (s : State)
-    → stateOf (s .head) (deadlinesOf (s .waitingTable)) (map (λ w. w .number) (s .waitingTable)) (clientsOf (s .waitingTable))
-    (map (λ k. k .submitted) (s .clientTable)) (map (λ k. k .served) (s .clientTable)) (map (λ k. k .dropped) (s .clientTable))
+    → stateOf (s .head) (s .waitingTable) (map (λ k. k .submitted) (s .clientTable)) (map (λ k. k .served) (s .clientTable))
+    (map (λ k. k .dropped) (s .clientTable))
     ≡ s
 state-columns s =
-    rw (
-      rows-columns requestOf (λ w. w .deadline) (λ w. w .number) (λ w. w .client) (λ w. refl) (s .waitingTable),
-      rows-columns countOf (λ k. k .submitted) (λ k. k .served) (λ k. k .dropped) (λ k. refl) (s .clientTable),
-    )
+    rw (rows-columns countOf (λ k. k .submitted) (λ k. k .served) (λ k. k .dropped) (λ k. refl) (s .clientTable))
 
 -- a column of requests with one put in is the column with its entry put in
 pub column-insert : (f : Request → ℕ) (k : ℕ) (r : Request) (ws : List Request)
@@ -91,25 +86,6 @@ starts-below (d ∷ ds) zero h b = go (startSlots ds)
     go [] = omega (arith, b 0 (omega arith))
     go (s ∷ later) = omega (arith, b 0 (omega arith))
 starts-below (d ∷ ds) (suc k) h b = starts-below ds k (omega arith) (λ j i. b (suc j) (omega arith))
-
-pub count-column : (client : ℕ) (ws : List Request) → waitingIn (clientsOf ws) client ≡ waitingOf client ws
-unfolding countIf waitingOf
-count-column client [] = refl
-count-column client (w ∷ ws) = omega (arith, count-column client ws)
-
--- at a period start, from any first index on: the table's is 0
-from-restart : (ws : List Request) (i : ℕ) (su se dr : List ℕ)
-    → countsOf (mapFrom (λ c x. waitingIn (clientsOf ws) c) i su) (replicate (length se) 0) (replicate (length dr) 0)
-    ≡ mapFrom (restarted ws) i (countsOf su se dr)
-unfolding rowsOf mapFrom
-from-restart ws i [] se dr = refl
-from-restart ws i (x ∷ su) [] dr = refl
-from-restart ws i (x ∷ su) (y ∷ se) [] = refl
-from-restart ws i (x ∷ su) (y ∷ se) (z ∷ dr) = rw (count-column i ws, from-restart ws (suc i) su se dr)
-
-pub restart-columns : (ws : List Request) (su₀ se₀ dr₀ su se dr : List ℕ) → Restarted (clientsOf ws) su₀ se₀ dr₀ su se dr
-    → countsOf su se dr ≡ mapFrom (restarted ws) 0 (countsOf su₀ se₀ dr₀)
-restart-columns ws su₀ se₀ dr₀ su se dr r = rw (r .counted, r .none-served, r .none-dropped) (from-restart ws 0 su₀ se₀ dr₀)
 
 pub due-column : (D : ℕ) (ws : List Request) → countIf (λ d. leb d D) (deadlinesOf ws) ≡ dueBy D ws
 unfolding countIf dueBy

@@ -1,6 +1,8 @@
--- The two tables as columns: a column holds one field of every record. Assumes nothing.
+-- The client table as columns: a column holds one field of every record. Assumes nothing.
 use Prim.Native.Nat.{ℕ}
-use mathlib.Core.List.{List, [], _∷_}
+use mathlib.Core.Path.{_≡_}
+use mathlib.Core.List.{List, [], _∷_, _++_, map}
+use lib.ListN.{length, drop}
 use Rattle.spec.specs.declared.types.Head.{Head}
 use Rattle.spec.specs.declared.types.Request.{Request}
 use Rattle.spec.specs.declared.types.Counts.{Counts}
@@ -13,27 +15,27 @@ rowsOf f (x ∷ xs) [] zs = []
 rowsOf f (x ∷ xs) (y ∷ ys) [] = []
 rowsOf f (x ∷ xs) (y ∷ ys) (z ∷ zs) = f x y z ∷ rowsOf f xs ys zs
 
-abbrev pub requestOf : ℕ → ℕ → ℕ → Request
-requestOf deadline number client = record { deadline = deadline; number = number; client = client }
-
 abbrev pub countOf : ℕ → ℕ → ℕ → Counts
 countOf submitted served dropped = record { submitted = submitted; served = served; dropped = dropped }
 
--- the waiting table, and the client table
-abbrev pub requestsOf : List ℕ → List ℕ → List ℕ → List Request
-requestsOf deadlines numbers clients = rowsOf requestOf deadlines numbers clients
-
+-- the client table
 abbrev pub countsOf : List ℕ → List ℕ → List ℕ → List Counts
 countsOf submitted served dropped = rowsOf countOf submitted served dropped
 
--- the whole state
-abbrev pub stateOf : Head → List ℕ → List ℕ → List ℕ → List ℕ → List ℕ → List ℕ → State
-stateOf head deadlines numbers clients submitted served dropped =
-    record {
-      head = head;
-      waitingTable = requestsOf deadlines numbers clients;
-      clientTable = countsOf submitted served dropped;
-    }
+-- the state that a head, a waiting table and the columns of a client table hold
+abbrev pub stateOf : Head → List Request → List ℕ → List ℕ → List ℕ → State
+stateOf head ws submitted served dropped =
+    record { head = head; waitingTable = ws; clientTable = countsOf submitted served dropped }
+
+-- a column with this field of each client's counts; entries beyond are untouched
+abbrev pub over : (Counts → ℕ) → List Counts → List ℕ → List ℕ
+over field cs column = map field cs ++ drop (length cs) column
+
+-- columns that hold a client table; entries beyond are as in the columns before
+pub record Holds (cs : List Counts) (submitted₀ served₀ dropped₀ submitted served dropped : List ℕ) : Type 0 where
+  pub submitted-same : submitted ≡ over (λ k. k .submitted) cs submitted₀
+  pub served-same : served ≡ over (λ k. k .served) cs served₀
+  pub dropped-same : dropped ≡ over (λ k. k .dropped) cs dropped₀
 
 -- the largest numbers of 32 and of 64 bits
 abbrev pub largest32 : ℕ

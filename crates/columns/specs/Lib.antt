@@ -1,3 +1,4 @@
 pub mod Charted
 pub mod Columns
+pub mod Counted
 pub mod Scans

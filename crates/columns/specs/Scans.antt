@@ -1,14 +1,11 @@
--- What scans of the columns find: the first overfull deadline, the place of the smallest ratio, waiting counts.
--- Assumes nothing.
+-- What scans of the columns find: the first overfull deadline, the place of the smallest ratio. Assumes nothing.
 use Prim.Native.Nat.{ℕ, zero, suc, _≤_, _<_}
-use mathlib.Core.Path.{_≡_}
 use mathlib.Core.Bool.{cond}
 use mathlib.Core.List.{List, [], _∷_, _++_}
-use lib.Dec.{ltb, eqb}
-use lib.ListN.{length, getD, take, drop, replicate}
+use lib.Dec.{ltb}
+use lib.ListN.{length, getD, take, drop}
 use Rattle.spec.specs.declared.types.Head.{Head}
 use Rattle.spec.specs.declared.types.Counts.{Counts}
-use Rattle.spec.specs.Every.{countIf, mapFrom}
 use Rattle.spec.specs.Tables.{zeroCounts}
 use Rattle.spec.specs.Chart.{roomTo}
 use Rattle.spec.specs.Victim.{hasSmallerRatio}
@@ -40,13 +37,3 @@ unfoldable pub smallestFrom : (ℕ → Counts) → ℕ → ℕ → ℕ
 smallestFrom counts i zero = i
 smallestFrom counts i (suc more) =
     cond (hasSmallerRatio (counts i) (counts (smallestFrom counts (suc i) more))) i (smallestFrom counts (suc i) more)
-
--- how many of these waiting requests, given by their clients, are one client's
-abbrev pub waitingIn : List ℕ → ℕ → ℕ
-waitingIn clients client = countIf (λ c. eqb c client) clients
-
--- "each client's submitted becomes its waiting count, served and dropped become 0.": the three columns, before and after
-pub record Restarted (clients submitted₀ served₀ dropped₀ submitted served dropped : List ℕ) : Type 0 where
-  pub counted : submitted ≡ mapFrom (λ c x. waitingIn clients c) 0 submitted₀
-  pub none-served : served ≡ replicate (length served₀) 0
-  pub none-dropped : dropped ≡ replicate (length dropped₀) 0

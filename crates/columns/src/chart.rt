@@ -23,17 +23,17 @@ fn one_before(deadline: u64, next: u64) -> u64
     deadline - 1
 }
 
-// The start slots of the first n deadlines; the output beyond stays as it is. At first the largest number stands for the start
-// behind, since no deadline is larger.
-pub fn write_starts(deadlines: &[u64], n: usize, output: &mut [u64])
-    requires { ⌜ (n ≤ length (now deadlines)) × (n ≤ length (now output)) ⌝ }
-    ensures { λ _. ⌜ now (output .exit) ≡ startSlots (take n (now (deadlines .entry))) ++ drop n (now (output .entry)) ⌝ }
+// The first n entries are deadlines and become their start slots; those beyond stay as they are. At first the largest number
+// stands for the start behind, since no deadline is larger.
+pub fn write_starts(output: &mut [u64], n: usize)
+    requires { ⌜ n ≤ length (now output) ⌝ }
+    ensures { λ _. ⌜ now (output .exit) ≡ startSlots (take n (now (output .entry))) ++ drop n (now (output .entry)) ⌝ }
 {
     let mut i = n;
     let mut next: u64 = 18446744073709551615;
     while 0 < i {
         i -= 1;
-        next = one_before(deadlines[i], next);
+        next = one_before(output[i], next);
         output[i] = next;
     }
 }

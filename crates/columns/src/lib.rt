@@ -1,4 +1,4 @@
-// The two tables as columns of numbers: what is looked up, counted and searched in them.
+// Columns of numbers, of waiting records and of counts: what is looked up, counted and searched in them.
 pub mod chart;
 pub mod counts;
 pub mod rows;

@@ -9,20 +9,21 @@ ghost use Rattle.spec.specs.Tables.{mostRecords, clockEnd, zeroCounts};
 ghost use Rattle.spec.specs.Chart.{roomTo};
 ghost use Rattle.columns.specs.Columns.{countsOf};
 
-// How many records three columns of these lengths have.
+// The smaller of two lengths.
+pub(crate) fn smaller(a: usize, b: usize) -> usize
+    ensures { λ r. ⌜ r ≡ min a b ⌝ }
+{
+    if a <= b {
+        return a;
+    }
+    b
+}
+
+// The smallest of three lengths: so many records three columns of these lengths have.
 pub fn shortest(a: usize, b: usize, c: usize) -> usize
     ensures { λ r. ⌜ r ≡ min a (min b c) ⌝ }
 {
-    if a <= b {
-        if a <= c {
-            return a;
-        }
-        return c;
-    }
-    if b <= c {
-        return b;
-    }
-    c
+    smaller(a, smaller(b, c))
 }
 
 // How many requests the slots from the clock to the deadline can take.

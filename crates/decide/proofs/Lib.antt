@@ -1,6 +1,5 @@
 pub mod Carried
-pub mod Chosen
+pub mod Choosing
 pub mod Matching
-pub mod Searched
-pub mod Shown
+pub mod Replying
 pub mod States

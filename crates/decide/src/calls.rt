@@ -1,61 +1,84 @@
-// What each call has to do, decided on the columns of the tables: these are the tables, just as long as they are.
-use crate::refusals;
+// What a submit and a tick have to do, from the refusal that was found, the columns of the tables and the head. A submit is
+// decided in two steps: whether all requests can still finish is told by their deadlines, and most often they can; only where
+// they cannot does the victim take their clients too.
 use crate::types::Decision;
-use columns::counts;
-use columns::rows;
+use crate::types::Fit;
 use columns::search;
 use columns::search::Overfull;
 use columns::victim;
-use sound::check;
 use spec::types::Head;
 ghost use mathlib.Core.Path.{_≡_};
-ghost use mathlib.Core.List.{List};
-ghost use Prim.Native.Nat.{ℕ, _≤_, _<_};
-ghost use lib.ListN.{length, getD};
-ghost use Rattle.spec.specs.Tables.{State};
-ghost use Rattle.spec.specs.Refusals.{firstMatch, submitRefusals};
-ghost use Rattle.columns.specs.Columns.{stateOf, largest32};
-ghost use Rattle.decide.specs.Decisions.{Shows, submitChoice, openDecision, submitDecision, tickDecision, reportDecision};
-ghost use Rattle.decide.specs.Decisions.{chartDecision};
+ghost use Prim.Native.Nat.{ℕ};
+ghost use lib.Dec.{ltb};
+ghost use lib.ListN.{getD, take};
+ghost use Rattle.spec.specs.Tables.{State, waiting, deadlinesOf, clientsOf};
+ghost use Rattle.spec.specs.Refusals.{firstMatch, submitRefusals, tickRefusals};
+ghost use Rattle.columns.specs.Columns.{countsOf, largest32};
+ghost use Rattle.decide.specs.Decisions.{submitFit, submitDecision, tickDecision};
+ghost use Rattle.decide.specs.declared.types.Fit.the-variants.{Over};
 
-// Open, by the lengths of the tables.
-pub fn open_decision(clients: u64, period: u64, records: usize, accounts: usize) -> Decision
-    ensures { λ r. ⌜
-        ((s : State) → length (s .waitingTable) ≡ records → length (s .clientTable) ≡ accounts
-        → r ≡ openDecision clients period s)
-        ⌝ }
+// Submit's first step: refused, or the new request's place and, where not all can finish, the last candidate's. The column may
+// be longer than the waiting requests. Where no refusal was found it shows them, so that the test of its length passes: with it
+// nothing is asked of the caller.
+pub fn submit_fit(head: Head, deadlines: &[u64], refusal: u64, deadline: u64) -> Fit
+    ensures { λ r. ⌜ ((client : ℕ) (s : State) → refusal ≡ firstMatch (submitRefusals client deadline s) → s .head ≡ head
+        → (refusal ≡ 0 → deadlinesOf (waiting s) ≡ take (head .waiting) (now (deadlines .entry)))
+        → r ≡ submitFit client deadline s) ⌝ }
 {
-    let refusal = refusals::open_refusal(clients, period, records, accounts);
     if refusal != 0 {
-        return Decision::Refuse { number: refusal };
+        return Fit::Refused { number: refusal };
     }
-    Decision::Open
+    let n = head.waiting as usize;
+    if deadlines.len() < n {
+        return Fit::Refused { number: refusal };
+    }
+    let place = search::due_by(deadlines, n, deadline);
+    let found = search::first_overfull(head, deadlines, n, place, deadline);
+    match found {
+        Overfull::None => Fit::All { place },
+        Overfull::At { deadline: due } => {
+            let last = search::due_by(deadlines, n, due);
+            Fit::Over { place, last }
+        }
+    }
 }
 
-// What an accepted submit does: the columns show the waiting requests and the client table, and may be longer than these.
-pub fn submit_choice(
+// Whether one more can be counted in an entry of a column; a column has 0 beyond its end.
+fn can_rise(counts: &[u32], at: u64) -> bool
+    ensures { λ r. ⌜ r ≡ ltb (getD (now (counts .entry)) at 0) largest32 ⌝ }
+{
+    let i = at as usize;
+    if i < counts.len() {
+        return counts[i] < 4294967295;
+    }
+    true
+}
+
+// Submit's second step: refused, kept at a place, or one record dropped. The clients are read only where one is; they and the
+// counts then show the state, so that the tests pass: with them nothing is asked of the caller.
+pub fn submit_decision(
     head: Head,
-    deadlines: &[u64],
     clients: &[u64],
     submitted: &[u32],
     served: &[u32],
     dropped: &[u32],
+    fit: Fit,
     client: u64,
-    deadline: u64,
 ) -> Decision
-    requires { ⌜ (head .waiting ≤ length (now deadlines)) × (head .waiting ≤ length (now clients))
-        × (getD (now submitted) client 0 < largest32) ⌝ }
-    ensures { λ r. ⌜ ((s : State)
-        → Shows head (now (deadlines .entry)) (now (clients .entry)) (now (submitted .entry)) (now (served .entry))
-        (now (dropped .entry)) s → firstMatch (submitRefusals client deadline s) ≡ 0 → r ≡ submitChoice client deadline s) ⌝ }
+    ensures { λ r. ⌜ ((deadline : ℕ) (s : State) → fit ≡ submitFit client deadline s → s .head ≡ head
+        → s .clientTable ≡ countsOf (now (submitted .entry)) (now (served .entry)) (now (dropped .entry))
+        → ((place last : ℕ) → fit ≡ Over place last → clientsOf (waiting s) ≡ take (head .waiting) (now (clients .entry)))
+        → r ≡ submitDecision client deadline s) ⌝ }
 {
-    let n = head.waiting as usize;
-    let place = search::due_by(deadlines, n, deadline);
-    let found = search::first_overfull(head, deadlines, n, place, deadline);
-    match found {
-        Overfull::None => Decision::Keep { place },
-        Overfull::At { deadline: due } => {
-            let last = search::due_by(deadlines, n, due);
+    match fit {
+        Fit::Refused { number } => Decision::Refuse { number },
+        Fit::All { place } => Decision::Keep { place },
+        Fit::Over { place, last } => {
+            let n = head.waiting as usize;
+            let within = (place <= n) & (last <= n) & (n <= clients.len());
+            if !(within & can_rise(submitted, client)) {
+                return Decision::Refuse { number: 0 };
+            }
             let victim = victim::smallest_ratio_place(
                 clients,
                 n,
@@ -71,109 +94,10 @@ pub fn submit_choice(
     }
 }
 
-// Submit's refusal, of tables in columns.
-fn submit_refused(
-    head: Head,
-    deadlines: &[u64],
-    numbers: &[u64],
-    clients: &[u64],
-    submitted: &[u32],
-    served: &[u32],
-    dropped: &[u32],
-    client: u64,
-    deadline: u64,
-) -> u64
-    ensures { λ r. ⌜ r ≡ firstMatch (submitRefusals client deadline
-        (stateOf head (now (deadlines .entry)) (now (numbers .entry)) (now (clients .entry)) (now (submitted .entry))
-        (now (served .entry)) (now (dropped .entry)))) ⌝ }
-{
-    let tables = check::tables_refusal(
-        head,
-        deadlines,
-        numbers,
-        clients,
-        submitted,
-        served,
-        dropped,
-    );
-    let records = rows::shortest(deadlines.len(), numbers.len(), clients.len());
-    refusals::submit_refusal(
-        tables,
-        head,
-        records,
-        submitted,
-        served,
-        dropped,
-        client,
-        deadline,
-    )
-}
-
-// Submit: refused, kept at a place, or one record dropped.
-pub fn submit_decision(
-    head: Head,
-    deadlines: &[u64],
-    numbers: &[u64],
-    clients: &[u64],
-    submitted: &[u32],
-    served: &[u32],
-    dropped: &[u32],
-    client: u64,
-    deadline: u64,
-) -> Decision
-    ensures { λ r. ⌜ r ≡ submitDecision client deadline (stateOf head (now (deadlines .entry)) (now (numbers .entry))
-        (now (clients .entry)) (now (submitted .entry)) (now (served .entry)) (now (dropped .entry))) ⌝ }
-{
-    let refusal = submit_refused(
-        head,
-        deadlines,
-        numbers,
-        clients,
-        submitted,
-        served,
-        dropped,
-        client,
-        deadline,
-    );
-    if refusal != 0 {
-        return Decision::Refuse { number: refusal };
-    }
-    submit_choice(
-        head,
-        deadlines,
-        clients,
-        submitted,
-        served,
-        dropped,
-        client,
-        deadline,
-    )
-}
-
 // Tick: refused, the first waiting record served, or idle.
-pub fn tick_decision(
-    head: Head,
-    deadlines: &[u64],
-    numbers: &[u64],
-    clients: &[u64],
-    submitted: &[u32],
-    served: &[u32],
-    dropped: &[u32],
-) -> Decision
-    ensures { λ r. ⌜ r ≡ tickDecision
-        (stateOf head (now (deadlines .entry)) (now (numbers .entry)) (now (clients .entry)) (now (submitted .entry))
-        (now (served .entry)) (now (dropped .entry))) ⌝ }
+pub fn tick_decision(refusal: u64, head: Head) -> Decision
+    ensures { λ r. ⌜ ((s : State) → refusal ≡ firstMatch (tickRefusals s) → s .head ≡ head → r ≡ tickDecision s) ⌝ }
 {
-    let tables = check::tables_refusal(
-        head,
-        deadlines,
-        numbers,
-        clients,
-        submitted,
-        served,
-        dropped,
-    );
-    let refusal = refusals::tick_refusal(tables, head);
     if refusal != 0 {
         return Decision::Refuse { number: refusal };
     }
@@ -181,75 +105,4 @@ pub fn tick_decision(
         return Decision::Idle;
     }
     Decision::Serve
-}
-
-// Report: refused, or the client's counts with its waiting count.
-pub fn report_decision(
-    head: Head,
-    deadlines: &[u64],
-    numbers: &[u64],
-    clients: &[u64],
-    submitted: &[u32],
-    served: &[u32],
-    dropped: &[u32],
-    client: u64,
-) -> Decision
-    ensures { λ r. ⌜ r ≡ reportDecision client
-        (stateOf head (now (deadlines .entry)) (now (numbers .entry)) (now (clients .entry)) (now (submitted .entry))
-        (now (served .entry)) (now (dropped .entry))) ⌝ }
-{
-    let tables = check::tables_refusal(
-        head,
-        deadlines,
-        numbers,
-        clients,
-        submitted,
-        served,
-        dropped,
-    );
-    let refusal = refusals::report_refusal(tables, head, client);
-    if refusal != 0 {
-        return Decision::Refuse { number: refusal };
-    }
-    let counts = rows::counts_at(submitted, served, dropped, client);
-    let waiting = counts::waiting_of(clients, head.waiting as usize, client);
-    Decision::Report {
-        submitted: counts.submitted as u64,
-        served: counts.served as u64,
-        dropped: counts.dropped as u64,
-        waiting,
-    }
-}
-
-// Chart: refused, or the start slots written into an output of so many entries.
-pub fn chart_decision(
-    head: Head,
-    deadlines: &[u64],
-    numbers: &[u64],
-    clients: &[u64],
-    submitted: &[u32],
-    served: &[u32],
-    dropped: &[u32],
-    entries: usize,
-) -> Decision
-    ensures { λ r. ⌜
-        ((output : List ℕ) → length output ≡ entries → r ≡ chartDecision output
-        (stateOf head (now (deadlines .entry)) (now (numbers .entry)) (now (clients .entry)) (now (submitted .entry))
-        (now (served .entry)) (now (dropped .entry))))
-        ⌝ }
-{
-    let tables = check::tables_refusal(
-        head,
-        deadlines,
-        numbers,
-        clients,
-        submitted,
-        served,
-        dropped,
-    );
-    let refusal = refusals::chart_refusal(tables, head, entries);
-    if refusal != 0 {
-        return Decision::Refuse { number: refusal };
-    }
-    Decision::Chart
 }

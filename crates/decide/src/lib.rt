@@ -1,4 +1,6 @@
-// What each call has to do, decided on columns before anything is changed.
+// What each call has to do, decided on columns before anything is changed, and what it hands back.
 pub mod calls;
+pub mod edits;
 pub mod refusals;
+pub mod replies;
 pub mod types;

@@ -1,25 +1,35 @@
-// What a call has to do.
+// What a new request meets, what a call has to do, how it changes the waiting table, and what it hands back.
+use spec::types::Answer;
+use spec::types::Head;
+
+// Where a new request goes, and whether all requests can then still finish.
+pub enum Fit {
+    Refused { number: u64 },
+    // All can, with the new one at `place`.
+    All { place: usize },
+    // They cannot: candidates are those from the first up to the one at `last`, the new one among them.
+    Over { place: usize, last: usize },
+}
+
+// What a submit or a tick does to the waiting table; the other calls change no waiting record by a decision.
 pub enum Decision {
-    Refuse {
-        number: u64,
-    },
-    Open,
+    Refuse { number: u64 },
     // The new record goes in at `place`.
-    Keep {
-        place: usize,
-    },
+    Keep { place: usize },
     // The new record goes in at `place`, and then the one at `victim` is taken out.
-    Drop {
-        place: usize,
-        victim: usize,
-    },
+    Drop { place: usize, victim: usize },
     Serve,
     Idle,
-    Report {
-        submitted: u64,
-        served: u64,
-        dropped: u64,
-        waiting: u64,
-    },
-    Chart,
+}
+
+// What a change of the waiting table is: the record at `out` is taken out, then another put in at `at`.
+pub struct Edit {
+    pub out: usize,
+    pub at: usize,
+}
+
+// What a call hands back: the head, and beside it the answer.
+pub struct Reply {
+    pub head: Head,
+    pub answer: Answer,
 }

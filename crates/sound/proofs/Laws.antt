@@ -26,7 +26,7 @@ use Rattle.spec.specs.Refusals.{refusal4}
 use Rattle.spec.proofs.Laws.Every.{Value, is-true, is-false, value, count-most}
 use Rattle.spec.proofs.Laws.Clients.{of-yes, of-no, waitingOf-none, waitingOf-cons}
 use Rattle.spec.proofs.Laws.Sound.{within-test, Shaped}
-use Rattle.columns.specs.Columns.{rowsOf, requestOf}
+use Rattle.columns.specs.Columns.{rowsOf}
 use Rattle.columns.proofs.Laws.{length-rows, getD-rows, rest-cons}
 use Rattle.sound.specs.Checks.{hasShape, isNext, areNext, doesBalance, tallySize, talliedOf, tallyPlace, oneMore}
 use Rattle.sound.specs.Checks.{countedIf, Countable, Tallied}
@@ -96,11 +96,10 @@ or-zero (suc a) b =
       ne-eqb (bitOr (suc a) b) 0 (λ e. omega (arith, or-add-and (suc a) b, and-le-r (suc a) b)),
     )
 
-pub bits-zero : (bits deadline number client : ℕ)
-    → eqb (bitOr (bitOr (bitOr bits deadline) number) client) 0
-    ≡ eqb bits 0 && isZeroRequest (requestOf deadline number client)
+pub bits-zero : (bits : ℕ) (w : Request)
+    → eqb (bitOr bits (bitOr (bitOr (w .deadline) (w .number)) (w .client))) 0 ≡ eqb bits 0 && isZeroRequest w
 unfolding isZeroRequest
-bits-zero bits deadline number client = simp (or-zero, and-assoc)
+bits-zero bits w = simp (or-zero, and-assoc)
 
 -- ---- the pass over the records: the next record, then the rest
 pub next-cons : (head : Head) (i : ℕ) (before w : Request) (ws l : List Request) → l ≡ w ∷ ws

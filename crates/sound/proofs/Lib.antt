@@ -1,2 +1,5 @@
 pub mod Laws
 pub mod Pass
+pub mod Passing
+pub mod Found
+pub mod Contents

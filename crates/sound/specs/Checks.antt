@@ -13,7 +13,7 @@ use Rattle.spec.specs.Tables.{mostClients, mostRecords, mostAhead, mostCounted,
 use Rattle.spec.specs.Order.{comesBefore}
 use Rattle.spec.specs.Chart.{roomTo}
 use Rattle.spec.specs.Refusals.{firstMatch, refusal4, refusal5}
-use Rattle.spec.specs.Sound.{isGiven, isClient, waitingOf}
+use Rattle.spec.specs.Sound.{isGiven, isClient, isHeadWithin, waitingOf}
 
 -- where refusal 4 does not hold: tables of these lengths fit the head
 unfoldable pub hasShape : Head → ℕ → ℕ → Bool
@@ -82,3 +82,7 @@ pub record Passed (head : Head) (ws : List Request) (tally₀ : List ℕ) (r : B
 -- what the tables call for, before a call's own refusals: 4 or 5, or 0 where neither matches
 unfoldable pub tablesRefusal : State → ℕ
 tablesRefusal s = firstMatch (refusal4 s ∷ refusal5 s ∷ [])
+
+-- what the lengths and the head call for, before any record is looked at: 4 or 5, or 0
+unfoldable pub headRefusal : Head → ℕ → ℕ → ℕ
+headRefusal head records clients = cond (hasShape head records clients) (cond (isHeadWithin head) 0 5) 4

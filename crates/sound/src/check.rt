@@ -1,72 +1,73 @@
-// Whether the tables are refused: their lengths, and whether they are sound.
+// The refusal that the tables call for, in two parts: before any record is looked at, and after all are.
+use crate::tables;
+use columns::rows;
 use spec::types::Head;
+use spec::types::Request;
 ghost use mathlib.Core.Path.{_≡_};
-ghost use mathlib.Core.Bool.{true};
+ghost use mathlib.Core.Bool.{cond, _&&_};
 ghost use lib.ListN.{length};
-ghost use Rattle.spec.specs.Sound.{isSound};
-ghost use Rattle.columns.specs.Columns.{requestsOf, countsOf, stateOf};
-ghost use Rattle.sound.specs.Checks.{hasShape, tablesRefusal};
+ghost use Rattle.columns.specs.Columns.{countsOf, stateOf};
+ghost use Rattle.sound.specs.Checks.{headRefusal, tablesRefusal};
 
-// Whether tables whose lengths fit the head are sound.
-fn is_sound(
-    head: Head,
-    deadlines: &[u64],
-    numbers: &[u64],
-    clients: &[u64],
+// The refusal that lengths and head call for: 4 or 5, 0 where there is none.
+fn head_refusal(head: Head, records: usize, clients: usize) -> u64
+    ensures { λ r. ⌜ r ≡ headRefusal head records clients ⌝ }
+{
+    if !crate::record::has_shape(head, records, clients) {
+        return 4;
+    }
+    if !crate::record::is_head_within(head) {
+        return 5;
+    }
+    0
+}
+
+// The refusal that the three passes call for, of the waiting records, of those behind them and of the clients: 5, 0 where there
+// is none.
+fn verdict(next: bool, zero: bool, balanced: bool) -> u64
+    ensures { λ r. ⌜ r ≡ cond (next && (zero && balanced)) 0 5 ⌝ }
+{
+    if next & (zero & balanced) {
+        return 0;
+    }
+    5
+}
+
+// The refusal that the contents of the tables call for, where lengths and head call for none.
+fn contents_refusal(
+    waiting: &[Request],
     submitted: &[u32],
     served: &[u32],
     dropped: &[u32],
-) -> bool
-    requires { ⌜ hasShape head (length (requestsOf (now deadlines) (now numbers) (now clients)))
-        (length (countsOf (now submitted) (now served) (now dropped))) ≡ true ⌝ }
-    ensures { λ r. ⌜ r ≡ isSound
-        (stateOf head (now (deadlines .entry)) (now (numbers .entry)) (now (clients .entry))
-        (now (submitted .entry)) (now (served .entry)) (now (dropped .entry))) ⌝ }
+    head: Head,
+) -> u64
+    requires { ⌜ headRefusal head (length (now waiting)) (length (countsOf (now submitted) (now served) (now dropped))) ≡ 0 ⌝ }
+    ensures { λ r. ⌜ r ≡ tablesRefusal
+        (stateOf head (now (waiting .entry)) (now (submitted .entry)) (now (served .entry)) (now (dropped .entry))) ⌝ }
 {
-    if !crate::record::is_head_within(head) {
-        return false;
-    }
-    let n = head.waiting as usize;
     let mut tally = [0u32; 512];
-    if !crate::tables::are_next(head, deadlines, numbers, clients, n, &mut tally) {
-        return false;
-    }
-    let records = columns::rows::shortest(deadlines.len(), numbers.len(), clients.len());
-    if !crate::tables::are_zero(deadlines, numbers, clients, n, records) {
-        return false;
-    }
-    crate::tables::are_balanced(&tally, submitted, served, dropped, head.clients as usize)
+    let n = head.waiting as usize;
+    let next = tables::are_next(waiting, &mut tally, head, n);
+    let zero = tables::are_zero(waiting, n);
+    let balanced = tables::are_balanced(&tally, submitted, served, dropped, head.clients as usize);
+    verdict(next, zero, balanced)
 }
 
 // The refusal that the tables call for, 0 where there is none.
 pub fn tables_refusal(
-    head: Head,
-    deadlines: &[u64],
-    numbers: &[u64],
-    clients: &[u64],
+    waiting: &[Request],
     submitted: &[u32],
     served: &[u32],
     dropped: &[u32],
+    head: Head,
 ) -> u64
     ensures { λ r. ⌜ r ≡ tablesRefusal
-        (stateOf head (now (deadlines .entry)) (now (numbers .entry)) (now (clients .entry))
-        (now (submitted .entry)) (now (served .entry)) (now (dropped .entry))) ⌝ }
+        (stateOf head (now (waiting .entry)) (now (submitted .entry)) (now (served .entry)) (now (dropped .entry))) ⌝ }
 {
-    let records = columns::rows::shortest(deadlines.len(), numbers.len(), clients.len());
-    let accounts = columns::rows::shortest(submitted.len(), served.len(), dropped.len());
-    if !crate::record::has_shape(head, records, accounts) {
-        return 4;
+    let clients = rows::shortest(submitted.len(), served.len(), dropped.len());
+    let refusal = head_refusal(head, waiting.len(), clients);
+    if refusal != 0 {
+        return refusal;
     }
-    if !is_sound(
-        head,
-        deadlines,
-        numbers,
-        clients,
-        submitted,
-        served,
-        dropped,
-    ) {
-        return 5;
-    }
-    0
+    contents_refusal(waiting, submitted, served, dropped, head)
 }

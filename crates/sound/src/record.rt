@@ -4,9 +4,11 @@ use spec::types::Head;
 use spec::types::Request;
 ghost use Prim.Native.Nat.{_+_, _≤_};
 ghost use mathlib.Core.Path.{_≡_};
+ghost use mathlib.Core.Bool.{_&&_};
+ghost use lib.Dec.{eqb};
 ghost use Rattle.spec.specs.Tables.{mostRecords, clockEnd};
 ghost use Rattle.spec.specs.Order.{comesBefore};
-ghost use Rattle.spec.specs.Sound.{isHeadWithin};
+ghost use Rattle.spec.specs.Sound.{isHeadWithin, isZeroRequest};
 ghost use Rattle.sound.specs.Checks.{hasShape, isNext, isNear, doesBalance};
 
 // Whether a comes before b in chart order.
@@ -48,6 +50,14 @@ pub(crate) fn is_near(head: Head, deadline: u64) -> bool
     ensures { λ r. ⌜ r ≡ isNear head deadline ⌝ }
 {
     deadline <= head.clock + 65535
+}
+
+// The bits of a record joined to those of others: none is set where all are zero. The record's own are joined first, so that in
+// a pass each record waits for one step alone.
+pub(crate) fn gather(bits: u64, w: Request) -> u64
+    ensures { λ r. ⌜ eqb r 0 ≡ (eqb bits 0 && isZeroRequest w) ⌝ }
+{
+    bits | (w.deadline | w.number | w.client)
 }
 
 // Whether a client's counts balance with those waiting, counted in two parts. The sum is of 64 bits, where it cannot wrap.

@@ -1,6 +1,7 @@
 // The types of the queue, document 01, "Tables and bounds" and "Calls".
 
-// "A record has a deadline, a request number and a client."
+// "A record has a deadline, a request number and a client." Laid out as C does, for programs in other languages.
+#[repr(C)]
 pub struct Request {
     pub deadline: u64,
     pub number: u64,

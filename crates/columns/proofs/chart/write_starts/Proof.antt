@@ -7,23 +7,23 @@ use borrow.Author.Needs.{needs}
 use lib.ListN.{length, getD, take, drop, take-append-drop, length-set}
 use Rattle.columns.specs.Charted.{startSlots}
 use Rattle.columns.specs.Columns.{largest64}
-use Rattle.columns.proofs.Drawing.{starts-none, starts-more, set-last}
+use Rattle.columns.proofs.Drawing.{starts-none, starts-more, set-last, last-same}
 use Rattle.columns.proofs.chart.write_starts.Statement.{statement}
 use Rattle.columns.proofs.chart.write_starts.Tie as tie
 
 abbrev Inv-loop : tie.InvT-loop
-Inv-loop deadlines n output₀ i₀ next₀ output i next =
+Inv-loop output₀ n i₀ next₀ output i next =
     (i ≤ n)
     × (length output ≡ length output₀)
-    × (output ≡ take i output₀ ++ (startSlots (drop i (take n deadlines)) ++ drop n output₀))
-    × (next ≡ getD (startSlots (drop i (take n deadlines))) 0 largest64)
+    × (output ≡ take i output₀ ++ (startSlots (drop i (take n output₀)) ++ drop n output₀))
+    × (next ≡ getD (startSlots (drop i (take n output₀))) 0 largest64)
 
 abbrev μ-loop : tie.MeasureT-loop
-μ-loop deadlines n output₀ i₀ next₀ output i next = i
+μ-loop output₀ n i₀ next₀ output i next = i
 
 loop-holds : tie.Need-loop-holds Inv-loop μ-loop
 loop-holds c =
-    (search needs, refl, rw starts-none (sym (take-append-drop (c .before .before .args .n) _)), rw starts-none)
+    (search needs, refl, rw starts-none (sym (take-append-drop (c .before .args .n) _)), rw starts-none)
 
 sub-i : tie.Need-sub-i Inv-loop μ-loop
 sub-i c = search needs
@@ -31,8 +31,8 @@ sub-i c = search needs
 mul-one-before : tie.Need-mul-one-before Inv-loop μ-loop
 mul-one-before c = search needs
 
-shared-slice-read-one-before : tie.Need-shared-slice-read-one-before Inv-loop μ-loop
-shared-slice-read-one-before c = search needs
+slice-read-one-before : tie.Need-slice-read-one-before Inv-loop μ-loop
+slice-read-one-before c = search needs
 
 one-before-requires : tie.Need-one-before-requires Inv-loop μ-loop
 one-before-requires c κs = search needs
@@ -49,15 +49,20 @@ loop-less c = search needs
 loop-again : tie.Need-loop-again Inv-loop μ-loop
 loop-again c =
     let turn = c .before .before .before in
+    let a = turn .before .before .args in
+    let i = turn .loop .i in
     let inside = c .before .before .loop-test .taken in
+    let read : getD (turn .loop .output) (i - 1) 0 ≡ getD (a .output .now) (i - 1) 0 =
+    rw (turn .loop .inv .2) (last-same _ _ _ inside (omega arith))
+    in
     let more =
-    starts-more _ _ _ _ inside (turn .loop .inv .0) (turn .before .before .before .pre .0)
-    (omega (arith, c .before .shared-slice-known2 .given (turn .loop .i - 1))) (turn .loop .inv .3)
+    starts-more (a .output .now) _ _ _ inside (turn .loop .inv .0) (turn .before .before .pre)
+    (omega (arith, c .before .slice-known2 .given (i - 1))) (turn .loop .inv .3)
     in (
       search needs,
       simp length-set (turn .loop .inv .1),
-      rw (turn .loop .inv .2, more, c .one-before .ensures) (set-last _ _ _ _ inside (omega arith)),
-      rw more (c .one-before .ensures),
+      rw (turn .loop .inv .2, more, c .one-before .ensures, read) (set-last _ _ _ _ inside (omega arith)),
+      rw (more, ← read) (c .one-before .ensures),
     )
 
 same-length : tie.Need-same-length Inv-loop μ-loop
@@ -76,7 +81,7 @@ write-starts-spec =
     loop-holds
     sub-i
     mul-one-before
-    shared-slice-read-one-before
+    slice-read-one-before
     one-before-requires
     mul-output
     slice-write-output

@@ -55,8 +55,8 @@ shared-slice-read-does-balance-2 c = search needs
 mul-does-balance-3 : tie.Need-mul-does-balance-3 Inv-loop μ-loop
 mul-does-balance-3 c = search needs
 
-element-copy-out-does-balance : tie.Need-element-copy-out-does-balance Inv-loop μ-loop
-element-copy-out-does-balance c = search needs
+shared-slice-read-does-balance-3 : tie.Need-shared-slice-read-does-balance-3 Inv-loop μ-loop
+shared-slice-read-does-balance-3 c = search needs
 
 add-does-balance : tie.Need-add-does-balance Inv-loop μ-loop
 add-does-balance c = search needs
@@ -64,8 +64,8 @@ add-does-balance c = search needs
 mul-does-balance-4 : tie.Need-mul-does-balance-4 Inv-loop μ-loop
 mul-does-balance-4 c = search needs
 
-element-copy-out-does-balance-2 : tie.Need-element-copy-out-does-balance-2 Inv-loop μ-loop
-element-copy-out-does-balance-2 c = search needs
+shared-slice-read-does-balance-4 : tie.Need-shared-slice-read-does-balance-4 Inv-loop μ-loop
+shared-slice-read-does-balance-4 c = search needs
 
 does-balance-requires : tie.Need-does-balance-requires Inv-loop μ-loop
 does-balance-requires c κs = search needs
@@ -78,7 +78,7 @@ loop-less c = search needs
 
 loop-again : tie.Need-loop-again Inv-loop μ-loop
 loop-again c =
-    let a = c .before .before .before .before .before .before .before .before .before .before .before .args in
+    let a = c .before .before .before .before .before .before .before .before .before .before .before .before .args in
     let l = c .before .before .before .before .before .before .before .loop in
     rw (c .does-balance .ensures)
     (from-turn (l .balanced) _ _ _ _
@@ -89,7 +89,7 @@ loop-again c =
 returns : tie.Need-returns Inv-loop μ-loop
 unfolding everyFrom
 returns c =
-    let a = c .before .before .before .before .before .args in
+    let a = c .before .before .before .before .before .before .args in
     verdict-end _ _ _
     (ap (everyFrom (test (now (a .tally))) (c .before .loop .i))
     (rest-none (countsOf (now (a .submitted)) (now (a .served)) (now (a .dropped))) (a .n) (c .before .loop .i)
@@ -110,10 +110,10 @@ are-balanced-spec =
     mul-does-balance-2
     shared-slice-read-does-balance-2
     mul-does-balance-3
-    element-copy-out-does-balance
+    shared-slice-read-does-balance-3
     add-does-balance
     mul-does-balance-4
-    element-copy-out-does-balance-2
+    shared-slice-read-does-balance-4
     does-balance-requires
     add-i
     loop-less

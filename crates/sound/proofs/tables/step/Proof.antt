@@ -11,7 +11,7 @@ use Rattle.sound.proofs.tables.step.Statement.{statement}
 use Rattle.sound.proofs.tables.step.Tie as tie
 
 -- a record that passes has a client that exists
-owned : (c : tie.Else1) → c .before .before .args .w .client < mostClients
+owned : (c : tie.Else1) → c .before .before .before .args .w .client < mostClients
 owned c = omega (arith, next-client _ _ _ _ (sym (c .before .is-next .ensures) ∙ not-false _ (c .if1 .left)))
 
 is-next-requires : tie.Need-is-next-requires
@@ -24,33 +24,33 @@ mul-at : tie.Need-mul-at
 mul-at c = search needs
 
 add-at : tie.Need-add-at
-add-at c = omega (arith, owned (c .before))
+add-at c = omega (arith, owned c)
 
 mul-tally : tie.Need-mul-tally
-mul-tally c = omega (arith, owned (c .before))
+mul-tally c = omega (arith, owned c)
 
-element-copy-out-tally : tie.Need-element-copy-out-tally
-element-copy-out-tally c = omega (arith, owned (c .before))
+slice-read-tally : tie.Need-slice-read-tally
+slice-read-tally c = omega (arith, owned (c .before))
 
 add-tally : tie.Need-add-tally
 add-tally c =
-    let a = c .before .before .before .before .args in
-    omega (
-      arith,
-      place-most (now (a .tally)) (a .i) (a .w .client),
-      c .before .before .before .before .pre .1 (owned (c .before .before)),
-    )
+    let start = c .before .before .before .before in
+    let a = start .args in
+    omega (arith, place-most (now (a .tally)) (a .i) (a .w .client), start .pre .3 (owned (c .before)))
 
 mul-tally-2 : tie.Need-mul-tally-2
-mul-tally-2 c = omega (arith, owned (c .before .before))
+mul-tally-2 c = omega (arith, owned (c .before))
 
-element-write-tally : tie.Need-element-write-tally
-element-write-tally c = omega (arith, owned (c .before .before))
+slice-write-tally : tie.Need-slice-write-tally
+slice-write-tally c = omega (arith, owned (c .before))
+
+same-length : tie.Need-same-length
+same-length c = search needs
 
 returns-2 : tie.Need-returns-2
 returns-2 c =
     record {
-      verdict = sym (not-false _ (c .before .before .if1 .left)) ∙ c .before .before .before .is-next .ensures;
+      verdict = sym (not-false _ (c .before .if1 .left)) ∙ c .before .before .is-next .ensures;
       counted = refl;
     }
 
@@ -63,8 +63,9 @@ step-spec =
     mul-at
     add-at
     mul-tally
-    element-copy-out-tally
+    slice-read-tally
     add-tally
     mul-tally-2
-    element-write-tally
+    slice-write-tally
+    same-length
     returns-2)

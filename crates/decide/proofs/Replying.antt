@@ -1,0 +1,4 @@
+-- What a call leaves: the waiting table after its change, the columns of the client table, and the reply.
+pub mod Counted
+pub mod Edited
+pub mod Replied

@@ -1,0 +1,45 @@
+-- `decide::replies::report_reply` meets its contract. Assumes nothing.
+use borrow.Author.Needs.{needs}
+use Rattle.decide.proofs.Replying.Replied.{report-refused, report-goes}
+use Rattle.decide.proofs.replies.report_reply.Statement.{statement}
+use Rattle.decide.proofs.replies.report_reply.Tie as tie
+
+refused-requires : tie.Need-refused-requires
+refused-requires c κs = search needs
+
+returns : tie.Need-returns
+returns c s t same counts = rw (c .refused .ensures) (report-refused _ s t same counts (c .before .if1 .taken))
+
+counts-at-requires : tie.Need-counts-at-requires
+counts-at-requires c κs = search needs
+
+waiting-count-requires : tie.Need-waiting-count-requires
+waiting-count-requires c κs = search needs
+
+cast-t11 : tie.Need-cast-t11
+cast-t11 c = search needs
+
+cast-t12 : tie.Need-cast-t12
+cast-t12 c = search needs
+
+cast-t13 : tie.Need-cast-t13
+cast-t13 c = search needs
+
+returns-2 : tie.Need-returns-2
+returns-2 c s t same counts =
+    let m = c .before .before .before in
+    report-goes _ s t same counts (m .before .before .if1 .left) (m .before .counts-at .result) (m .waiting-count .result)
+    (m .before .counts-at .ensures) (m .waiting-count .ensures)
+
+pub report-reply-spec : {M : Type 1} → statement M
+report-reply-spec =
+    tie.close
+    (tie.spec
+    refused-requires
+    returns
+    counts-at-requires
+    waiting-count-requires
+    cast-t11
+    cast-t12
+    cast-t13
+    returns-2)

@@ -1,0 +1,108 @@
+// How a decision changes the waiting table, how much of the table it is read from, and the record that a submit puts in.
+use crate::types::Decision;
+use crate::types::Edit;
+use crate::types::Fit;
+use spec::types::Head;
+use spec::types::Request;
+ghost use mathlib.Core.Path.{_≡_};
+ghost use mathlib.Core.Bool.{cond};
+ghost use Prim.Native.Nat.{_<_};
+ghost use lib.Dec.{eqb};
+ghost use Rattle.decide.specs.Decisions.{neededClients};
+ghost use Rattle.decide.specs.Replies.{dropEdit, editOf, raised, numberedRequest};
+
+// The new record goes in at `place`, and the one that then stands at `victim` goes out, as one change.
+fn drop_edit(records: usize, place: usize, victim: usize) -> Edit
+    ensures { λ r. ⌜ r ≡ dropEdit records place victim ⌝ }
+{
+    if victim == place {
+        return Edit {
+            out: records,
+            at: 0,
+        };
+    }
+    if victim < place {
+        return Edit {
+            out: victim,
+            at: place - 1,
+        };
+    }
+    Edit {
+        out: victim - 1,
+        at: place,
+    }
+}
+
+// The change of a table of so many records, of which the first ones wait. A change that leaves the table as it is takes out
+// behind its last record.
+pub fn edit_of(decision: Decision, waiting: u64, records: usize) -> Edit
+    ensures { λ r. ⌜ r ≡ editOf decision waiting records ⌝ }
+{
+    match decision {
+        Decision::Keep { place } => Edit {
+            out: waiting as usize,
+            at: place,
+        },
+        Decision::Drop { place, victim } => drop_edit(records, place, victim),
+        Decision::Serve => {
+            if waiting == 0 {
+                return Edit { out: 0, at: 0 };
+            }
+            Edit {
+                out: 0,
+                at: waiting as usize - 1,
+            }
+        }
+        Decision::Refuse { number: _ } => Edit {
+            out: records,
+            at: 0,
+        },
+        Decision::Idle => Edit {
+            out: records,
+            at: 0,
+        },
+    }
+}
+
+// So many records of the table, or none where the call is refused.
+pub fn unless_refused(refusal: u64, records: u64) -> usize
+    ensures { λ r. ⌜ r ≡ cond (eqb refusal 0) records 0 ⌝ }
+{
+    if refusal == 0 {
+        return records as usize;
+    }
+    0
+}
+
+// Of how many records a submit reads the clients: only a victim is found by them.
+pub fn clients_needed(fit: Fit, waiting: u64) -> usize
+    ensures { λ r. ⌜ r ≡ neededClients fit waiting ⌝ }
+{
+    match fit {
+        Fit::Refused { number: _ } => 0,
+        Fit::All { place: _ } => 0,
+        Fit::Over { place: _, last: _ } => waiting as usize,
+    }
+}
+
+// One more, up to the largest number: no number of a sound state is that.
+pub(crate) fn raised(x: u64) -> u64
+    ensures { λ r. ⌜ r ≡ raised x ⌝ }
+{
+    if x == 18446744073709551615 {
+        return x;
+    }
+    x + 1
+}
+
+// The record of a submit, with the next request number.
+pub fn new_request(head: Head, client: u64, deadline: u64) -> Request
+    ensures { λ r. ⌜ r ≡ numberedRequest head client deadline ⌝ }
+{
+    let number = raised(head.last);
+    Request {
+        deadline,
+        number,
+        client,
+    }
+}

@@ -1,0 +1,264 @@
+// What a call hands back, and what it leaves in the columns of the client table. Nothing is asked of the caller: in sound
+// tables no number is at its largest, and where tables are not sound the call was refused.
+use crate::edits;
+use crate::types::Decision;
+use crate::types::Reply;
+use columns::counts;
+use columns::rows;
+use spec::types::Answer;
+use spec::types::Head;
+use spec::types::Request;
+ghost use mathlib.Core.Path.{_≡_};
+ghost use mathlib.Core.List.{List};
+ghost use Prim.Native.Nat.{ℕ, _-_};
+ghost use lib.ListN.{getD};
+ghost use Rattle.spec.specs.Tables.{zeroRequest, State, waiting};
+ghost use Rattle.spec.specs.Refusals.{firstMatch, openRefusals, reportRefusals, chartRefusals};
+ghost use Rattle.spec.specs.Calls.{requestAt, openOf, submitOf, tickOf, reportOf, chartOf};
+ghost use Rattle.columns.specs.Columns.{countsOf, Holds};
+ghost use Rattle.columns.specs.Counted.{restartedAt};
+ghost use Rattle.decide.specs.Decisions.{submitDecision, tickDecision};
+ghost use Rattle.decide.specs.Replies.{raised, refusedWith, numberedHead, keptWith, droppedWith, laterHead, Answers};
+ghost use Rattle.decide.specs.declared.types.Decision.the-variants.{Drop, Serve};
+
+// A refused call's.
+fn refused(head: Head, number: u64) -> Reply
+    ensures { λ r. ⌜ r ≡ refusedWith head number ⌝ }
+{
+    let answer = Answer::Refused { number };
+    Reply { head, answer }
+}
+
+// Open: every count of the client table is 0.
+pub fn open_reply(
+    head: Head,
+    submitted: &mut [u32],
+    served: &mut [u32],
+    dropped: &mut [u32],
+    refusal: u64,
+    clients: u64,
+    period: u64,
+) -> Reply
+    ensures { λ r. ⌜ ((s : State) → refusal ≡ firstMatch (openRefusals clients period s) → s .head ≡ head
+        → s .clientTable ≡ countsOf (now (submitted .entry)) (now (served .entry)) (now (dropped .entry))
+        → Answers (openOf clients period s) (now (submitted .entry)) (now (served .entry)) (now (dropped .entry)) r
+        (now (submitted .exit)) (now (served .exit)) (now (dropped .exit))) ⌝ }
+{
+    if refusal != 0 {
+        return refused(head, refusal);
+    }
+    counts::clear_table(submitted, served, dropped);
+    let opened = Head {
+        clients,
+        period,
+        clock: 0,
+        last: 0,
+        waiting: 0,
+    };
+    let answer = Answer::Opened;
+    Reply {
+        head: opened,
+        answer,
+    }
+}
+
+// The head after a submit, with so many waiting.
+fn numbered(head: Head, waiting: u64) -> Head
+    ensures { λ r. ⌜ r ≡ numberedHead head waiting ⌝ }
+{
+    let last = edits::raised(head.last);
+    Head {
+        clients: head.clients,
+        period: head.period,
+        clock: head.clock,
+        last,
+        waiting,
+    }
+}
+
+// A submit's that keeps all.
+fn kept(head: Head, place: usize) -> Reply
+    ensures { λ r. ⌜ r ≡ keptWith head place ⌝ }
+{
+    let waiting = edits::raised(head.waiting);
+    let after = numbered(head, waiting);
+    let answer = Answer::Kept {
+        number: after.last,
+        place: place as u64,
+    };
+    Reply {
+        head: after,
+        answer,
+    }
+}
+
+// A submit's that drops one.
+fn dropped_one(head: Head, gone: Request) -> Reply
+    ensures { λ r. ⌜ r ≡ droppedWith head gone ⌝ }
+{
+    let after = numbered(head, head.waiting);
+    let answer = Answer::Dropped {
+        number: after.last,
+        victim: gone.number,
+        client: gone.client,
+    };
+    Reply {
+        head: after,
+        answer,
+    }
+}
+
+// Submit's: the new request is counted in submitted and, where one is dropped, that one in dropped. `gone` is the record that
+// went out of the table, or the new one. A submit decides on neither of the last two.
+pub fn submit_reply(
+    head: Head,
+    submitted: &mut [u32],
+    served: &[u32],
+    dropped: &mut [u32],
+    decision: Decision,
+    client: u64,
+    gone: Request,
+) -> Reply
+    ensures { λ r. ⌜ ((deadline : ℕ) (s : State) → decision ≡ submitDecision client deadline s → s .head ≡ head
+        → s .clientTable ≡ countsOf (now (submitted .entry)) (now (served .entry)) (now (dropped .entry))
+        → ((place victim : ℕ) → decision ≡ Drop place victim → gone ≡ requestAt victim client deadline s)
+        → Answers (submitOf client deadline s) (now (submitted .entry)) (now (served .entry)) (now (dropped .entry)) r
+        (now (submitted .exit)) (now (served .entry)) (now (dropped .exit))) ⌝ }
+{
+    match decision {
+        Decision::Refuse { number } => refused(head, number),
+        Decision::Keep { place } => {
+            counts::add_one(submitted, client);
+            kept(head, place)
+        }
+        Decision::Drop {
+            place: _,
+            victim: _,
+        } => {
+            counts::add_one(submitted, client);
+            counts::add_one(dropped, gone.client);
+            dropped_one(head, gone)
+        }
+        Decision::Serve => refused(head, 0),
+        Decision::Idle => refused(head, 0),
+    }
+}
+
+// One less; 0 stays 0.
+fn one_less(n: u64) -> u64
+    ensures { λ r. ⌜ r ≡ n - 1 ⌝ }
+{
+    if n == 0 {
+        return 0;
+    }
+    n - 1
+}
+
+// A slot passes: the clock rises by 1, and at a period's start the counts are restartedCounts.
+fn pass_slot(
+    head: Head,
+    submitted: &mut [u32],
+    served: &mut [u32],
+    dropped: &mut [u32],
+    waits: u64,
+) -> Head
+    ensures { λ r. ⌜ (r ≡ laterHead head waits)
+        × Holds (restartedAt (head .period) (raised (head .clock))
+        (countsOf (now (submitted .entry)) (now (served .entry)) (now (dropped .entry))))
+        (now (submitted .entry)) (now (served .entry)) (now (dropped .entry))
+        (now (submitted .exit)) (now (served .exit)) (now (dropped .exit)) ⌝ }
+{
+    let clock = edits::raised(head.clock);
+    counts::restart_at(head.period, clock, submitted, served, dropped);
+    Head {
+        clients: head.clients,
+        period: head.period,
+        clock,
+        last: head.last,
+        waiting: waits,
+    }
+}
+
+// Tick: `gone` is the record that is served.
+pub fn tick_reply(
+    head: Head,
+    submitted: &mut [u32],
+    served: &mut [u32],
+    dropped: &mut [u32],
+    decision: Decision,
+    gone: Request,
+) -> Reply
+    ensures { λ r. ⌜ ((s : State) → decision ≡ tickDecision s → s .head ≡ head
+        → s .clientTable ≡ countsOf (now (submitted .entry)) (now (served .entry)) (now (dropped .entry))
+        → (decision ≡ Serve → gone ≡ getD (waiting s) 0 zeroRequest)
+        → Answers (tickOf s) (now (submitted .entry)) (now (served .entry)) (now (dropped .entry)) r
+        (now (submitted .exit)) (now (served .exit)) (now (dropped .exit))) ⌝ }
+{
+    match decision {
+        Decision::Serve => {
+            counts::add_one(served, gone.client);
+            let left = one_less(head.waiting);
+            let answer = Answer::Served {
+                slot: head.clock,
+                number: gone.number,
+                client: gone.client,
+            };
+            let head = pass_slot(head, submitted, served, dropped, left);
+            Reply { head, answer }
+        }
+        Decision::Idle => {
+            let answer = Answer::Idle { slot: head.clock };
+            let head = pass_slot(head, submitted, served, dropped, head.waiting);
+            Reply { head, answer }
+        }
+        Decision::Refuse { number } => refused(head, number),
+        Decision::Keep { place: _ } => refused(head, 0),
+        Decision::Drop {
+            place: _,
+            victim: _,
+        } => refused(head, 0),
+    }
+}
+
+// Report's. What a client submitted and was neither served nor dropped waits.
+pub fn report_reply(
+    head: Head,
+    submitted: &[u32],
+    served: &[u32],
+    dropped: &[u32],
+    refusal: u64,
+    client: u64,
+) -> Reply
+    ensures { λ r. ⌜ ((s : State) → refusal ≡ firstMatch (reportRefusals client s) → s .head ≡ head
+        → s .clientTable ≡ countsOf (now (submitted .entry)) (now (served .entry)) (now (dropped .entry))
+        → Answers (reportOf client s) (now (submitted .entry)) (now (served .entry)) (now (dropped .entry)) r
+        (now (submitted .entry)) (now (served .entry)) (now (dropped .entry))) ⌝ }
+{
+    if refusal != 0 {
+        return refused(head, refusal);
+    }
+    let k = rows::counts_at(submitted, served, dropped, client);
+    let waiting = counts::waiting_count(k);
+    let answer = Answer::Reported {
+        client,
+        submitted: k.submitted as u64,
+        served: k.served as u64,
+        dropped: k.dropped as u64,
+        waiting,
+    };
+    Reply { head, answer }
+}
+
+// Chart's.
+pub fn chart_reply(head: Head, refusal: u64) -> Reply
+    ensures { λ r. ⌜ ((output : List ℕ) (s : State) → refusal ≡ firstMatch (chartRefusals output s) → s .head ≡ head
+        → (r .answer ≡ chartOf output s .answer) × (r .head ≡ chartOf output s .after .head)) ⌝ }
+{
+    if refusal != 0 {
+        return refused(head, refusal);
+    }
+    let answer = Answer::Charted {
+        count: head.waiting,
+    };
+    Reply { head, answer }
+}

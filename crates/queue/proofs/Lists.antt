@@ -1,0 +1,110 @@
+-- Demand 3 of the library: a list of its calls is a list of the definitions' calls, so what is proved of those holds of it.
+-- Assumes nothing.
+use Prim.Native.Nat.{ℕ}
+use mathlib.Core.Path.{_≡_, refl, sym, ap, subst, _∙_}
+use mathlib.Core.Bool.{false}
+use mathlib.Core.List.{List, map}
+use Rattle.spec.specs.declared.types.Request.{Request}
+use Rattle.spec.specs.Tables.{State}
+use Rattle.spec.specs.Every.{exists}
+use Rattle.spec.specs.Calls.{Outcome, openOf, submitOf, tickOf, reportOf, chartOf}
+use Rattle.spec.specs.Lists.{Call, opening, submit, tick, report, chart, outcomeOf, run, Event, history, isRefused, isOpened}
+use Rattle.spec.proofs.Demands.Demand1.{keeps-lengths, CountsGiven, counts-given}
+use Rattle.spec.proofs.Demands.Demand3.{Largest, largest-plan}
+use Rattle.columns.proofs.Counting.{holds-rows}
+use Rattle.decide.specs.declared.types.Reply.{Reply}
+use Rattle.queue.specs.Gives.{Gives}
+use Rattle.queue.specs.Runs.{Lent, heldBy, Made, Ran, none, next}
+
+-- each call's contract says that it was made: the definition that it cites is the one that lists of calls go by
+module _ (before : Lent) (r : Reply) (ws : List Request) (su se dr : List ℕ) where
+  abbrev Given : Outcome → Type 0
+  Given o = Gives o (before .submitted) (before .served) (before .dropped) r ws su se dr
+
+  abbrev left : Lent
+  left = record { head = r .head; waitingTable = ws; submitted = su; served = se; dropped = dr }
+
+  pub made-open : (clients period : ℕ) → Given (openOf clients period (heldBy before))
+      → Made (opening clients period) before r left
+  unfolding outcomeOf
+  made-open clients period g = record { head-kept = refl; gives = g }
+
+  pub made-submit : (client deadline : ℕ) → Given (submitOf client deadline (heldBy before))
+      → Made (submit client deadline) before r left
+  unfolding outcomeOf
+  made-submit client deadline g = record { head-kept = refl; gives = g }
+
+  pub made-tick : Given (tickOf (heldBy before)) → Made tick before r left
+  unfolding outcomeOf
+  made-tick g = record { head-kept = refl; gives = g }
+
+  pub made-report : (client : ℕ) → Given (reportOf client (heldBy before)) → Made (report client) before r left
+  unfolding outcomeOf
+  made-report client g = record { head-kept = refl; gives = g }
+
+  pub made-chart : (output : List ℕ) → Given (chartOf output (heldBy before)) → Made (chart output) before r left
+  unfolding outcomeOf
+  made-chart output g = record { head-kept = refl; gives = g }
+
+-- what a call leaves in the lent tables is the state that its definition gives
+pub made-state : (c : Call) (before : Lent) (r : Reply) (after : Lent) → Made c before r after
+    → heldBy after ≡ outcomeOf c (heldBy before) .after
+made-state c before r after m =
+    let head = m .head-kept ∙ m .gives .head-same in
+    let counts = holds-rows (m .gives .counts-same) (keeps-lengths c (heldBy before) .1) in
+    λ i. record { head = head i; waitingTable = m .gives .waiting-same i; clientTable = counts i }
+
+abbrev callsOf : List Event → List Call
+callsOf es = map (λ e. e .call) es
+
+-- so a list of calls has the state and the answers of the definitions' calls
+pub ran-run : {from after : Lent} {es : List Event} → Ran from es after → heldBy after ≡ run (heldBy from) (callsOf es)
+unfolding run
+ran-run none = refl
+ran-run (next {es} {before} {after} c r ran m) =
+    made-state c before r after m ∙ ap (λ (s : State). outcomeOf c s .after) (ran-run ran)
+
+pub ran-history : {from after : Lent} {es : List Event} → Ran from es after → es ≡ history (heldBy from) (callsOf es)
+unfolding history
+ran-history none = refl
+ran-history (next {es} {before} {after} c r ran m) =
+    let a = m .gives .answer-same ∙ ap (λ (s : State). outcomeOf c s .answer) (ran-run ran) in
+    cc (a, ran-history ran)
+
+-- what holds of every list of the definitions' calls from an accepted open on holds of every list of the library's
+module _ (clients period : ℕ) (before from after : Lent) (r : Reply) (es : List Event)
+    (m : Made (opening clients period) before r from) (accepted : isRefused (r .answer) ≡ false) (ran : Ran from es after)
+    (none-opened : exists isOpened es ≡ false) where
+  start : State
+  start = openOf clients period (heldBy before) .after
+
+  of-library : (Φ : List Event → State → Type 0)
+      → (isRefused (openOf clients period (heldBy before) .answer) ≡ false
+      → exists isOpened (history start (callsOf es)) ≡ false
+      → Φ (history start (callsOf es)) (run start (callsOf es)))
+      → Φ es (heldBy after)
+  unfolding outcomeOf start
+  of-library Φ f =
+      subst (λ (es′ : List Event). Φ es′ (heldBy after)) (sym same-history)
+      (subst (Φ (history start (callsOf es))) (sym same-state)
+      (f (ap isRefused (sym (m .gives .answer-same)) ∙ accepted) (ap (exists isOpened) (sym same-history) ∙ none-opened)))
+    where
+      started : heldBy from ≡ start
+      started = made-state (opening clients period) before r from m
+
+      same-history : es ≡ history start (callsOf es)
+      same-history = ran-history ran ∙ ap (λ (s : State). history s (callsOf es)) started
+
+      same-state : heldBy after ≡ run start (callsOf es)
+      same-state = ran-run ran ∙ ap (λ (s : State). run s (callsOf es)) started
+
+  -- "For every list of calls from open on, served plus waiting is as many as the largest plan has, even one made by somebody
+  -- who knew the whole list beforehand."
+  pub library-largest : Largest es (heldBy after)
+  unfolding start
+  library-largest = of-library Largest (largest-plan clients period (heldBy before) (callsOf es))
+
+  -- To be shut out: "counts in a report that the calls since open do not give"
+  pub library-counts : CountsGiven period es (heldBy after)
+  unfolding start
+  library-counts = of-library (CountsGiven period) (counts-given clients period (heldBy before) (callsOf es))

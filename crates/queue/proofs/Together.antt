@@ -1,0 +1,274 @@
+-- What the parts of each call come to together: what its definition says. Assumes nothing.
+use Prim.Native.Nat.{ℕ, suc, _≤_, _<_, min}
+use mathlib.Core.Path.{_≡_, refl, sym, ap, subst, _∙_}
+use mathlib.Core.Bool.{Bool, true, false, cond}
+use mathlib.Core.List.{List, _++_, map, append-nil}
+use mathlib.Core.Logic.{_≢_}
+use native.Mathlib.Omega.{arith}
+use lib.Dec.{eqb}
+use lib.ListN.{length, getD, take, drop, replicate}
+use lib.Seq.{take-at, drop-at, drop-length}
+use Rattle.slots.proofs.Laws.Tests.{Same, same-yes, same-no, same}
+use Rattle.spec.specs.declared.types.Head.{Head}
+use Rattle.spec.specs.declared.types.Request.{Request}
+use Rattle.spec.specs.declared.types.Answer.the-variants.{Refused}
+use Rattle.spec.specs.Tables.{mostRecords, zeroRequest, State, waiting, deadlinesOf, clientsOf}
+use Rattle.spec.specs.Refusals.{Refusal, firstMatch, openRefusals, submitRefusals, tickRefusals, reportRefusals, chartRefusals}
+use Rattle.spec.specs.Calls.{Outcome, unlessRefused, openAccepted, openOf, newRequest, requestAt, submitOf, tickOf}
+use Rattle.spec.specs.Calls.{reportAccepted, reportOf, chartAccepted, chartOf, chartOutput}
+use Rattle.spec.proofs.Laws.Accepted.{Decided as Settled, accepts, refuses as declines, decided as settled, submit-ready}
+use Rattle.spec.proofs.Laws.Accepted.{chart-ready}
+use Rattle.spec.proofs.Calls.Refused.{Written, untouched, written, output-written}
+use Rattle.columns.specs.Columns.{countOf, countsOf, stateOf, largest64}
+use Rattle.columns.specs.Charted.{startSlots}
+use Rattle.columns.proofs.Laws.{length-rows}
+use Rattle.table.specs.Records.{exchanged, takenOut, fieldOf}
+use Rattle.table.proofs.Laws.{length-column}
+use Rattle.sound.specs.Checks.{tablesRefusal}
+use Rattle.decide.specs.declared.types.Reply.{Reply}
+use Rattle.decide.specs.declared.types.Edit.{Edit}
+use Rattle.decide.specs.declared.types.Decision.{Decision}
+use Rattle.decide.specs.declared.types.Decision.the-variants.{Drop, Serve}
+use Rattle.decide.specs.declared.types.Fit.{Fit}
+use Rattle.decide.specs.declared.types.Fit.the-variants.{Refused as NotFit, All, Over}
+use Rattle.decide.specs.Decisions.{submitFit, neededClients, submitDecision, tickDecision}
+use Rattle.decide.specs.Replies.{editOf, raised, numberedRequest, Answers}
+use Rattle.decide.proofs.Carried.{charted}
+use Rattle.decide.proofs.Choosing.Chosen.{Decided, decided}
+use Rattle.decide.proofs.Replying.Counted.{answers, holds-same}
+use Rattle.decide.proofs.Replying.Edited.{submit-edited, submit-taken, new-fits, tick-table, tick-gone}
+use Rattle.queue.specs.Gives.{Gives}
+
+-- a call whose accepted part leaves the state leaves it, refused or not
+unchanged : (rs : List Refusal) (s : State) (o : Outcome) → o .after ≡ s → unlessRefused rs s o .after ≡ s
+unchanged rs s o e = go (settled rs s o)
+  where
+    go : {q : Outcome} → Settled rs s o q → q .after ≡ s
+    go (accepts z) = e
+    go (declines z) = refl
+
+-- the waiting table, and what a reply and the columns answer
+given : {o : Outcome} {su se dr : List ℕ} {r : Reply} {ws : List Request} {su′ se′ dr′ : List ℕ} → ws ≡ o .after .waitingTable
+    → Answers o su se dr r su′ se′ dr′ → Gives o su se dr r ws su′ se′ dr′
+given w a =
+    record { answer-same = a .answer-same; head-same = a .head-same; waiting-same = w; counts-same = a .counts-same }
+
+module _ (head : Head) (ws : List Request) (su se dr : List ℕ) where
+  abbrev s : State
+  s = stateOf head ws su se dr
+
+  column-front : (client : Bool) (n : ℕ) (rest : List ℕ) → n ≤ length ws
+      → take n (map (fieldOf client) (take n ws) ++ rest) ≡ map (fieldOf client) (take n ws)
+  column-front client n rest h =
+      take-at (map (fieldOf client) (take n ws)) rest n (length-column (fieldOf client) n ws h)
+
+  -- ---- report
+  pub reported : (client tables refusal : ℕ) (r : Reply) → tables ≡ tablesRefusal s
+      → ((t : State) → tables ≡ tablesRefusal t → t .head ≡ head → refusal ≡ firstMatch (reportRefusals client t))
+      → ((t : State) → refusal ≡ firstMatch (reportRefusals client t) → t .head ≡ head → t .clientTable ≡ countsOf su se dr
+      → Answers (reportOf client t) su se dr r su se dr)
+      → Gives (reportOf client s) su se dr r ws su se dr
+  unfolding reportOf reportAccepted
+  reported client tables refusal r e f a =
+      given
+      (ap (λ (t : State). t .waitingTable) (sym (unchanged (reportRefusals client s) s (reportAccepted client s) refl)))
+      (a s (f s e refl) refl refl)
+
+  -- ---- chart
+  module _ (output : List ℕ) (tables refusal n : ℕ) (found : tables ≡ tablesRefusal s)
+      (refuses : (t : State) (out : List ℕ) → tables ≡ tablesRefusal t → t .head ≡ head → length out ≡ length output
+      → refusal ≡ firstMatch (chartRefusals out t))
+      (copied : n ≡ cond (eqb refusal 0) (head .waiting) 0) where
+    told : refusal ≡ firstMatch (chartRefusals output s)
+    told = refuses s output found refl refl
+
+    -- how much is copied and written: all that wait, or nothing
+    pub within : (n ≤ length ws) × (n ≤ length output)
+    within = go (eqb refusal 0) (same refusal 0) copied
+      where
+        go : (b : Bool) → Same refusal 0 b → n ≡ cond b (head .waiting) 0 → (n ≤ length ws) × (n ≤ length output)
+        go true (same-yes z) e =
+            let q = chart-ready output s (sym told ∙ z) in
+            (omega (arith, e, q .ready .shape .waits), omega (arith, e, q .long))
+        go false (same-no z) e = (omega (arith, e), omega (arith, e))
+
+    module _ (out₁ out₂ : List ℕ) (first : out₁ ≡ map (fieldOf false) (take n ws) ++ drop n output)
+        (second : out₂ ≡ startSlots (take n out₁) ++ drop n out₁) where
+      abbrev front : List ℕ
+      front = map (fieldOf false) (take n ws)
+
+      front-long : length front ≡ n
+      front-long = length-column (fieldOf false) n ws (within .0)
+
+      slots : out₂ ≡ startSlots front ++ drop n output
+      slots =
+          second
+          ∙ ap (λ (l : List ℕ). startSlots (take n l) ++ drop n l) first
+          ∙ rw (take-at front (drop n output) n front-long, drop-at front (drop n output) n front-long)
+
+      untouched-output : refusal ≢ 0 → {l : List ℕ} → Written output s l → output ≡ l
+      untouched-output z (untouched h) = refl
+      untouched-output z (written e) = absurd (z (told ∙ e))
+
+      pub output-charted : out₂ ≡ chartOutput output s
+      unfolding startSlots
+      output-charted = slots ∙ go (eqb refusal 0) (same refusal 0) copied
+        where
+          go : (b : Bool) → Same refusal 0 b → n ≡ cond b (head .waiting) 0
+              → startSlots front ++ drop n output ≡ chartOutput output s
+          go true (same-yes z) e =
+              subst (λ (m : ℕ). startSlots (map (fieldOf false) (take m ws)) ++ drop m output ≡ chartOutput output s) (sym e)
+              (charted output s (sym told ∙ z))
+          go false (same-no z) e =
+              subst (λ (m : ℕ). startSlots (map (fieldOf false) (take m ws)) ++ drop m output ≡ chartOutput output s) (sym e)
+              (untouched-output z (output-written output s))
+
+    pub chart-gives : (r : Reply)
+        → ((out : List ℕ) (t : State) → refusal ≡ firstMatch (chartRefusals out t) → t .head ≡ head
+        → (r .answer ≡ chartOf out t .answer) × (r .head ≡ chartOf out t .after .head))
+        → Gives (chartOf output s) su se dr r ws su se dr
+    unfolding chartOf chartAccepted
+    chart-gives r a =
+        let q = unchanged (chartRefusals output s) s (chartAccepted s) refl in
+        given
+        (ap (λ (t : State). t .waitingTable) (sym q))
+        (answers (a output s told refl .0) (a output s told refl .1) (holds-same (ap (λ (t : State). t .clientTable) q)))
+
+  -- ---- open
+  module _ (clients period accounts refusal cleared : ℕ) (shortest : accounts ≡ min (length su) (min (length se) (length dr)))
+      (refuses : (t : State) → length (t .waitingTable) ≡ length ws → length (t .clientTable) ≡ accounts
+      → refusal ≡ firstMatch (openRefusals clients period t))
+      (some : cleared ≡ cond (eqb refusal 0) (length ws) 0) where
+    open-told : refusal ≡ firstMatch (openRefusals clients period s)
+    open-told = refuses s refl (length-rows countOf su se dr ∙ sym shortest)
+
+    -- all records are cleared, or none
+    pub cleared-within : cleared ≤ length ws
+    cleared-within = go (eqb refusal 0) some
+      where
+        go : (b : Bool) → cleared ≡ cond b (length ws) 0 → cleared ≤ length ws
+        go true e = omega (arith, e)
+        go false e = omega (arith, e)
+
+    zeros : replicate cleared zeroRequest ++ drop cleared ws ≡ openOf clients period s .after .waitingTable
+    unfolding openOf openAccepted
+    zeros =
+        go (eqb refusal 0) some
+        ∙ ap
+        (λ (n : ℕ). cond (eqb n 0) (openAccepted clients period s) (record { answer = Refused n; after = s }) .after .waitingTable)
+        open-told
+      where
+        go : (b : Bool) → cleared ≡ cond b (length ws) 0
+            → replicate cleared zeroRequest ++ drop cleared ws
+            ≡ cond b (openAccepted clients period s) (record { answer = Refused refusal; after = s }) .after .waitingTable
+        go true e =
+            subst (λ (n : ℕ). replicate n zeroRequest ++ drop n ws ≡ replicate (length ws) zeroRequest) (sym e)
+            (ap (λ (l : List Request). replicate (length ws) zeroRequest ++ l) (drop-length ws) ∙ append-nil _)
+        go false e = subst (λ (n : ℕ). replicate n zeroRequest ++ drop n ws ≡ ws) (sym e) refl
+
+    pub opened : (ws′ : List Request) (r : Reply) (su′ se′ dr′ : List ℕ)
+        → ws′ ≡ replicate cleared zeroRequest ++ drop cleared ws
+        → ((t : State) → refusal ≡ firstMatch (openRefusals clients period t) → t .head ≡ head
+        → t .clientTable ≡ countsOf su se dr → Answers (openOf clients period t) su se dr r su′ se′ dr′)
+        → Gives (openOf clients period s) su se dr r ws′ su′ se′ dr′
+    opened ws′ r su′ se′ dr′ w a = given (w ∙ zeros) (a s open-told refl refl)
+
+  -- ---- tick
+  pub ticked : (tables refusal : ℕ) (decision : Decision) (e : Edit) (gone : Request) (ws′ : List Request) (r : Reply)
+      (su′ se′ dr′ : List ℕ)
+      → tables ≡ tablesRefusal s
+      → ((t : State) → tables ≡ tablesRefusal t → t .head ≡ head → refusal ≡ firstMatch (tickRefusals t))
+      → ((t : State) → refusal ≡ firstMatch (tickRefusals t) → t .head ≡ head → decision ≡ tickDecision t)
+      → e ≡ editOf decision (head .waiting) (length ws)
+      → (gone ≡ takenOut (e .out) (e .at) zeroRequest ws) × (ws′ ≡ exchanged (e .out) (e .at) zeroRequest ws)
+      → ((t : State) → decision ≡ tickDecision t → t .head ≡ head → t .clientTable ≡ countsOf su se dr
+      → (decision ≡ Serve → gone ≡ getD (waiting t) 0 zeroRequest) → Answers (tickOf t) su se dr r su′ se′ dr′)
+      → Gives (tickOf s) su se dr r ws′ su′ se′ dr′
+  ticked tables refusal decision e gone ws′ r su′ se′ dr′ found refuses decides edits moved a =
+      given
+      (moved .1 ∙ ap (λ (x : Edit). exchanged (x .out) (x .at) zeroRequest ws) same-edit ∙ tick-table s)
+      (a s decided refl refl
+      (λ serves.
+      moved .0
+      ∙ ap (λ (x : Edit). takenOut (x .out) (x .at) zeroRequest ws) same-edit
+      ∙ tick-gone s (sym decided ∙ serves)))
+    where
+      decided : decision ≡ tickDecision s
+      decided = decides s (refuses s found refl) refl
+
+      same-edit : e ≡ editOf (tickDecision s) (head .waiting) (length ws)
+      same-edit = edits ∙ ap (λ (d : Decision). editOf d (head .waiting) (length ws)) decided
+
+  -- ---- submit
+  module _ (client deadline refusal : ℕ) (told : refusal ≡ firstMatch (submitRefusals client deadline s)) where
+    -- what is copied before the search
+    module _ (n : ℕ) (copied : n ≡ cond (eqb refusal 0) (head .waiting) 0) where
+      pub scanned-within : (n ≤ length ws) × (n ≤ mostRecords)
+      scanned-within = go (eqb refusal 0) (same refusal 0) copied
+        where
+          go : (b : Bool) → Same refusal 0 b → n ≡ cond b (head .waiting) 0 → (n ≤ length ws) × (n ≤ mostRecords)
+          go true (same-yes z) e =
+              let q = submit-ready client deadline s (sym told ∙ z) .ready .shape in
+              (omega (arith, e, q .waits), omega (arith, e, q .waits, q .most-records))
+          go false (same-no z) e = (omega (arith, e), omega (arith, e))
+
+      pub deadlines-shown : (rest column : List ℕ) → column ≡ map (fieldOf false) (take n ws) ++ rest → refusal ≡ 0
+          → deadlinesOf (waiting s) ≡ take (head .waiting) column
+      deadlines-shown rest column e z =
+          subst (λ (m : ℕ). map (fieldOf false) (take m ws) ≡ take m column) same-count
+          (sym (ap (take n) e ∙ column-front false n rest (scanned-within .0)))
+        where
+          same-count : n ≡ head .waiting
+          same-count = copied ∙ ap (λ (k : ℕ). cond (eqb k 0) (head .waiting) 0) z
+
+    -- what is copied after it
+    module _ (fit : Fit) (found : fit ≡ submitFit client deadline s) (m : ℕ) (needed : m ≡ neededClients fit (head .waiting)) where
+      pub needed-within : (m ≤ length ws) × (m ≤ mostRecords)
+      needed-within =
+          subst (λ (k : ℕ). (k ≤ length ws) × (k ≤ mostRecords)) (sym needed)
+          (go fit
+          (subst (λ (f : Fit). Decided client deadline s f (submitDecision client deadline s)) (sym found)
+          (decided client deadline s)))
+        where
+          go : (f : Fit) → Decided client deadline s f (submitDecision client deadline s)
+              → (neededClients f (head .waiting) ≤ length ws) × (neededClients f (head .waiting) ≤ mostRecords)
+          go (NotFit number) d = (omega arith, omega arith)
+          go (All place) d = (omega arith, omega arith)
+          go (Over place last) d =
+              let q = d .ready .ready .shape in (q .waits, omega (arith, q .waits, q .most-records))
+
+      pub clients-shown : (rest column : List ℕ) → column ≡ map (fieldOf true) (take m ws) ++ rest
+          → (place last : ℕ) → fit ≡ Over place last → clientsOf (waiting s) ≡ take (head .waiting) column
+      clients-shown rest column e place last over =
+          subst (λ (k : ℕ). map (fieldOf true) (take k ws) ≡ take k column)
+          (needed ∙ ap (λ (f : Fit). neededClients f (head .waiting)) over)
+          (sym (ap (take m) e ∙ column-front true m rest (needed-within .0)))
+
+  pub submitted-gives : (client deadline : ℕ) (decision : Decision) (e : Edit) (new gone : Request) (ws′ : List Request)
+      (r : Reply) (su′ dr′ : List ℕ)
+      → decision ≡ submitDecision client deadline s
+      → e ≡ editOf decision (head .waiting) (length ws)
+      → new ≡ numberedRequest head client deadline
+      → (gone ≡ takenOut (e .out) (e .at) new ws) × (ws′ ≡ exchanged (e .out) (e .at) new ws)
+      → ((deadline : ℕ) (t : State) → decision ≡ submitDecision client deadline t → t .head ≡ head
+      → t .clientTable ≡ countsOf su se dr
+      → ((place victim : ℕ) → decision ≡ Drop place victim → gone ≡ requestAt victim client deadline t)
+      → Answers (submitOf client deadline t) su se dr r su′ se dr′)
+      → Gives (submitOf client deadline s) su se dr r ws′ su′ se dr′
+  submitted-gives client deadline decision e new gone ws′ r su′ dr′ decides edits news moved a =
+      given
+      (moved .1 ∙ ap (λ (x : Edit). exchanged (x .out) (x .at) new ws) same-edit ∙ submit-edited client deadline s new made)
+      (a deadline s decides refl refl
+      (λ place victim drops.
+      moved .0
+      ∙ ap (λ (x : Edit). takenOut (x .out) (x .at) new ws) same-edit
+      ∙ submit-taken client deadline s new made place victim (sym decides ∙ drops)))
+    where
+      same-edit : e ≡ editOf (submitDecision client deadline s) (head .waiting) (length ws)
+      same-edit = edits ∙ ap (λ (d : Decision). editOf d (head .waiting) (length ws)) decides
+
+      made : firstMatch (submitRefusals client deadline s) ≡ 0 → new ≡ newRequest client deadline s
+      made z =
+          let h : head .last < largest64 = new-fits client deadline s z in
+          let q : raised (head .last) ≡ suc (head .last) = omega (arith, h) in
+          news ∙ rw q

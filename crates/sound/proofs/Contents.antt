@@ -1,0 +1,70 @@
+-- What the passes ask of tables whose lengths and head are not refused, and what they come to. Assumes nothing.
+use Prim.Native.Nat.{ℕ, _≤_}
+use mathlib.Core.Path.{_≡_, ap, subst, _∙_}
+use mathlib.Core.Logic.{_≢_}
+use mathlib.Core.Bool.{Bool, not, cond, _&&_}
+use mathlib.Core.List.{List}
+use native.Mathlib.Omega.{arith}
+use lib.Dec.{T, T-not, eqb, eqb→eq, eqb-refl}
+use lib.ListN.{length, take, drop, replicate}
+use Rattle.spec.specs.declared.types.Head.{Head}
+use Rattle.spec.specs.declared.types.Request.{Request}
+use Rattle.spec.specs.Every.{every, everyFrom}
+use Rattle.spec.specs.Tables.{mostClients, mostRecords, clockEnd, State}
+use Rattle.spec.specs.Sound.{isZeroRequest}
+use Rattle.spec.proofs.Laws.Sound.{Shaped, HeadWithin, head-facts}
+use Rattle.table.proofs.Laws.{not-not}
+use Rattle.columns.specs.Columns.{countOf, countsOf, stateOf}
+use Rattle.sound.specs.Checks.{tallySize, talliedOf, doesBalance, Countable, Passed, headRefusal, tablesRefusal}
+use Rattle.sound.proofs.Laws.{rows-reach, shape-facts, zero-countable}
+use Rattle.sound.proofs.Found.{head-refused, head-passed, found-sound, sound-refused}
+
+module _ (head : Head) (ws : List Request) (su se dr : List ℕ) where
+  abbrev s : State
+  s = stateOf head ws su se dr
+
+  abbrev pub Headed : ℕ
+  Headed = headRefusal head (length ws) (length (countsOf su se dr))
+
+  pub refused : Headed ≢ 0 → Headed ≡ tablesRefusal s
+  refused h = head-refused s h
+
+  module _ (asked : Headed ≡ 0) where
+    shaped : Shaped s
+    shaped = shape-facts s (head-passed s asked .0)
+
+    headed : HeadWithin head
+    headed = head-facts head (head-passed s asked .1)
+
+    pub next-asked :
+        (head .waiting ≤ length ws) × (head .waiting ≤ mostRecords) × (head .clients ≤ mostClients) × (head .clock ≤ clockEnd)
+        × Countable (replicate tallySize 0)
+    next-asked =
+        let few : head .waiting ≤ mostRecords = omega (arith, shaped .waits, shaped .most-records) in
+        (shaped .waits, few, headed .most-clients, headed .clock, zero-countable)
+
+    pub balanced-asked : (tally : List ℕ) → length tally ≡ tallySize
+        → (head .clients ≤ length su) × (head .clients ≤ length se) × (head .clients ≤ length dr) × (head .clients ≤ mostClients)
+        × (length tally ≡ tallySize)
+    balanced-asked tally e =
+        let q = rows-reach countOf su se dr (head .clients) (omega (arith, shaped .clients)) in
+        (q .0, q .1, q .2, headed .most-clients, e)
+
+    pub contents-told : (tally : List ℕ) (next zero balanced : Bool) (r : ℕ)
+        → Passed head (take (head .waiting) ws) (replicate tallySize 0) next tally
+        → zero ≡ every isZeroRequest (drop (head .waiting) ws)
+        → balanced ≡ everyFrom (λ c k. doesBalance k (talliedOf tally c)) 0 (take (head .clients) (countsOf su se dr))
+        → r ≡ cond (next && (zero && balanced)) 0 5
+        → r ≡ tablesRefusal s
+    contents-told tally next zero balanced r n z b v =
+        v
+        ∙ ap (λ (x : Bool). cond x 0 5)
+        (found-sound s (head-passed s asked .0) (head-passed s asked .1) tally next zero balanced n z b)
+        ∙ sound-refused s (head-passed s asked .0)
+
+-- ---- the test whether a number is 0, as a branch has it
+pub not-zero : (n : ℕ) → T (not (eqb n 0)) → n ≢ 0
+not-zero n h e = T-not (eqb n 0) h (subst (λ (m : ℕ). T (eqb n m)) e (eqb-refl n))
+
+pub is-zero : (n : ℕ) → T (not (not (eqb n 0))) → n ≡ 0
+is-zero n h = eqb→eq n 0 (not-not (eqb n 0) h)

@@ -1,0 +1,173 @@
+-- Laws of the waiting table as a list of records: a record moved by one, one exchanged for another, the first entries replaced.
+-- Assumes nothing.
+use Prim.Native.Nat.{ℕ, zero, suc, _+_, _-_, _≤_, _<_, _^_}
+use mathlib.Core.Path.{_≡_, refl, ap, _∙_}
+use mathlib.Core.Bool.{Bool, true, false, cond, not, _&&_}
+use mathlib.Core.Logic.{_≢_}
+use mathlib.Core.List.{List, [], _∷_, _++_, map}
+use native.Mathlib.Nat.{zero-add}
+use native.Mathlib.Numerals.{add-one}
+use native.Mathlib.Omega.{arith}
+use lib.Dec.{T, ltb, eqb, ltb→lt, nltb→le, eqb→eq, eqb-refl, T-not}
+use lib.ListN.{length, getD, set, take, drop, length-set, List·getD-map, length-map}
+use lib.Seq.{getD-take, paste-suc, length-paste, take-all, length-take-le}
+use Rattle.spec.specs.declared.types.Request.{Request}
+use Rattle.spec.specs.Tables.{zeroRequest}
+use Rattle.spec.specs.Order.{insertAt, removeAt}
+use Rattle.table.specs.Records.{Shifted, areIn, exchanged, takenOut}
+
+-- a test denied twice holds
+pub not-not : (b : Bool) → T (not (not b)) → T b
+not-not true h = h
+not-not false h = h
+
+-- ---- a shift
+
+-- a record is copied to the place beside its own: without its own place the others are those that were there without the other
+copied : (ws : List Request) (i j : ℕ) (z : Request) → i ≤ suc j → j ≤ suc i → i < length ws → j < length ws
+    → removeAt j (set ws i (getD ws j z)) ≡ removeAt i ws
+unfolding removeAt
+copied [] i j z h k m n = absurd (omega arith)
+copied (w ∷ ws) zero zero z h k m n = refl
+copied (w ∷ []) zero (suc j) z h k m n = absurd (omega arith)
+copied (w ∷ v ∷ ws) zero (suc zero) z h k m n = refl
+copied (w ∷ v ∷ ws) zero (suc (suc j)) z h k m n = absurd (omega arith)
+copied (w ∷ []) (suc i) zero z h k m n = absurd (omega arith)
+copied (w ∷ v ∷ ws) (suc zero) zero z h k m n = refl
+copied (w ∷ v ∷ ws) (suc (suc i)) zero z h k m n = absurd (omega arith)
+copied (w ∷ ws) (suc i) (suc j) z h k m n =
+    ap (λ (l : List Request). w ∷ l) (copied ws i j z (omega arith) (omega arith) (omega arith) (omega arith))
+
+-- the place i, on the way up or down to another
+abbrev pub Toward : Bool → ℕ → ℕ → Type 0
+Toward true to i = to ≤ i
+Toward false to i = i ≤ to
+
+-- from a place i of n on the way to another: what `next` asks, and that its answer j is beside i, in the table, still on the
+-- way, and nearer
+pub record Step (up : Bool) (n to i j : ℕ) : Type 0 where
+  pub asked : (up ≡ true → 0 < i) × (up ≡ false → i < 18446744073709551615)
+  pub beside : (i ≤ suc j) × (j ≤ suc i)
+  pub within : j < n
+  pub toward : Toward up to j
+  pub nearer : (j - to) + (to - j) < (i - to) + (to - i)
+
+next-step : (up : Bool) (n to i : ℕ) → n < 2 ^ 64 → to < n → i < n → Toward up to i → i ≢ to
+    → Step up n to i (cond up (i - 1) (i + 1))
+next-step true n to i fits m h t d =
+    record {
+      asked = ((λ _. omega arith), λ e. absurd (let z : _≡_ {A = ℕ} 0 1 = cc in omega arith));
+      beside = (omega arith, omega arith);
+      within = omega arith;
+      toward = omega arith;
+      nearer = omega arith;
+    }
+next-step false n to i fits m h t d =
+    record {
+      asked = ((λ e. absurd (let z : _≡_ {A = ℕ} 0 1 = cc in omega arith)), λ _. omega arith);
+      beside = (omega arith, omega arith);
+      within = omega arith;
+      toward = omega arith;
+      nearer = omega arith;
+    }
+
+-- a shift on its way: the place has moved from `from` to i, and the others are those of before
+pub record Going (up : Bool) (from to : ℕ) (ys : List Request) (i : ℕ) (zs : List Request) : Type 0 where
+  pub others : removeAt i zs ≡ removeAt from ys
+  pub same-length : length zs ≡ length ys
+  pub within : i < length ys
+  pub toward : Toward up to i
+
+pub sets-out : (from to : ℕ) (ys : List Request) → from < length ys → Going (ltb to from) from to ys from ys
+sets-out from to ys h =
+    record { others = refl; same-length = refl; within = h; toward = go (ltb to from) (ltb→lt to from) (nltb→le to from) }
+  where
+    go : (b : Bool) → (T b → to < from) → (T (not b) → from ≤ to) → Toward b to from
+    go true f g = omega (arith, f tt)
+    go false f g = g tt
+
+-- the record at the next place is copied to this one
+module _ {up : Bool} {from to : ℕ} {ys : List Request} (i : ℕ) (zs : List Request) (g : Going up from to ys i zs) where
+  pub steps : length ys < 2 ^ 64 → to < length ys → T (not (eqb i to)) → Step up (length ys) to i (cond up (i - 1) (i + 1))
+  steps fits in-table d =
+      next-step up (length ys) to i fits in-table (g .within) (g .toward) (λ e. T-not (eqb i to) d (rw e (eqb-refl to)))
+
+  pub goes-on : (j : ℕ) → Step up (length ys) to i j → Going up from to ys j (set zs i (getD zs j zeroRequest))
+  goes-on j s =
+      record {
+        others =
+            copied zs i j zeroRequest (s .beside .0) (s .beside .1) (omega (arith, g .within, g .same-length))
+            (omega (arith, s .within, g .same-length))
+            ∙ g .others;
+        same-length = length-set zs i (getD zs j zeroRequest) ∙ g .same-length;
+        within = s .within;
+        toward = s .toward;
+      }
+
+  pub arrives : T (not (not (eqb i to))) → Shifted from to ys zs
+  arrives h = record { others = rw (← eqb→eq i to (not-not (eqb i to) h)) (g .others) }
+
+-- ---- an exchange
+
+-- a record written over another is put in where that one was taken out
+set-insert : (k : ℕ) (r : Request) (ws : List Request) → k < length ws → set ws k r ≡ insertAt k r (removeAt k ws)
+unfolding removeAt
+set-insert k r [] h = absurd (omega arith)
+set-insert zero r (w ∷ ws) h = refl
+set-insert (suc k) r (w ∷ ws) h = ap (λ (l : List Request). w ∷ l) (set-insert k r ws (omega arith))
+
+-- nothing changes where one of the places is not in the table
+pub untouched : (out at : ℕ) (r : Request) (ys : List Request) → T (not (areIn out at ys))
+    → (r ≡ takenOut out at r ys) × (ys ≡ exchanged out at r ys)
+unfolding takenOut exchanged
+untouched out at r ys h = go (areIn out at ys) h
+  where
+    go : (b : Bool) → T (not b)
+        → (r ≡ cond b (getD ys out zeroRequest) r) × (ys ≡ cond b (insertAt at r (removeAt out ys)) ys)
+    go true i = absurd i
+    go false i = (refl, refl)
+
+pub both-in : (out at : ℕ) (ys : List Request) → T (areIn out at ys) → (out < length ys) × (at < length ys)
+both-in out at ys h = go (ltb out (length ys)) (ltb at (length ys)) (ltb→lt out (length ys)) (ltb→lt at (length ys)) h
+  where
+    go : (b c : Bool) → (T b → out < length ys) → (T c → at < length ys) → T (b && c) → (out < length ys) × (at < length ys)
+    go true c f g i = (f tt, g i)
+    go false c f g i = absurd i
+
+-- otherwise the shift leaves `at` to be written
+pub replaced : (out at : ℕ) (r : Request) (ys zs : List Request) → T (areIn out at ys) → Shifted out at ys zs
+    → length zs ≡ length ys → (getD ys out zeroRequest ≡ takenOut out at r ys) × (set zs at r ≡ exchanged out at r ys)
+unfolding takenOut exchanged
+replaced out at r ys zs h s l = go (areIn out at ys) h
+  where
+    put-in : set zs at r ≡ insertAt at r (removeAt out ys)
+    put-in =
+        set-insert at r zs (omega (arith, both-in out at ys h .1, l)) ∙ ap (λ (ws : List Request). insertAt at r ws) (s .others)
+
+    go : (b : Bool) → T b → (getD ys out zeroRequest ≡ cond b (getD ys out zeroRequest) r)
+        × (set zs at r ≡ cond b (insertAt at r (removeAt out ys)) ys)
+    go true i = (refl, put-in)
+    go false i = absurd i
+
+-- ---- the first entries replaced one after the other by those of another list
+abbrev pub filled : {A : Type 0} → List A → List A → ℕ → List A
+filled ps ds i = take i ps ++ drop i ds
+
+module _ {A : Type 0} (ps ds : List A) (n : ℕ) (e : length ps ≡ n) (h : n ≤ length ds) where
+  pub fills : (i : ℕ) (x d : A) → i < n → getD ps i d ≡ x → set (filled ps ds i) i x ≡ filled ps ds (i + 1)
+  fills i x d l k =
+      rw (← k, add-one) (rw (zero-add i, zero-add (suc i)) at (paste-suc ds 0 ps i d (omega arith) (omega arith)))
+
+  pub length-filled : (i : ℕ) → i ≤ n → length (filled ps ds i) ≡ length ds
+  length-filled i l = rw zero-add at (length-paste ds 0 ps i (omega arith) (omega arith))
+
+  pub filled-all : (i : ℕ) → i ≡ n → filled ps ds i ≡ ps ++ drop n ds
+  filled-all i k = rw (k, take-all n ps (omega arith))
+
+-- one value of each of the first n entries
+module _ {A B : Type 0} (f : A → B) (n : ℕ) (ys : List A) where
+  pub length-column : n ≤ length ys → length (map f (take n ys)) ≡ n
+  length-column h = length-map (take n ys) f ∙ length-take-le n ys h
+
+  pub getD-column : (i : ℕ) (d : A) → i < n → getD (map f (take n ys)) i (f d) ≡ f (getD ys i d)
+  getD-column i d h = List·getD-map f (take n ys) i d ∙ ap f (getD-take n ys i d h)
