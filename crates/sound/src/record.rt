@@ -52,8 +52,7 @@ pub(crate) fn is_near(head: Head, deadline: u64) -> bool
     deadline <= head.clock + 65535
 }
 
-// The bits of a record joined to those of others: none is set where all are zero. The record's own are joined first, so that in
-// a pass each record waits for one step alone.
+// The bits of a record joined to those of others: none is set where all are zero.
 pub(crate) fn gather(bits: u64, w: Request) -> u64
     ensures { λ r. ⌜ eqb r 0 ≡ (eqb bits 0 && isZeroRequest w) ⌝ }
 {
