@@ -17,7 +17,8 @@ use Rattle.spec.specs.Refusals.{Refusal, firstMatch, openRefusals, submitRefusa
 use Rattle.spec.specs.Calls.{Outcome, unlessRefused, openAccepted, openOf, newRequest, requestAt, submitOf, tickOf}
 use Rattle.spec.specs.Calls.{reportAccepted, reportOf, chartAccepted, chartOf, chartOutput}
 use Rattle.spec.proofs.Laws.Accepted.{Decided as Settled, accepts, refuses as declines, decided as settled, submit-ready}
-use Rattle.spec.proofs.Laws.Accepted.{chart-ready}
+use Rattle.spec.proofs.Laws.Accepted.{ChartReady, chart-ready}
+use Rattle.spec.proofs.Laws.Sound.{Shaped}
 use Rattle.spec.proofs.Calls.Refused.{Written, untouched, written, output-written}
 use Rattle.columns.specs.Columns.{countOf, countsOf, stateOf, largest64}
 use Rattle.columns.specs.Charted.{startSlots}
@@ -38,6 +39,14 @@ use Rattle.decide.proofs.Choosing.Chosen.{Decided, decided}
 use Rattle.decide.proofs.Replying.Counted.{answers, holds-same}
 use Rattle.decide.proofs.Replying.Edited.{submit-edited, submit-taken, new-fits, tick-table, tick-gone}
 use Rattle.queue.specs.Gives.{Gives}
+
+-- so many records where no refusal was found, else none: within any bound that holds of so many then
+unless-within : (refusal records n most : ℕ) → n ≡ cond (eqb refusal 0) records 0 → (refusal ≡ 0 → records ≤ most) → n ≤ most
+unless-within refusal records n most e h = go (eqb refusal 0) (same refusal 0) e
+  where
+    go : (b : Bool) → Same refusal 0 b → n ≡ cond b records 0 → n ≤ most
+    go true (same-yes z) q = omega (arith, q, h z)
+    go false (same-no z) q = omega (arith, q)
 
 -- a call whose accepted part leaves the state leaves it, refused or not
 unchanged : (rs : List Refusal) (s : State) (o : Outcome) → o .after ≡ s → unlessRefused rs s o .after ≡ s
@@ -84,13 +93,13 @@ module _ (head : Head) (ws : List Request) (su se dr : List ℕ) where
 
     -- how much is copied and written: all that wait, or nothing
     pub within : (n ≤ length ws) × (n ≤ length output)
-    within = go (eqb refusal 0) (same refusal 0) copied
+    within = (
+      unless-within refusal (head .waiting) n (length ws) copied (λ z. ready z .ready .shape .waits),
+      unless-within refusal (head .waiting) n (length output) copied (λ z. ready z .long),
+    )
       where
-        go : (b : Bool) → Same refusal 0 b → n ≡ cond b (head .waiting) 0 → (n ≤ length ws) × (n ≤ length output)
-        go true (same-yes z) e =
-            let q = chart-ready output s (sym told ∙ z) in
-            (omega (arith, e, q .ready .shape .waits), omega (arith, e, q .long))
-        go false (same-no z) e = (omega (arith, e), omega (arith, e))
+        ready : refusal ≡ 0 → ChartReady output s
+        ready z = chart-ready output s (sym told ∙ z)
 
     module _ (out₁ out₂ : List ℕ) (first : out₁ ≡ map (fieldOf false) (take n ws) ++ drop n output)
         (second : out₂ ≡ startSlots (take n out₁) ++ drop n out₁) where
@@ -144,11 +153,7 @@ module _ (head : Head) (ws : List Request) (su se dr : List ℕ) where
 
     -- all records are cleared, or none
     pub cleared-within : cleared ≤ length ws
-    cleared-within = go (eqb refusal 0) some
-      where
-        go : (b : Bool) → cleared ≡ cond b (length ws) 0 → cleared ≤ length ws
-        go true e = omega (arith, e)
-        go false e = omega (arith, e)
+    cleared-within = unless-within refusal (length ws) cleared (length ws) some (λ z. omega arith)
 
     zeros : replicate cleared zeroRequest ++ drop cleared ws ≡ openOf clients period s .after .waitingTable
     unfolding openOf openAccepted
@@ -204,13 +209,13 @@ module _ (head : Head) (ws : List Request) (su se dr : List ℕ) where
     -- what is copied before the search
     module _ (n : ℕ) (copied : n ≡ cond (eqb refusal 0) (head .waiting) 0) where
       pub scanned-within : (n ≤ length ws) × (n ≤ mostRecords)
-      scanned-within = go (eqb refusal 0) (same refusal 0) copied
+      scanned-within = (
+        unless-within refusal (head .waiting) n (length ws) copied (λ z. shaped z .waits),
+        unless-within refusal (head .waiting) n mostRecords copied (λ z. omega (arith, shaped z .waits, shaped z .most-records)),
+      )
         where
-          go : (b : Bool) → Same refusal 0 b → n ≡ cond b (head .waiting) 0 → (n ≤ length ws) × (n ≤ mostRecords)
-          go true (same-yes z) e =
-              let q = submit-ready client deadline s (sym told ∙ z) .ready .shape in
-              (omega (arith, e, q .waits), omega (arith, e, q .waits, q .most-records))
-          go false (same-no z) e = (omega (arith, e), omega (arith, e))
+          shaped : refusal ≡ 0 → Shaped s
+          shaped z = submit-ready client deadline s (sym told ∙ z) .ready .shape
 
       pub deadlines-shown : (rest column : List ℕ) → column ≡ map (fieldOf false) (take n ws) ++ rest → refusal ≡ 0
           → deadlinesOf (waiting s) ≡ take (head .waiting) column

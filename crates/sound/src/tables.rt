@@ -52,8 +52,8 @@ pub(crate) fn are_next(t: &[Request], tally: &mut [u32], head: Head, n: usize) -
     passed & near
 }
 
-// Whether the records from one index on are zero. Their bits are gathered and tested once, at the end: so the compiler takes
-// several records a turn.
+// Whether the records from one index on are zero. Their bits are gathered and tested once, at the end, so that no record has a
+// branch of its own.
 pub(crate) fn are_zero(t: &[Request], from: usize) -> bool
     ensures { λ r. ⌜ r ≡ every isZeroRequest (drop from (now (t .entry))) ⌝ }
 {
