@@ -2,15 +2,17 @@
 // argument `agree` only the first. This holds the compiler and the boundary to Rust; what the calls mean is proved.
 #[path = "../tests/common/mod.rs"]
 mod common;
+mod plain;
+mod random;
 
 use common::*;
+use plain::{give, shape, submit_refusal, Lent, MOST_AHEAD, MOST_CLIENTS};
+use random::Random;
 use std::cmp::Ordering::{Equal, Greater, Less};
 use std::hint::black_box;
 use std::process::exit;
 use std::time::Instant;
 
-const MOST_CLIENTS: usize = 256;
-const MOST_AHEAD: u64 = 65_535;
 const CASES: u32 = 240_000;
 const ROUNDS: u32 = 3_000;
 
@@ -29,13 +31,13 @@ const QUEUES: [Queue; 3] = [
     },
     Queue {
         name: "tuned",
-        submit: tuned::submit,
-        tick: tuned::tick,
+        submit: |t, client, deadline, values| tuned::submit(&mut lent(t), client, deadline, values),
+        tick: |t, values| tuned::tick(&mut lent(t), values),
     },
     Queue {
         name: "plain",
-        submit: plain::submit,
-        tick: plain::tick,
+        submit: |t, client, deadline, values| plain::submit(&mut lent(t), client, deadline, values),
+        tick: |t, values| plain::tick(&mut lent(t), values),
     },
 ];
 
@@ -54,164 +56,17 @@ impl Queue {
     }
 }
 
-// Writes an answer's values and gives its number.
-fn give<const N: usize>(values: &mut Values, kind: u64, given: [u64; N]) -> u64 {
-    values[..N].copy_from_slice(&given);
-    kind
-}
-
-// Refusal 4, and the head's part of refusal 5. Ok is the number of clients and the waiting count.
-#[inline(always)]
-fn shape(t: &Tables) -> Result<(usize, usize), u64> {
-    let [clients, period, clock, last, waiting] = t.head;
-    let accounts = t.submitted.len().min(t.served.len()).min(t.dropped.len());
-    let records = t.waiting.len();
-    if records < 1 || MOST_RECORDS < records || accounts as u64 != clients || (records as u64) < waiting {
-        return Err(4);
-    }
-    if accounts < 1 || MOST_CLIENTS < accounts || period < 1 || MOST_PERIOD < period || END < clock || END < last {
-        return Err(5);
-    }
-    Ok((accounts, waiting as usize))
-}
-
-// Refusals 6 to 10, of sound tables.
-#[inline(always)]
-fn submit_refusal(t: &Tables, client: u64, deadline: u64) -> Result<(), u64> {
-    let [clients, _, clock, last, waiting] = t.head;
-    if clients <= client {
-        Err(6)
-    } else if deadline <= clock || clock + MOST_AHEAD < deadline {
-        Err(7)
-    } else if t.submitted[client as usize] == MOST_COUNTED {
-        Err(8)
-    } else if last == END {
-        Err(9)
-    } else if waiting == t.waiting.len() as u64 {
-        Err(10)
-    } else {
-        Ok(())
+fn lent(t: &mut Tables) -> Lent<'_> {
+    Lent {
+        head: &mut t.head,
+        waiting: &mut t.waiting,
+        submitted: &mut t.submitted,
+        served: &mut t.served,
+        dropped: &mut t.dropped,
     }
 }
 
-// As one reads it in document 01, with no thought of speed.
-mod plain {
-    use super::*;
-
-    fn sound(t: &Tables) -> Result<(), u64> {
-        let (accounts, n) = shape(t)?;
-        let [clients, _, clock, last, _] = t.head;
-        let mut before = (0, 0);
-        for (i, w) in t.waiting[..n].iter().enumerate() {
-            let is_ahead = clock < w.deadline && w.deadline <= clock + MOST_AHEAD && (i as u64) < w.deadline - clock;
-            let is_given = 1 <= w.number && w.number <= last;
-            if !is_ahead || !is_given || clients <= w.client || (w.deadline, w.number) <= before {
-                return Err(5);
-            }
-            before = (w.deadline, w.number);
-        }
-        if t.waiting[n..].iter().any(|&w| w != Request::default()) {
-            return Err(5);
-        }
-        let tally = tally(&t.waiting[..n]);
-        for c in 0..accounts {
-            let sum = t.served[c] as u64 + t.dropped[c] as u64 + tally[c] as u64;
-            if MOST_COUNTED < t.submitted[c] || t.submitted[c] as u64 != sum {
-                return Err(5);
-            }
-        }
-        Ok(())
-    }
-
-    fn tally(waiting: &[Request]) -> [u32; MOST_CLIENTS] {
-        let mut tally = [0; MOST_CLIENTS];
-        for w in waiting {
-            tally[w.client as usize] += 1;
-        }
-        tally
-    }
-
-    fn insert(t: &mut Tables, new: Request) -> usize {
-        let n = t.head[4] as usize;
-        let place = t.waiting[..n].iter().take_while(|w| w.deadline <= new.deadline).count();
-        t.waiting.copy_within(place..n, place + 1);
-        t.waiting[place] = new;
-        t.head[4] += 1;
-        place
-    }
-
-    fn remove(t: &mut Tables, place: usize) -> Request {
-        let n = t.head[4] as usize;
-        let gone = t.waiting[place];
-        t.waiting.copy_within(place + 1..n, place);
-        t.waiting[n - 1] = Request::default();
-        t.head[4] -= 1;
-        gone
-    }
-
-    // The last record of the smallest overfull deadline; it is the last candidate.
-    fn overfull(t: &Tables) -> Option<usize> {
-        let [_, _, clock, _, n] = t.head;
-        (0..n as usize).find(|&i| t.waiting[i].deadline - clock <= i as u64)
-    }
-
-    fn victim(t: &Tables, last: usize) -> usize {
-        let mut best = last;
-        for i in (0..last).rev() {
-            let (a, b) = (t.waiting[i].client as usize, t.waiting[best].client as usize);
-            let (less, more) = (
-                t.dropped[a] as u64 * t.submitted[b] as u64,
-                t.dropped[b] as u64 * t.submitted[a] as u64,
-            );
-            if less < more {
-                best = i;
-            }
-        }
-        best
-    }
-
-    #[inline(never)]
-    pub fn submit(t: &mut Tables, client: u64, deadline: u64, values: &mut Values) -> u64 {
-        if let Err(refusal) = sound(t).and_then(|()| submit_refusal(t, client, deadline)) {
-            return give(values, REFUSED, [refusal]);
-        }
-        t.head[3] += 1;
-        t.submitted[client as usize] += 1;
-        let number = t.head[3];
-        let place = insert(t, Request::new(deadline, number, client));
-        let Some(last) = overfull(t) else {
-            return give(values, KEPT, [number, place as u64]);
-        };
-        let gone = remove(t, victim(t, last));
-        t.dropped[gone.client as usize] += 1;
-        give(values, DROPPED, [number, gone.number, gone.client])
-    }
-
-    #[inline(never)]
-    pub fn tick(t: &mut Tables, values: &mut Values) -> u64 {
-        let [_, period, slot, _, n] = t.head;
-        if let Err(refusal) = sound(t).and(if slot == END { Err(11) } else { Ok(()) }) {
-            return give(values, REFUSED, [refusal]);
-        }
-        let served = (n > 0).then(|| remove(t, 0));
-        if let Some(w) = served {
-            t.served[w.client as usize] += 1;
-        }
-        t.head[2] += 1;
-        if t.head[2].is_multiple_of(period) {
-            let tally = tally(&t.waiting[..t.head[4] as usize]);
-            for c in 0..t.head[0] as usize {
-                (t.submitted[c], t.served[c], t.dropped[c]) = (tally[c], 0, 0);
-            }
-        }
-        match served {
-            Some(w) => give(values, SERVED, [slot, w.number, w.client]),
-            None => give(values, IDLE, [slot]),
-        }
-    }
-}
-
-// The same, written for speed: one pass that checks and counts, and only the records that must move are moved.
+// The same as the plain one, written for speed: one pass that checks and counts, and only the records that must move are moved.
 mod tuned {
     use super::*;
 
@@ -219,11 +74,11 @@ mod tuned {
     type Tallies = [[u16; MOST_CLIENTS]; 4];
 
     #[inline(always)]
-    fn sound(t: &Tables) -> Result<Tallies, u64> {
+    fn sound(t: &Lent) -> Result<Tallies, u64> {
         let (accounts, n) = shape(t)?;
         let (waiting, behind) = t.waiting.split_at(n);
         let mut tallies = [[0; MOST_CLIENTS]; 4];
-        let sound = are_next(&t.head, waiting, &mut tallies) && are_zero(behind) && are_balanced(t, accounts, &tallies);
+        let sound = are_next(t.head, waiting, &mut tallies) && are_zero(behind) && are_balanced(t, accounts, &tallies);
         sound.then_some(tallies).ok_or(5)
     }
 
@@ -273,7 +128,7 @@ mod tuned {
 
     // Where the three counts are within bounds their sum cannot wrap, so that 32 bits do.
     #[inline(always)]
-    fn are_balanced(t: &Tables, k: usize, tallies: &Tallies) -> bool {
+    fn are_balanced(t: &Lent, k: usize, tallies: &Tallies) -> bool {
         let (submitted, served, dropped) = (&t.submitted[..k], &t.served[..k], &t.dropped[..k]);
         let mut wrong = 0;
         for c in 0..k.min(MOST_CLIENTS) {
@@ -304,7 +159,7 @@ mod tuned {
 
     // The place of the candidate that is lost. Each client's last candidate stands for all of its own: they are found without a
     // branch that could be guessed wrong, and then there are at most 256 ratios to compare.
-    fn victim(t: &Tables, client: u64, place: usize, last: usize) -> usize {
+    fn victim(t: &Lent, client: u64, place: usize, last: usize) -> usize {
         let (before, behind) = t.waiting[..last].split_at(place);
         // a place and 1, or 0
         let mut last_of = [0; MOST_CLIENTS];
@@ -327,11 +182,11 @@ mod tuned {
     }
 
     #[inline(never)]
-    pub fn submit(t: &mut Tables, client: u64, deadline: u64, values: &mut Values) -> u64 {
+    pub fn submit(t: &mut Lent, client: u64, deadline: u64, values: &mut Values) -> u64 {
         if let Err(refusal) = sound(t).and_then(|_| submit_refusal(t, client, deadline)) {
             return give(values, REFUSED, [refusal]);
         }
-        let [_, _, clock, last, n] = t.head;
+        let [_, _, clock, last, n] = *t.head;
         let (n, number) = (n as usize, last + 1);
         let new = Request::new(deadline, number, client);
         t.head[3] = number;
@@ -345,7 +200,7 @@ mod tuned {
             return give(values, KEPT, [number, place as u64]);
         };
         let at = victim(t, client, place, last);
-        let lost = put_for(&mut t.waiting, place, new, at);
+        let lost = put_for(t.waiting, place, new, at);
         t.dropped[lost.client as usize] += 1;
         give(values, DROPPED, [number, lost.number, lost.client])
     }
@@ -370,8 +225,8 @@ mod tuned {
     }
 
     #[inline(never)]
-    pub fn tick(t: &mut Tables, values: &mut Values) -> u64 {
-        let [_, period, slot, _, n] = t.head;
+    pub fn tick(t: &mut Lent, values: &mut Values) -> u64 {
+        let [_, period, slot, _, n] = *t.head;
         let n = n as usize;
         let mut tallies = match sound(t) {
             Ok(_) if slot == END => return give(values, REFUSED, [11]),
@@ -398,40 +253,13 @@ mod tuned {
         }
     }
 
-    fn start_period(t: &mut Tables, tallies: &Tallies) {
+    fn start_period(t: &mut Lent, tallies: &Tallies) {
         let k = t.head[0] as usize;
         for (c, submitted) in t.submitted[..k].iter_mut().enumerate() {
             *submitted = waiting_of(tallies, c);
         }
         t.served[..k].fill(0);
         t.dropped[..k].fill(0);
-    }
-}
-
-struct Random(u64);
-
-impl Random {
-    fn next(&mut self) -> u64 {
-        self.0 ^= self.0 << 13;
-        self.0 ^= self.0 >> 7;
-        self.0 ^= self.0 << 17;
-        self.0
-    }
-
-    fn below(&mut self, n: usize) -> usize {
-        (self.next() >> 16) as usize % n
-    }
-
-    fn one_of<T: Copy>(&mut self, of: &[T]) -> T {
-        of[self.below(of.len())]
-    }
-
-    fn mostly<T>(&mut self, often: T, seldom: T) -> T {
-        if self.below(12) > 0 {
-            often
-        } else {
-            seldom
-        }
     }
 }
 

@@ -12,6 +12,9 @@ use sound::check;
 use spec::types::Head;
 use spec::types::Request;
 ghost use mathlib.Core.Path.{_≡_};
+ghost use Prim.Native.Nat.{_≤_, min};
+ghost use lib.ListN.{length};
+ghost use Rattle.spec.specs.Tables.{mostRecords};
 ghost use Rattle.spec.specs.Calls.{openOf, submitOf, tickOf, reportOf, chartOf, chartOutput};
 ghost use Rattle.columns.specs.Columns.{stateOf};
 ghost use Rattle.decide.specs.Decisions.{submitDecision};
@@ -40,9 +43,10 @@ pub fn open(
     replies::open_reply(head, submitted, served, dropped, refusal, clients, period)
 }
 
-// What a submit has to do. The column holds the deadlines of the waiting records, and after the search their clients, where a
+// What a submit has to do. The column takes the deadlines of the waiting records, and after the search their clients, where a
 // victim has to be found.
 fn submit_decision(
+    column: &mut [u64],
     waiting: &[Request],
     submitted: &[u32],
     served: &[u32],
@@ -51,6 +55,7 @@ fn submit_decision(
     client: u64,
     deadline: u64,
 ) -> Decision
+    requires { ⌜ min (length (now waiting)) mostRecords ≤ length (now column) ⌝ }
     ensures { λ r. ⌜ r ≡ submitDecision client deadline
         (stateOf head (now (waiting .entry)) (now (submitted .entry)) (now (served .entry)) (now (dropped .entry))) ⌝ }
 {
@@ -65,16 +70,79 @@ fn submit_decision(
         client,
         deadline,
     );
-    let mut column = [0u64; 2048];
     let n = edits::unless_refused(refusal, head.waiting);
-    table::column(waiting, &mut column, n, false);
-    let fit = calls::submit_fit(head, &column, refusal, deadline);
+    table::column(waiting, column, n, false);
+    let fit = calls::submit_fit(head, column, refusal, deadline);
     let m = edits::clients_needed(fit, head.waiting);
-    table::column(waiting, &mut column, m, true);
-    calls::submit_decision(head, &column, submitted, served, dropped, fit, client)
+    table::column(waiting, column, m, true);
+    calls::submit_decision(head, column, submitted, served, dropped, fit, client)
 }
 
-// Submit: the new request is put in chart order; where not all can finish, one is dropped.
+// Submit, with a column for as many waiting records as there can be.
+fn submit_over(
+    column: &mut [u64],
+    head: Head,
+    waiting: &mut [Request],
+    submitted: &mut [u32],
+    served: &mut [u32],
+    dropped: &mut [u32],
+    client: u64,
+    deadline: u64,
+) -> Reply
+    requires { ⌜ min (length (now waiting)) mostRecords ≤ length (now column) ⌝ }
+    ensures { λ r. ⌜ Gives
+        (submitOf client deadline (stateOf head (now (waiting .entry))
+        (now (submitted .entry)) (now (served .entry)) (now (dropped .entry))))
+        (now (submitted .entry)) (now (served .entry)) (now (dropped .entry))
+        r (now (waiting .exit)) (now (submitted .exit)) (now (served .exit)) (now (dropped .exit)) ⌝ }
+{
+    let decision = submit_decision(
+        column,
+        waiting,
+        submitted,
+        served,
+        dropped,
+        head,
+        client,
+        deadline,
+    );
+    let edit = edits::edit_of(decision, head.waiting, waiting.len());
+    let new = edits::new_request(head, client, deadline);
+    let gone = table::exchange(waiting, edit.out, edit.at, new);
+    replies::submit_reply(head, submitted, served, dropped, decision, client, gone)
+}
+
+// Submit to a table of any length.
+fn submit_long(
+    head: Head,
+    waiting: &mut [Request],
+    submitted: &mut [u32],
+    served: &mut [u32],
+    dropped: &mut [u32],
+    client: u64,
+    deadline: u64,
+) -> Reply
+    ensures { λ r. ⌜ Gives
+        (submitOf client deadline (stateOf head (now (waiting .entry))
+        (now (submitted .entry)) (now (served .entry)) (now (dropped .entry))))
+        (now (submitted .entry)) (now (served .entry)) (now (dropped .entry))
+        r (now (waiting .exit)) (now (submitted .exit)) (now (served .exit)) (now (dropped .exit)) ⌝ }
+{
+    let mut column = [0u64; 2048];
+    submit_over(
+        &mut column,
+        head,
+        waiting,
+        submitted,
+        served,
+        dropped,
+        client,
+        deadline,
+    )
+}
+
+// Submit: the new request is put in chart order; where not all can finish, one is dropped. A short table has a short column, since
+// zeroing one of 2,048 would cost more than all else.
 pub fn submit(
     head: Head,
     waiting: &mut [Request],
@@ -90,11 +158,20 @@ pub fn submit(
         (now (submitted .entry)) (now (served .entry)) (now (dropped .entry))
         r (now (waiting .exit)) (now (submitted .exit)) (now (served .exit)) (now (dropped .exit)) ⌝ }
 {
-    let decision = submit_decision(waiting, submitted, served, dropped, head, client, deadline);
-    let edit = edits::edit_of(decision, head.waiting, waiting.len());
-    let new = edits::new_request(head, client, deadline);
-    let gone = table::exchange(waiting, edit.out, edit.at, new);
-    replies::submit_reply(head, submitted, served, dropped, decision, client, gone)
+    if waiting.len() > 64 {
+        return submit_long(head, waiting, submitted, served, dropped, client, deadline);
+    }
+    let mut column = [0u64; 64];
+    submit_over(
+        &mut column,
+        head,
+        waiting,
+        submitted,
+        served,
+        dropped,
+        client,
+        deadline,
+    )
 }
 
 // Tick: the first waiting record is served, or none waits; then the clock rises by 1, and a period may begin.

@@ -3,5 +3,6 @@ pub mod Arrays
 pub mod Heads
 pub mod Lent
 pub mod Loans
+pub mod Parts
 pub mod Rows
 pub mod Steps

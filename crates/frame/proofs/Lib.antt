@@ -1,0 +1,5 @@
+pub mod Fields
+pub mod Framing
+pub mod Parts
+pub mod Reader
+pub mod Written

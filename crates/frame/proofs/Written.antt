@@ -1,0 +1,66 @@
+-- Laws of what is put one part behind the other: lines, and the segments' lines. Assumes nothing.
+use Prim.Native.Nat.{ℕ, _*_, _≤_}
+use mathlib.Core.List.{List, [], _∷_, _++_, append-assoc, append-nil}
+use mathlib.Core.Path.{_≡_, refl, sym}
+use types.Run.{OneOf, miss}
+use denote.Enum.Declared.{tagOf}
+use lib.ListN.{take, drop}
+use Rattle.spec.specs.declared.types.Answer.{Answer}
+use Rattle.spec.specs.declared.types.Answer.the-variants.{Opened, Kept, Dropped, Served, Idle, Reported, Charted, Refused}
+use Rattle.spec.specs.Chart.{Segment, segmentsOf}
+use Rattle.spec.specs.Frames.{Field, lineFeed, digits, field, fieldDigits, lineOf, answerLine, segmentLines}
+use Rattle.columns.specs.Charted.{segment}
+use Rattle.frame.specs.Written.{replyBytes}
+use Rattle.spec.proofs.types.Answer.{the-type}
+use Rattle.columns.proofs.Laws.{rest-none}
+
+-- ---- lines
+-- a part behind a part
+pub joined : (a x y : List ℕ) {b c : List ℕ} → b ≡ a ++ x → c ≡ b ++ y → c ≡ a ++ (x ++ y)
+joined a x y p q = rw (q, p) (append-assoc a x y)
+
+infixr 20 _▸_
+-- fields put one behind the other: what stands before them, and what stands with them
+pub data Puts : List ℕ → List Field → List ℕ → Type 0 where
+  none : {a : List ℕ} → Puts a [] a
+  _▸_ : {a b c : List ℕ} {width value : ℕ} {fs : List Field}
+      → b ≡ a ++ digits (2 * width) value → Puts b fs c → Puts a (field width value ∷ fs) c
+
+fields-put : {a b : List ℕ} {fs : List Field} → Puts a fs b → b ≡ a ++ fieldDigits fs
+unfolding fieldDigits
+fields-put {a = a} none = sym (append-nil a)
+fields-put {a = a} (_▸_ {width = width} {value = value} {fs = fs} e p) =
+    joined a (digits (2 * width) value) (fieldDigits fs) e (fields-put p)
+
+-- .. and the line that they make
+pub line-put : (a : List ℕ) (kind : ℕ) (fs : List Field) {b c : List ℕ}
+    → Puts a (field 1 kind ∷ fs) b → c ≡ b ++ (lineFeed ∷ []) → c ≡ a ++ lineOf kind fs
+unfolding lineOf fieldDigits
+line-put a kind fs p e = rw (e, fields-put p) (simp append-assoc)
+
+-- ---- segments
+-- a segment's line, and the lines of those on its right
+pub segment-put : (a : List ℕ) (left right : ℕ) (gs : List Segment) {b : List ℕ}
+    → b ≡ a ++ lineOf 0x87 (field 8 left ∷ field 8 right ∷ [])
+    → b ++ segmentLines gs ≡ a ++ segmentLines (segment left right ∷ gs)
+unfolding segmentLines
+segment-put a left right gs e = rw e (append-assoc a (lineOf 0x87 (field 8 left ∷ field 8 right ∷ [])) (segmentLines gs))
+
+-- .. and behind the last start slot there is none
+pub segments-end : (starts : List ℕ) (n i : ℕ) → n ≤ i → segmentsOf (drop i (take n starts)) ≡ []
+unfolding segmentsOf
+segments-end starts n i h = rw (rest-none starts n i h)
+
+-- ---- replies
+-- an answer of a variant that is not a chart's is its line
+pub line-alone : (a : Answer) (starts : List ℕ) → OneOf (0 ∷ 1 ∷ 2 ∷ 3 ∷ 4 ∷ 5 ∷ 7 ∷ []) (tagOf the-type a)
+    → replyBytes a starts ≡ answerLine a
+unfolding replyBytes
+line-alone Opened starts h = refl
+line-alone (Kept number place) starts h = refl
+line-alone (Dropped number victim client) starts h = refl
+line-alone (Served slot number client) starts h = refl
+line-alone (Idle slot) starts h = refl
+line-alone (Reported client submitted served dropped waiting) starts h = refl
+line-alone (Charted count) starts h = absurd (miss (0 ∷ 1 ∷ 2 ∷ 3 ∷ 4 ∷ 5 ∷ 7 ∷ []) 6 tt h)
+line-alone (Refused number) starts h = refl

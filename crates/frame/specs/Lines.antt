@@ -1,0 +1,30 @@
+-- Where a line ends. Assumes nothing.
+use Prim.Native.Nat.{ℕ, _-_, _≤_, _<_}
+use mathlib.Core.Bool.{cond}
+use mathlib.Core.List.{List, []}
+use mathlib.Core.Path.{_≡_}
+use lib.Dec.{leb}
+use lib.ListN.{length, getD, take, drop}
+use Rattle.spec.specs.Frames.{lineFeed}
+use Rattle.frame.specs.declared.lines.Line.{Line}
+use Rattle.frame.specs.declared.lines.Line.the-variants.{Whole, Begun}
+
+-- no line feed stands from an index up to another
+abbrev pub NoFeed : List ℕ → ℕ → ℕ → Type 0
+NoFeed s from end = (k : ℕ) → from ≤ k → k < end → getD s k 0 ≡ lineFeed → ⊥
+
+-- the first line feed from an index on stands at end
+pub record Ends (s : List ℕ) (at end : ℕ) : Type 0 where
+  pub from : at ≤ end
+  pub within : end < length s
+  pub feed : getD s end 0 ≡ lineFeed
+  pub before : NoFeed s at end
+
+-- what a search for the end of the line at an index finds
+abbrev pub Found : List ℕ → ℕ → Line → Type 0
+Found s at (Whole end) = Ends s at end
+Found s at Begun = NoFeed s at (length s)
+
+-- the characters from an index up to another, or none where these are no part of s
+abbrev pub part : List ℕ → ℕ → ℕ → List ℕ
+part s from end = cond (leb from end) (cond (leb end (length s)) (take (end - from) (drop from s)) []) []

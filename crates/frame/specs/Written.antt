@@ -1,0 +1,40 @@
+-- What a reply is written as. Assumes nothing.
+use Prim.Native.Nat.{ℕ, _+_, _≤_, _<_}
+use mathlib.Core.List.{List, [], _∷_, _++_}
+use lib.ListN.{length, getD, take}
+use Rattle.spec.specs.declared.types.Answer.{Answer}
+use Rattle.spec.specs.declared.types.Answer.the-variants.{Opened, Kept, Dropped, Served, Idle, Reported, Charted, Refused}
+use Rattle.spec.specs.Tables.{mostRecords}
+use Rattle.spec.specs.Chart.{Segment, segmentsOf}
+use Rattle.spec.specs.Frames.{field, lineOf, answerLine, segmentLines}
+use Rattle.columns.specs.Columns.{largest64}
+
+-- the lines of segments, and their count's
+abbrev pub chartLines : List Segment → List ℕ
+chartLines gs = segmentLines gs ++ lineOf 0x88 (field 2 (length gs) ∷ [])
+
+-- the bytes of a reply: an answer's line, a chart's as its segments' lines, from the start slots
+unfoldable pub replyBytes : Answer → List ℕ → List ℕ
+replyBytes (Charted count) starts = chartLines (segmentsOf (take count starts))
+replyBytes Opened starts = answerLine Opened
+replyBytes (Kept number place) starts = answerLine (Kept number place)
+replyBytes (Dropped number victim client) starts = answerLine (Dropped number victim client)
+replyBytes (Served slot number client) starts = answerLine (Served slot number client)
+replyBytes (Idle slot) starts = answerLine (Idle slot)
+replyBytes (Reported client submitted served dropped waiting) starts = answerLine (Reported client submitted served dropped waiting)
+replyBytes (Refused number) starts = answerLine (Refused number)
+
+-- the most bytes that a reply has: 2,048 segments of 35 and their count's 7
+abbrev pub mostBytes : ℕ
+mostBytes = 71687
+
+-- what of a chart's answer its start slots must have
+abbrev pub CanDraw : Answer → List ℕ → Type 0
+CanDraw (Charted count) starts = (count ≤ mostRecords) × (count ≤ length starts) × ((k : ℕ) → k < count → getD starts k 0 < largest64)
+CanDraw Opened starts = Unit {0}
+CanDraw (Kept number place) starts = Unit {0}
+CanDraw (Dropped number victim client) starts = Unit {0}
+CanDraw (Served slot number client) starts = Unit {0}
+CanDraw (Idle slot) starts = Unit {0}
+CanDraw (Reported client submitted served dropped waiting) starts = Unit {0}
+CanDraw (Refused number) starts = Unit {0}

@@ -1,0 +1,171 @@
+// The lines that answer a frame, appended to an output: each function writes behind the first `at` characters and hands back where
+// its line ends.
+use crate::digits;
+use columns::chart;
+use spec::types::Answer;
+ghost use mathlib.Core.List.{_∷_, [], _++_};
+ghost use mathlib.Core.Path.{_≡_};
+ghost use Prim.Native.Nat.{ℕ, _+_, _*_, _<_, _≤_};
+ghost use lib.ListN.{length, getD, take};
+ghost use Rattle.spec.specs.Chart.{segmentsOf};
+ghost use Rattle.spec.specs.Frames.{lineFeed, field, lineOf, answerLine, segmentLines};
+ghost use Rattle.columns.specs.Columns.{largest64};
+ghost use Rattle.frame.specs.Written.{mostBytes, CanDraw, chartLines, replyBytes};
+
+fn put_feed(out: &mut [u8], at: usize) -> usize
+    requires { ⌜ at < length (now out) ⌝ }
+    ensures { λ r. ⌜ (r ≡ at + 1) × (take r (now (out .exit)) ≡ take at (now (out .entry)) ++ (lineFeed ∷ [])) ⌝ }
+{
+    out[at] = 10;
+    at + 1
+}
+
+// A line of its kind alone.
+fn put_kind(out: &mut [u8], at: usize, kind: u64) -> usize
+    requires { ⌜ at + 3 ≤ length (now out) ⌝ }
+    ensures { λ r. ⌜ (r ≡ at + 3) × (take r (now (out .exit)) ≡ take at (now (out .entry)) ++ lineOf kind []) ⌝ }
+{
+    let end = digits::put_field(out, at, 1, kind);
+    put_feed(out, end)
+}
+
+// A line of one value.
+fn put_value(out: &mut [u8], at: usize, kind: u64, width: usize, value: u64) -> usize
+    requires { ⌜ (at + 2 * width + 3 ≤ length (now out)) × (width ≤ 8) ⌝ }
+    ensures { λ r. ⌜ (r ≡ at + 2 * width + 3)
+        × (take r (now (out .exit)) ≡ take at (now (out .entry)) ++ lineOf kind (field width value ∷ [])) ⌝ }
+{
+    let mut end = digits::put_field(out, at, 1, kind);
+    end = digits::put_field(out, end, width, value);
+    put_feed(out, end)
+}
+
+// A line of two values, the first of 8 bytes.
+fn put_pair(out: &mut [u8], at: usize, kind: u64, first: u64, width: usize, second: u64) -> usize
+    requires { ⌜ (at + 2 * width + 19 ≤ length (now out)) × (width ≤ 8) ⌝ }
+    ensures { λ r. ⌜ (r ≡ at + 2 * width + 19)
+        × (take r (now (out .exit)) ≡ take at (now (out .entry)) ++ lineOf kind (field 8 first ∷ field width second ∷ [])) ⌝ }
+{
+    let mut end = digits::put_field(out, at, 1, kind);
+    end = digits::put_field(out, end, 8, first);
+    end = digits::put_field(out, end, width, second);
+    put_feed(out, end)
+}
+
+// A line of two values of 8 bytes and a client.
+fn put_triple(out: &mut [u8], at: usize, kind: u64, first: u64, second: u64, client: u64) -> usize
+    requires { ⌜ at + 39 ≤ length (now out) ⌝ }
+    ensures { λ r. ⌜ (r ≡ at + 39)
+        × (take r (now (out .exit))
+        ≡ take at (now (out .entry)) ++ lineOf kind (field 8 first ∷ field 8 second ∷ field 2 client ∷ [])) ⌝ }
+{
+    let mut end = digits::put_field(out, at, 1, kind);
+    end = digits::put_field(out, end, 8, first);
+    end = digits::put_field(out, end, 8, second);
+    end = digits::put_field(out, end, 2, client);
+    put_feed(out, end)
+}
+
+// A report's line.
+fn put_report(
+    out: &mut [u8],
+    at: usize,
+    client: u64,
+    submitted: u64,
+    served: u64,
+    dropped: u64,
+    waiting: u64,
+) -> usize
+    requires { ⌜ at + 35 ≤ length (now out) ⌝ }
+    ensures { λ r. ⌜ (r ≡ at + 35)
+        × (take r (now (out .exit))
+        ≡ take at (now (out .entry)) ++ lineOf 0x86 (field 2 client ∷ field 4 submitted ∷ field 4 served ∷ field 4 dropped
+        ∷ field 2 waiting ∷ [])) ⌝ }
+{
+    let mut end = digits::put_field(out, at, 1, 0x86);
+    end = digits::put_field(out, end, 2, client);
+    end = digits::put_field(out, end, 4, submitted);
+    end = digits::put_field(out, end, 4, served);
+    end = digits::put_field(out, end, 4, dropped);
+    end = digits::put_field(out, end, 2, waiting);
+    put_feed(out, end)
+}
+
+// An answer's line.
+pub fn put_answer(out: &mut [u8], at: usize, answer: Answer) -> usize
+    requires { ⌜ at + 39 ≤ length (now out) ⌝ }
+    ensures { λ r. ⌜ (at ≤ r) × (r ≤ at + 39)
+        × (take r (now (out .exit)) ≡ take at (now (out .entry)) ++ answerLine answer) ⌝ }
+{
+    match answer {
+        Answer::Opened => put_kind(out, at, 0x81),
+        Answer::Kept { number, place } => put_pair(out, at, 0x82, number, 2, place),
+        Answer::Dropped {
+            number,
+            victim,
+            client,
+        } => put_triple(out, at, 0x83, number, victim, client),
+        Answer::Served {
+            slot,
+            number,
+            client,
+        } => put_triple(out, at, 0x84, slot, number, client),
+        Answer::Idle { slot } => put_value(out, at, 0x85, 8, slot),
+        Answer::Reported {
+            client,
+            submitted,
+            served,
+            dropped,
+            waiting,
+        } => put_report(out, at, client, submitted, served, dropped, waiting),
+        Answer::Charted { count } => put_value(out, at, 0x88, 2, count),
+        Answer::Refused { number } => put_value(out, at, 0xFF, 1, number),
+    }
+}
+
+// Where the segments' lines end, and how many they are.
+struct Drawn {
+    end: usize,
+    count: u64,
+}
+
+// A line for each segment of the first n start slots, from the left.
+fn put_segments(out: &mut [u8], at: usize, starts: &[u64], n: usize) -> Drawn
+    requires { ⌜ (at + 35 * n ≤ length (now out)) × (n ≤ length (now starts)) × ((k : ℕ) → k < n → getD (now starts) k 0 < largest64) ⌝ }
+    ensures { λ r. ⌜ (at ≤ r .end) × (r .end ≤ at + 35 * n)
+        × (r .count ≡ length (segmentsOf (take n (now (starts .entry)))))
+        × (take (r .end) (now (out .exit)) ≡ take at (now (out .entry)) ++ segmentLines (segmentsOf (take n (now (starts .entry))))) ⌝ }
+{
+    let mut end = at;
+    let mut count: u64 = 0;
+    let mut i = 0;
+    while i < n {
+        let run = chart::segment_at(starts, n, i);
+        end = put_pair(out, end, 0x87, run.left, 8, run.right);
+        count += 1;
+        i = run.next;
+    }
+    Drawn { end, count }
+}
+
+// A chart's segments and their count.
+fn put_chart(out: &mut [u8], at: usize, starts: &[u64], n: usize) -> usize
+    requires { ⌜ (at + 35 * n + 7 ≤ length (now out)) × (n ≤ length (now starts)) × ((k : ℕ) → k < n → getD (now starts) k 0 < largest64) ⌝ }
+    ensures { λ r. ⌜ (at ≤ r) × (r ≤ at + 35 * n + 7)
+        × (take r (now (out .exit)) ≡ take at (now (out .entry)) ++ chartLines (segmentsOf (take n (now (starts .entry))))) ⌝ }
+{
+    let drawn = put_segments(out, at, starts, n);
+    put_value(out, drawn.end, 0x88, 2, drawn.count)
+}
+
+// A reply: an answer's line; a chart's as the segments of its start slots.
+pub fn put_reply(out: &mut [u8], at: usize, answer: Answer, starts: &[u64]) -> usize
+    requires { ⌜ (at + mostBytes ≤ length (now out)) × CanDraw answer (now starts) ⌝ }
+    ensures { λ r. ⌜ (at ≤ r) × (r ≤ at + mostBytes)
+        × (take r (now (out .exit)) ≡ take at (now (out .entry)) ++ replyBytes answer (now (starts .entry))) ⌝ }
+{
+    match answer {
+        Answer::Charted { count } => put_chart(out, at, starts, count as usize),
+        _ => put_answer(out, at, answer),
+    }
+}

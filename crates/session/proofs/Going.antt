@@ -1,0 +1,89 @@
+-- One turn in the terms of its walk: each part is told by an equation, and the tables come back with the lent parts in front.
+-- Assumes nothing.
+use Prim.Native.Nat.{ℕ, _+_, _≤_}
+use mathlib.Core.Bool.{Bool, true, false, not}
+use mathlib.Core.List.{List, _++_}
+use mathlib.Core.Path.{_≡_, refl}
+use native.Mathlib.Omega.{arith}
+use lib.Dec.{T}
+use lib.ListN.{length, take, drop}
+use Rattle.spec.specs.declared.types.Frame.{Frame}
+use Rattle.spec.specs.declared.types.Frame.the-variants.{Open, Submit, Tick, Report, Chart, Bad}
+use Rattle.spec.specs.declared.types.Head.{Head}
+use Rattle.spec.specs.declared.types.Request.{Request}
+use Rattle.spec.specs.Tables.{mostRecords, mostClients}
+use Rattle.frame.specs.Written.{mostBytes, replyBytes}
+use Rattle.columns.specs.Columns.{stateOf}
+use Rattle.decide.specs.declared.types.Reply.{Reply}
+use Rattle.session.specs.declared.types.Session.{Session}
+use Rattle.session.specs.declared.types.Fed.{Fed}
+use Rattle.session.specs.declared.types.Turn.{Turn}
+use Rattle.session.specs.declared.types.Lent.{Lent}
+use Rattle.session.specs.Answers.{Answered}
+use Rattle.session.specs.Standing.{doFit, recordsFor, clientsFor}
+use Rattle.session.specs.Feeding.{Next, Stepped}
+use Rattle.session.proofs.Lending.{fit-facts, up-most}
+use Rattle.session.proofs.Replied.{Replied}
+use Rattle.session.proofs.Replies.{replied}
+use Rattle.session.proofs.Stepping.{canWith, answered, next-fits, answers}
+
+pub is-true : (b : Bool) → T b → b ≡ true
+is-true true h = refl
+is-true false h = absurd h
+
+pub is-false : (b : Bool) → T (not b) → b ≡ false
+is-false true h = absurd h
+is-false false h = refl
+
+-- how much of the tables is lent
+abbrev pub lentFor : Turn → Fed → Lent
+lentFor turn fed = record { records = recordsFor (turn .frame) (fed .session); clients = clientsFor (turn .frame) (fed .session) }
+
+records-most : (frame : Frame) (s : Session) → recordsFor frame s ≤ mostRecords
+unfolding recordsFor
+records-most (Open clients period records) s = up-most mostRecords records
+records-most (Submit client deadline) s = up-most mostRecords (s .records)
+records-most Tick s = up-most mostRecords (s .records)
+records-most (Report client) s = up-most mostRecords (s .records)
+records-most Chart s = up-most mostRecords (s .records)
+records-most Bad s = up-most mostRecords (s .records)
+
+clients-most : (frame : Frame) (s : Session) → clientsFor frame s ≤ mostClients
+unfolding clientsFor
+clients-most (Open clients period records) s = up-most mostClients clients
+clients-most (Submit client deadline) s = up-most mostClients (s .head .clients)
+clients-most Tick s = up-most mostClients (s .head .clients)
+clients-most (Report client) s = up-most mostClients (s .head .clients)
+clients-most Chart s = up-most mostClients (s .head .clients)
+clients-most Bad s = up-most mostClients (s .head .clients)
+
+module _ (input : List ℕ) (fed : Fed) (ws : List Request) (su se dr st out : List ℕ) (turn : Turn) (goes : turn .ends ≡ false)
+    (next : Next input fed (canWith fed ws su se dr st out) turn) (l : Lent) (lends : l ≡ lentFor turn fed) where
+  fits : doFit (fed .session) (length ws) (length su) (length se) (length dr) (length st) ≡ true
+  fits = next-fits input fed ws su se dr st out turn goes next
+
+  -- it is within the tables
+  pub lent-within : (l .records ≤ length ws) × (l .clients ≤ length su) × (l .clients ≤ length se) × (l .clients ≤ length dr)
+  lent-within =
+      let f = fit-facts (fed .session) (length ws) (length su) (length se) (length dr) (length st) fits in
+      let n : l .records ≤ mostRecords = rw lends (records-most (turn .frame) (fed .session)) in
+      let c : l .clients ≤ mostClients = rw lends (clients-most (turn .frame) (fed .session)) in
+      (omega (arith, f .waiting-long, n), omega (arith, f .submitted-long, c), omega (arith, f .served-long, c), omega (arith, f .dropped-long, c))
+
+  module _ (asked : Frame) (head : Head) (asks : asked ≡ turn .frame) (heads : head ≡ fed .session .head) (a : Reply)
+      (zs : List Request) (us vs ds st′ : List ℕ)
+      (given : Answered asked st (stateOf head (take (l .records) ws) (take (l .clients) su) (take (l .clients) se) (take (l .clients) dr))
+      (take (l .clients) su) (take (l .clients) se) (take (l .clients) dr) a zs us vs ds st′)
+      (ws-long : length zs ≡ length (take (l .records) ws)) (su-long : length us ≡ length (take (l .clients) su))
+      (se-long : length vs ≡ length (take (l .clients) se)) (dr-long : length ds ≡ length (take (l .clients) dr)) where
+    pub turn-replied : Replied (turn .frame) (fed .session) ws su se dr st a zs us vs ds st′
+    turn-replied =
+        replied (turn .frame) (fed .session) ws su se dr st fits a zs us vs ds st′ (rw (asks, heads, lends) at given)
+        (rw lends at ws-long) (rw lends at su-long) (rw lends at se-long) (rw lends at dr-long)
+
+    pub turn-steps : (out′ : List ℕ) (put : ℕ) (r : Fed)
+        → (fed .put ≤ put) × (put ≤ fed .put + mostBytes) × (take put out′ ≡ take (fed .put) out ++ replyBytes (a .answer) st′)
+        → r ≡ answered fed turn a put
+        → Stepped input fed ws su se dr st out r (zs ++ drop (l .records) ws) (us ++ drop (l .clients) su) (vs ++ drop (l .clients) se)
+        (ds ++ drop (l .clients) dr) out′
+    turn-steps out′ put r written is = rw lends (answers turn put goes next turn-replied written is)

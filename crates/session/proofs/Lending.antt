@@ -1,0 +1,102 @@
+-- Laws of lending: which tables will do, the lengths that a frame names, and what a call hands back. Assumes nothing.
+use Prim.Native.Nat.{ℕ, _≤_}
+use mathlib.Core.Path.{_≡_, refl, _∙_}
+use mathlib.Core.Bool.{Bool, true, false, cond, _&&_, and-false, and-eq-true-iff}
+use mathlib.Core.List.{List}
+use native.Mathlib.Omega.{arith}
+use borrow.Author.Tests.{leb-true, le-leb}
+use lib.Dec.{leb, eqb}
+use lib.ListN.{length}
+use Rattle.slots.proofs.Laws.Tests.{Same, same-yes, same-no, same}
+use Rattle.spec.specs.declared.types.Answer.the-variants.{Refused}
+use Rattle.spec.specs.declared.types.Request.{Request}
+use Rattle.spec.specs.Every.{isWithin}
+use Rattle.spec.specs.Tables.{mostRecords, mostClients, State}
+use Rattle.spec.specs.Refusals.{Refusal, firstMatch, openRefusals}
+use Rattle.spec.specs.Calls.{Outcome, unlessRefused}
+use Rattle.spec.proofs.Laws.Every.{Value, is-true, is-false, value, cond-true}
+use Rattle.columns.specs.Columns.{countsOf, stateOf}
+use Rattle.columns.proofs.Counting.{holds-rows}
+use Rattle.decide.specs.declared.types.Reply.{Reply}
+use Rattle.queue.specs.Gives.{Gives}
+use Rattle.session.specs.declared.types.Session.{Session}
+use Rattle.session.specs.Standing.{doFit, upTo}
+
+-- ---- tables that will do, as facts
+pub record Fits (s : Session) (waiting submitted served dropped starts : ℕ) : Type 0 where
+  pub records : s .records ≤ mostRecords
+  pub clients : s .head .clients ≤ mostClients
+  pub waiting-long : mostRecords ≤ waiting
+  pub starts-long : mostRecords ≤ starts
+  pub submitted-long : mostClients ≤ submitted
+  pub served-long : mostClients ≤ served
+  pub dropped-long : mostClients ≤ dropped
+
+pub fit-facts : (s : Session) (waiting submitted served dropped starts : ℕ)
+    → doFit s waiting submitted served dropped starts ≡ true → Fits s waiting submitted served dropped starts
+unfolding doFit
+fit-facts s waiting submitted served dropped starts e =
+    let p = simp and-eq-true-iff at e in
+    record {
+      records = leb-true (s .records) mostRecords (p .0 .0);
+      clients = leb-true (s .head .clients) mostClients (p .0 .1);
+      waiting-long = leb-true mostRecords waiting (p .1 .0 .0);
+      starts-long = leb-true mostRecords starts (p .1 .0 .1);
+      submitted-long = leb-true mostClients submitted (p .1 .1 .0);
+      served-long = leb-true mostClients served (p .1 .1 .1 .0);
+      dropped-long = leb-true mostClients dropped (p .1 .1 .1 .1);
+    }
+
+-- ---- lengths that a frame names
+pub up-same : (most n : ℕ) → n ≤ most → upTo most n ≡ n
+up-same most n h = cond-true (leb n most) n 0 (le-leb n most h)
+
+pub up-most : (most n : ℕ) → upTo most n ≤ most
+up-most most n = go (leb n most) (leb-true n most)
+  where
+    go : (x : Bool) → (x ≡ true → n ≤ most) → cond x n 0 ≤ most
+    go true h = h refl
+    go false h = omega arith
+
+-- none is as far outside as too many
+up-within : (most n : ℕ) → isWithin 1 most (upTo most n) ≡ isWithin 1 most n
+up-within most n = go (leb n most) refl
+  where
+    go : (x : Bool) → leb n most ≡ x → isWithin 1 most (cond x n 0) ≡ (leb 1 n && x)
+    go true e = rw e
+    go false e = rw and-false
+
+-- so open is refused alike on tables as long as a frame names and on those that are lent
+pub open-match : (clients period records : ℕ) (t u : State)
+    → length (t .waitingTable) ≡ upTo mostRecords records → length (t .clientTable) ≡ upTo mostClients clients
+    → length (u .waitingTable) ≡ records → length (u .clientTable) ≡ clients
+    → firstMatch (openRefusals clients period t) ≡ firstMatch (openRefusals clients period u)
+unfolding firstMatch openRefusals
+open-match clients period records t u a b c d = go (value (leb clients mostClients))
+  where
+    go : Value (leb clients mostClients)
+        → firstMatch (openRefusals clients period t) ≡ firstMatch (openRefusals clients period u)
+    go (is-true e) = rw (a, b, c, d, up-within mostRecords records, cond-true (leb clients mostClients) clients 0 e)
+    go (is-false e) = rw (e, and-false)
+
+-- ---- what a call hands back, as a state
+pub gives-state : {o : Outcome} {su se dr : List ℕ} {r : Reply} {zs : List Request} {us vs ds : List ℕ}
+    → Gives o su se dr r zs us vs ds → length (o .after .clientTable) ≡ length (countsOf su se dr)
+    → stateOf (r .head) zs us vs ds ≡ o .after
+gives-state g e =
+    let counts = holds-rows (g .counts-same) e in
+    λ i. record { head = g .head-same i; waitingTable = g .waiting-same i; clientTable = counts i }
+
+-- ---- two calls that are refused alike
+-- what holds where both are accepted and where both are refused
+pub alike : (P : Outcome → Outcome → Type 0) (rs rs′ : List Refusal) (t t′ : State) (o o′ : Outcome)
+    → firstMatch rs ≡ firstMatch rs′ → (firstMatch rs ≡ 0 → firstMatch rs′ ≡ 0 → P o o′)
+    → ((k : ℕ) → P (record { answer = Refused k; after = t }) (record { answer = Refused k; after = t′ }))
+    → P (unlessRefused rs t o) (unlessRefused rs′ t′ o′)
+alike P rs rs′ t t′ o o′ e f g = rw e (go (eqb (firstMatch rs′) 0) (same (firstMatch rs′) 0))
+  where
+    go : (x : Bool) → Same (firstMatch rs′) 0 x
+        → P (cond x o (record { answer = Refused (firstMatch rs′); after = t }))
+        (cond x o′ (record { answer = Refused (firstMatch rs′); after = t′ }))
+    go true (same-yes z) = f (e ∙ z) z
+    go false (same-no z) = g (firstMatch rs′)

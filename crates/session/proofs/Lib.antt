@@ -1,0 +1,12 @@
+pub mod Answering
+pub mod Going
+pub mod Leading
+pub mod Lending
+pub mod Parts
+pub mod Plain
+pub mod Replied
+pub mod Replies
+pub mod Stepping
+pub mod Texts
+pub mod Turning
+pub mod Values

@@ -1,0 +1,257 @@
+-- What a turn comes to, by what stands next in the input, and the turns one after the other. Assumes nothing.
+use Prim.Native.Nat.{ℕ, _+_, _-_, _≤_, _<_}
+use mathlib.Core.Bool.{Bool, true, false, false≢true}
+use mathlib.Core.List.{List, [], _++_, append-nil}
+use mathlib.Core.Path.{_≡_, refl, sym, subst}
+use native.Mathlib.Omega.{arith}
+use borrow.Author.Tests.{leb-true}
+use lib.Dec.{leb}
+use lib.ListN.{length, take, drop}
+use Rattle.spec.specs.declared.types.Request.{Request}
+use Rattle.spec.specs.Every.{toNumber}
+use Rattle.spec.specs.Tables.{State}
+use Rattle.spec.specs.Session.{reply}
+use Rattle.spec.proofs.Laws.Every.{and-left, and-right}
+use Rattle.frame.specs.Written.{mostBytes, replyBytes}
+use Rattle.decide.specs.declared.types.Reply.{Reply}
+use Rattle.session.specs.declared.types.Session.{Session}
+use Rattle.session.specs.declared.types.Fed.{Fed}
+use Rattle.session.specs.declared.types.Turn.{Turn}
+use Rattle.session.specs.Standing.{heldIn, doFit, recordsFor, clientsFor, recordsAfter, Leads, slice}
+use Rattle.session.specs.Feeding.{Whole, None, NextIf, Next, Left, Ends, can, Stepped, SameLengths, FedBy}
+use Rattle.session.proofs.Replied.{Replied}
+use Rattle.session.proofs.Texts.{take-slice}
+use Rattle.session.proofs.Leading.{leads-none, leads-then, whole-leads, none-leads}
+
+-- ---- one turn
+-- whether a line can be answered with these tables
+abbrev pub canWith : Fed → List Request → List ℕ → List ℕ → List ℕ → List ℕ → List ℕ → Bool
+canWith fed ws submitted served dropped starts out =
+    can fed (length ws) (length submitted) (length served) (length dropped) (length starts) (length out)
+
+module _ (input : List ℕ) (fed : Fed) (s : State) (s₀ : State) (k₀ : Bool) (o : List ℕ) (turn : Turn)
+    (so-far : Leads s₀ k₀ (take (fed .used) input) s (fed .session .skip) o) where
+  -- what led up to a line leads on over it
+  leads-whole : Whole input (fed .used) (fed .session .skip) turn
+      → Leads s₀ k₀ (take (turn .used) input) (reply (turn .frame) s .after) (turn .skip) (o ++ reply (turn .frame) s .bytes)
+  leads-whole w =
+      rw (take-slice input (fed .used) (turn .used) (omega (arith, w .onward)))
+      (leads-then s₀ k₀ (take (fed .used) input) s (fed .session .skip) o (slice (fed .used) (turn .used) input)
+      (reply (turn .frame) s .after) (turn .skip) (reply (turn .frame) s .bytes) so-far
+      (whole-leads input (fed .used) (fed .session .skip) turn s w))
+
+  -- and over what is no whole line
+  leads-begun : None input (fed .used) (fed .session .skip) turn → Leads s₀ k₀ (take (turn .used) input) s (turn .skip) o
+  leads-begun n =
+      rw (take-slice input (fed .used) (turn .used) (n .onward), ← append-nil o)
+      (leads-then s₀ k₀ (take (fed .used) input) s (fed .session .skip) o (slice (fed .used) (turn .used) input)
+      s (turn .skip) [] so-far (none-leads input (fed .used) (fed .session .skip) turn s n))
+
+-- where no line can be answered: the session stands where it stood, but for what is used
+abbrev pub stopped : Fed → Turn → Bool → Fed
+stopped fed turn full =
+    record {
+      session = record { head = fed .session .head; records = fed .session .records; skip = turn .skip };
+      used = turn .used;
+      put = fed .put;
+      going = false;
+      full = full;
+    }
+
+-- where a line is answered, up to the index put of the output
+abbrev pub answered : Fed → Turn → Reply → ℕ → Fed
+answered fed turn a put =
+    record {
+      session =
+          record {
+            head = a .head;
+            records = recordsAfter (turn .frame) (a .answer) (fed .session .records);
+            skip = turn .skip;
+          };
+      used = turn .used;
+      put = put;
+      going = true;
+      full = false;
+    }
+
+-- what stands next, by whether a line can be answered
+next-if : (input : List ℕ) (fed : Fed) (c : Bool) (turn : Turn) (b : Bool) → turn .ends ≡ b → Next input fed c turn
+    → NextIf b (turn .full) input fed c turn
+next-if input fed c turn b e next = subst (λ (x : Bool). NextIf x (turn .full) input fed c turn) e next
+
+module _ {input : List ℕ} {fed : Fed} {ws : List Request} {submitted served dropped starts out : List ℕ} (turn : Turn) where
+  stop-by : (full : Bool) → fed .used ≤ length input → fed .put ≤ length out
+      → NextIf true full input fed (canWith fed ws submitted served dropped starts out) turn
+      → Stepped input fed ws submitted served dropped starts out (stopped fed turn full) ws submitted served dropped out
+  unfolding doFit
+  stop-by true used put w =
+      record {
+        onward = omega (arith, w .used-same);
+        within = omega (arith, w .used-same);
+        room = put;
+        fits = λ h. h;
+        leads = λ s₀ k₀ h. rw (w .used-same, w .skip-same) h;
+        ends = w .cannot;
+      }
+  stop-by false used put n =
+      record {
+        onward = n .onward;
+        within = n .within;
+        room = put;
+        fits = λ h. h;
+        leads =
+            λ s₀ k₀ h.
+            leads-begun input fed (heldIn (fed .session) ws submitted served dropped) s₀ k₀ (take (fed .put) out) turn h n;
+        ends = (n .left, n .no-feed);
+      }
+
+  pub stops : {r : Fed} → turn .ends ≡ true → fed .used ≤ length input → fed .put ≤ length out
+      → Next input fed (canWith fed ws submitted served dropped starts out) turn → r ≡ stopped fed turn (turn .full)
+      → Stepped input fed ws submitted served dropped starts out r ws submitted served dropped out
+  stops e used put next is =
+      rw is
+      (stop-by (turn .full) used put
+      (next-if input fed (canWith fed ws submitted served dropped starts out) turn true e next))
+
+-- what must hold before a line is answered
+module _ (input : List ℕ) (fed : Fed) (ws : List Request) (submitted served dropped starts out : List ℕ) (turn : Turn)
+    (goes : turn .ends ≡ false) (next : Next input fed (canWith fed ws submitted served dropped starts out) turn) where
+  next-is : (canWith fed ws submitted served dropped starts out ≡ true) × Whole input (fed .used) (fed .session .skip) turn
+  next-is = next-if input fed (canWith fed ws submitted served dropped starts out) turn false goes next
+
+  pub next-fits : doFit (fed .session) (length ws) (length submitted) (length served) (length dropped) (length starts) ≡ true
+  next-fits =
+      and-left (doFit (fed .session) (length ws) (length submitted) (length served) (length dropped) (length starts))
+      (leb (fed .put + mostBytes) (length out)) (next-is .0)
+
+  pub next-room : fed .put + mostBytes ≤ length out
+  next-room =
+      leb-true (fed .put + mostBytes) (length out)
+      (and-right (doFit (fed .session) (length ws) (length submitted) (length served) (length dropped) (length starts))
+      (leb (fed .put + mostBytes) (length out)) (next-is .0))
+
+  pub next-whole : Whole input (fed .used) (fed .session .skip) turn
+  next-whole = next-is .1
+
+-- the parts zs, us, vs, ds that the call had come back to the tables
+pub answers : {input : List ℕ} {fed : Fed} {ws : List Request} {submitted served dropped starts out : List ℕ} {r : Fed}
+    {a : Reply} {zs : List Request} {us vs ds starts′ out′ : List ℕ} (turn : Turn) (put : ℕ)
+    → turn .ends ≡ false → Next input fed (canWith fed ws submitted served dropped starts out) turn
+    → Replied (turn .frame) (fed .session) ws submitted served dropped starts a zs us vs ds starts′
+    → (fed .put ≤ put) × (put ≤ fed .put + mostBytes)
+    × (take put out′ ≡ take (fed .put) out ++ replyBytes (a .answer) starts′)
+    → r ≡ answered fed turn a put
+    → Stepped input fed ws submitted served dropped starts out r
+    (zs ++ drop (recordsFor (turn .frame) (fed .session)) ws)
+    (us ++ drop (clientsFor (turn .frame) (fed .session)) submitted)
+    (vs ++ drop (clientsFor (turn .frame) (fed .session)) served)
+    (ds ++ drop (clientsFor (turn .frame) (fed .session)) dropped) out′
+unfolding doFit
+answers {input} {fed} {ws} {submitted} {served} {dropped} {starts} {out} turn put goes next q written is =
+    let w = next-whole input fed ws submitted served dropped starts out turn goes next in
+    let m = next-room input fed ws submitted served dropped starts out turn goes next in
+    let s : State = heldIn (fed .session) ws submitted served dropped in
+    rw is (record {
+      onward = omega (arith, w .onward);
+      within = w .within;
+      room = omega (arith, written .1);
+      fits = λ h. q .fits;
+      leads =
+          λ s₀ k₀ h.
+          rw (q .after, written .2, q .bytes) (leads-whole input fed s s₀ k₀ (take (fed .put) out) turn h w);
+      ends = w .onward;
+    })
+
+-- ---- the turns
+-- where the turns stand that feed a part of the input: what is used so far leads on from the state at entry, and after the last
+-- turn no more is answered. Of the start slots only the number counts
+pub record Feeding (session : Session) (input : List ℕ) (ws : List Request) (submitted served dropped starts out : List ℕ)
+    (fed : Fed) (ws′ : List Request) (submitted′ served′ dropped′ out′ : List ℕ) : Type 0 where
+  pub within : fed .used ≤ length input
+  pub room : fed .put ≤ length out
+  pub long : SameLengths ws submitted served dropped out ws′ submitted′ served′ dropped′ out′
+  pub fits :
+      doFit session (length ws) (length submitted) (length served) (length dropped) (length starts) ≡ true
+      → doFit (fed .session) (length ws) (length submitted) (length served) (length dropped) (length starts) ≡ true
+  pub leads :
+      Leads (heldIn session ws submitted served dropped) (session .skip) (take (fed .used) input)
+      (heldIn (fed .session) ws′ submitted′ served′ dropped′) (fed .session .skip) (take (fed .put) out′)
+  pub left : fed .going ≡ false
+      → Left (fed .full) input (fed .used) (canWith fed ws submitted served dropped starts out)
+
+-- how many turns there can still be
+abbrev pub turnsLeft : List ℕ → Fed → ℕ
+turnsLeft input fed = toNumber (fed .going) + (length input - fed .used)
+
+-- before the first turn
+pub fed-begins : {session : Session} {input : List ℕ} {ws : List Request} {submitted served dropped starts out : List ℕ}
+    → Feeding session input ws submitted served dropped starts out
+    (record { session = session; used = 0; put = 0; going = true; full = false }) ws submitted served dropped out
+fed-begins {session} {input} {ws} {submitted} {served} {dropped} {starts} {out} =
+    record {
+      within = omega arith;
+      room = omega arith;
+      long = omega arith;
+      fits = λ h. h;
+      leads = leads-none (heldIn session ws submitted served dropped) (session .skip);
+      left = λ e. absurd (false≢true (sym e));
+    }
+
+-- a turn
+module _ {input : List ℕ} {fed : Fed} {ws₁ : List Request} {submitted₁ served₁ dropped₁ starts₁ out₁ : List ℕ}
+    {r : Fed} {ws₂ : List Request} {submitted₂ served₂ dropped₂ out₂ : List ℕ}
+    (t : Stepped input fed ws₁ submitted₁ served₁ dropped₁ starts₁ out₁ r ws₂ submitted₂ served₂ dropped₂ out₂) where
+  ends-as : (b : Bool) → r .going ≡ b
+      → Ends b (r .full) input (fed .used) (r .used) (canWith r ws₁ submitted₁ served₁ dropped₁ starts₁ out₁)
+  ends-as b e =
+      subst
+      (λ (x : Bool). Ends x (r .full) input (fed .used) (r .used) (canWith r ws₁ submitted₁ served₁ dropped₁ starts₁ out₁))
+      e (t .ends)
+
+  pub used-rises : r .going ≡ true → fed .used < r .used
+  used-rises e = ends-as true e
+
+  -- so there are no more turns than characters and one
+  pub turns-less : fed .going ≡ true → turnsLeft input r < turnsLeft input fed
+  turns-less h = rw h (go (r .going) refl)
+    where
+      go : (b : Bool) → r .going ≡ b → toNumber b + (length input - r .used) < 1 + (length input - fed .used)
+      go true e = omega (arith, used-rises e, t .within)
+      go false e = omega (arith, t .onward)
+
+  pub fed-steps : {session : Session} {ws : List Request} {submitted served dropped starts out : List ℕ}
+      → Feeding session input ws submitted served dropped starts out fed ws₁ submitted₁ served₁ dropped₁ out₁
+      → SameLengths ws₁ submitted₁ served₁ dropped₁ out₁ ws₂ submitted₂ served₂ dropped₂ out₂
+      → length starts₁ ≡ length starts
+      → Feeding session input ws submitted served dropped starts out r ws₂ submitted₂ served₂ dropped₂ out₂
+  fed-steps {session} {ws} {submitted} {served} {dropped} {starts} {out} f l n =
+      let k = f .long in
+      record {
+        within = t .within;
+        room = omega (arith, t .room, k .out-long);
+        long = omega (arith, k, l);
+        fits =
+            λ h.
+            rw (k .waiting-long, k .submitted-long, k .served-long, k .dropped-long, n) at
+            (t .fits (rw (k .waiting-long, k .submitted-long, k .served-long, k .dropped-long, n) (f .fits h)));
+        leads = t .leads (heldIn session ws submitted served dropped) (session .skip) (f .leads);
+        left =
+            λ e.
+            rw (k .waiting-long, k .submitted-long, k .served-long, k .dropped-long, n, k .out-long) at (ends-as false e);
+      }
+
+-- after the last turn
+pub fed-ends : {session : Session} {input : List ℕ} {ws : List Request} {submitted served dropped starts out : List ℕ}
+    {fed : Fed} {ws′ : List Request} {submitted′ served′ dropped′ out′ : List ℕ} → fed .going ≡ false
+    → Feeding session input ws submitted served dropped starts out fed ws′ submitted′ served′ dropped′ out′
+    → FedBy session input ws submitted served dropped starts out fed ws′ submitted′ served′ dropped′ out′
+fed-ends e f =
+    record {
+      within = f .within;
+      room = f .room;
+      ended = e;
+      long = f .long;
+      fits = f .fits;
+      leads = f .leads;
+      left = f .left e;
+    }

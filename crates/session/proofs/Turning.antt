@@ -1,0 +1,182 @@
+-- Laws of turns: what is read where a line ends and where none does, and what stays the same but for an open.
+-- Assumes nothing.
+use Prim.Native.Nat.{ℕ, zero, suc, _+_, _-_, _≤_, _<_}
+use mathlib.Core.Bool.{Bool, true, false, false≢true, not, _&&_, _||_}
+use mathlib.Core.List.{List, [], _∷_, _++_, append-nil}
+use mathlib.Core.Path.{_≡_, refl, sym, _∙_, subst₂}
+use native.Mathlib.Omega.{arith}
+use borrow.Author.Tests.{ltb-true, ltb-false, leb-true, le-leb, eqb-true}
+use lib.Dec.{ltb, leb, eqb}
+use lib.ListN.{length, drop, length-append, length-take, length-drop}
+use types.Run.{OneOf, miss}
+use denote.Enum.Declared.{tagOf}
+use Rattle.spec.specs.declared.types.Answer.{Answer}
+use Rattle.spec.specs.declared.types.Answer.the-variants.{Opened, Kept, Dropped, Served, Idle, Reported, Charted, Refused}
+use Rattle.spec.specs.declared.types.Frame.{Frame}
+use Rattle.spec.specs.declared.types.Frame.the-variants.{Open, Submit, Tick, Report, Chart, Bad}
+use Rattle.spec.specs.Frames.{frameOf, answerLine}
+use Rattle.spec.specs.Tables.{mostRecords, mostClients}
+use Rattle.spec.specs.Lists.{isRefused}
+use Rattle.spec.specs.Session.{textOf}
+use Rattle.spec.proofs.Laws.Every.{or-none, same-test}
+use Rattle.spec.proofs.types.Answer as answers
+use Rattle.spec.proofs.types.Frame as frames
+use Rattle.frame.specs.Lines.{NoFeed, Ends, part}
+use Rattle.frame.specs.Written.{mostBytes}
+use Rattle.frame.proofs.Framing.{frame-length}
+use Rattle.frame.proofs.Parts.{part-is}
+use Rattle.session.specs.declared.types.Session.{Session}
+use Rattle.session.specs.declared.types.Fed.{Fed}
+use Rattle.session.specs.declared.types.Turn.{Turn}
+use Rattle.session.specs.Standing.{upTo, recordsFor, clientsFor, recordsAfter, longestFrame, Begun, slice}
+use Rattle.session.specs.Feeding.{Whole, None, NextIf, Next, owed}
+use Rattle.session.proofs.Texts.{begun, slice-goes-on, slice-ends}
+use Rattle.session.proofs.Leading.{begun-text}
+
+-- ---- a whole line
+-- the turn that reads a line, whose feed stands at end
+abbrev pub reads : ℕ → Frame → Turn
+reads end frame = record { ends = false; full = false; used = end + 1; skip = false; frame = frame }
+
+module _ (input : List ℕ) (used end : ℕ) (ends : Ends input used end) where
+  whole : (skip : Bool) (frame : Frame) → ((p : List ℕ) → Begun skip p → frameOf (p ++ slice used end input) ≡ frame)
+      → Whole input used skip (reads end frame)
+  whole skip frame is =
+      record {
+        onward = omega (arith, ends .from);
+        within = omega (arith, ends .within);
+        skip-ends = refl;
+        line = λ p. p ++ slice used end input;
+        reads = λ p b. slice-ends input used end p (begun-text skip p b) ends;
+        frame = is;
+      }
+
+  -- one that was read past so far has more digits than any frame
+  pub whole-past : (skip : Bool) → skip ≡ true
+      → Whole input used skip (reads end Bad)
+  whole-past skip e =
+      let line : List ℕ = slice used end input in
+      rw e (whole true Bad (λ p b. frame-length (p ++ line) (λ _ most. omega (arith, b .0, length-append p line))))
+
+  -- and before any other nothing is begun
+  pub whole-alone : (skip : Bool) (frame : Frame) → skip ≡ false → frame ≡ frameOf (part input used end)
+      → Whole input used skip (reads end frame)
+  whole-alone skip frame e is =
+      let line = part-is input used end (ends .from) (omega (arith, ends .within)) in
+      rw e (whole false frame (λ p b. rw (b, ← line) (sym is)))
+
+-- ---- no line feed
+-- the turn that reads no line
+abbrev pub stops : ℕ → Bool → Turn
+stops used skip = record { ends = true; full = false; used = used; skip = skip; frame = Bad }
+
+-- whether there are more digits than any frame has
+abbrev pub isOver : List ℕ → ℕ → Bool → Bool
+isOver input used skip = skip || ltb longestFrame (length input - used)
+
+over-long : (input : List ℕ) (used : ℕ) (skip : Bool) → isOver input used skip ≡ true → (p : List ℕ) → Begun skip p
+    → longestFrame < length (p ++ slice used (length input) input)
+over-long input used true e p b = omega (arith, b .0, length-append p (slice used (length input) input))
+over-long input used false e p b =
+    omega (
+      arith,
+      ltb-true longestFrame (length input - used) e,
+      length-append p (slice used (length input) input),
+      length-take (length input - used) (drop used input),
+      length-drop used input,
+    )
+
+module _ (input : List ℕ) (used : ℕ) (skip : Bool) (within : used ≤ length input)
+    (clean : NoFeed input used (length input)) where
+  goes-on : (end : ℕ) → NoFeed input used end → (p : List ℕ) → Begun skip p
+      → textOf (p ++ slice used end input) ≡ begun (p ++ slice used end input)
+  goes-on end h p b = slice-goes-on input used end p (begun-text skip p b) h
+
+  -- these are read past
+  pub none-past : isOver input used skip ≡ true
+      → None input used skip (stops (length input) (isOver input used skip))
+  none-past e =
+      record {
+        onward = within;
+        within = omega arith;
+        left = omega arith;
+        no-feed = λ k f l _. omega arith;
+        reads = goes-on (length input) clean;
+        begun = λ p b. rw e (over-long input used skip e p b, goes-on (length input) clean p b);
+      }
+
+  -- the beginning of a frame is left
+  pub none-left : isOver input used skip ≡ false
+      → None input used skip (stops used (isOver input used skip))
+  none-left e =
+      let short = or-none skip (ltb longestFrame (length input - used)) e in
+      let none : used - used ≡ 0 = omega arith in
+      record {
+        onward = omega arith;
+        within = within;
+        left = omega (arith, ltb-false longestFrame (length input - used) (short .1));
+        no-feed = clean;
+        reads = goes-on used (λ k f l _. omega arith);
+        begun = λ p b. rw (e, none) (append-nil p ∙ (rw (short .0) at b));
+      }
+
+-- ---- what stands next, by what its turn says
+pub next-as : (input : List ℕ) (fed : Fed) (can : Bool) (turn : Turn) (ends full : Bool) → turn .ends ≡ ends → turn .full ≡ full
+    → NextIf ends full input fed can turn → Next input fed can turn
+next-as input fed can turn ends full e f = subst₂ (λ (x y : Bool). NextIf x y input fed can turn) (sym e) (sym f)
+
+-- ---- frames and answers of a variant, and of the others
+module _ (f : Frame) (other : OneOf (1 ∷ 2 ∷ 3 ∷ 4 ∷ 5 ∷ []) (tagOf frames.the-type f)) where
+  -- what is so of each frame but an open is so of one of these variants
+  not-open : (P : Frame → Type 0) → ((client deadline : ℕ) → P (Submit client deadline)) → P Tick
+      → ((client : ℕ) → P (Report client)) → P Chart → P Bad → P f
+  not-open P submit tick report chart bad = go f other
+    where
+      go : (f : Frame) → OneOf (1 ∷ 2 ∷ 3 ∷ 4 ∷ 5 ∷ []) (tagOf frames.the-type f) → P f
+      go (Open clients period records) h = absurd (miss (1 ∷ 2 ∷ 3 ∷ 4 ∷ 5 ∷ []) 0 tt h)
+      go (Submit client deadline) h = submit client deadline
+      go Tick h = tick
+      go (Report client) h = report client
+      go Chart h = chart
+      go Bad h = bad
+
+  -- it is lent what is in use
+  pub lent-other : (s : Session)
+      → (recordsFor f s ≡ upTo mostRecords (s .records)) × (clientsFor f s ≡ upTo mostClients (s .head .clients))
+  unfolding recordsFor clientsFor
+  lent-other s =
+      not-open (λ f. (recordsFor f s ≡ upTo mostRecords (s .records)) × (clientsFor f s ≡ upTo mostClients (s .head .clients)))
+      (λ client deadline. (refl, refl)) (refl, refl) (λ client. (refl, refl)) (refl, refl) (refl, refl)
+
+  -- and as many records are in use after it
+  pub after-other : (a : Answer) (before : ℕ) → recordsAfter f a before ≡ before
+  unfolding recordsAfter
+  after-other a before =
+      not-open (λ f. recordsAfter f a before ≡ before) (λ client deadline. refl) refl (λ client. refl) refl refl
+
+pub not-refused : (a : Answer) → OneOf (0 ∷ 1 ∷ 2 ∷ 3 ∷ 4 ∷ 5 ∷ 6 ∷ []) (tagOf answers.the-type a) → isRefused a ≡ false
+not-refused Opened h = refl
+not-refused (Kept number place) h = refl
+not-refused (Dropped number victim client) h = refl
+not-refused (Served slot number client) h = refl
+not-refused (Idle slot) h = refl
+not-refused (Reported client submitted served dropped waiting) h = refl
+not-refused (Charted count) h = refl
+not-refused (Refused number) h = absurd (miss (0 ∷ 1 ∷ 2 ∷ 3 ∷ 4 ∷ 5 ∷ 6 ∷ []) 7 tt h)
+
+-- ---- room, and the end of the input
+pub room-left : (put out : ℕ) → put ≤ out → leb mostBytes (out - put) ≡ leb (put + mostBytes) out
+room-left put out h =
+    same-test (leb mostBytes (out - put)) (leb (put + mostBytes) out)
+    (λ e. le-leb (put + mostBytes) out (omega (arith, leb-true mostBytes (out - put) e)))
+    (λ e. le-leb mostBytes (out - put) (omega (arith, leb-true (put + mostBytes) out e)))
+
+pub owed-none : (skip : Bool) (left : ℕ) → not skip && eqb left 0 ≡ true → owed skip left ≡ []
+owed-none true left e = absurd (false≢true e)
+owed-none false zero e = refl
+owed-none false (suc left) e = absurd (let no : suc left ≡ 0 = eqb-true (suc left) 0 e in omega arith)
+
+pub owed-line : (skip : Bool) (left : ℕ) → not skip && eqb left 0 ≡ false → owed skip left ≡ answerLine (Refused 1)
+owed-line true left e = refl
+owed-line false zero e = absurd (false≢true (sym e))
+owed-line false (suc left) e = refl

@@ -1,0 +1,120 @@
+-- What feeding a session a part of its input comes to. Assumes nothing.
+use Prim.Native.Nat.{ℕ, zero, suc, _+_, _≤_, _<_}
+use mathlib.Core.Bool.{Bool, true, false, _&&_}
+use mathlib.Core.List.{List, [], _∷_, _++_}
+use mathlib.Core.Path.{_≡_}
+use lib.Dec.{leb}
+use lib.ListN.{length, take}
+use Rattle.spec.specs.declared.types.Answer.the-variants.{Refused}
+use Rattle.spec.specs.declared.types.Request.{Request}
+use Rattle.spec.specs.Tables.{State}
+use Rattle.spec.specs.Frames.{frameOf, answerLine}
+use Rattle.spec.specs.Session.{textOf}
+use Rattle.frame.specs.Lines.{NoFeed}
+use Rattle.frame.specs.Written.{mostBytes}
+use Rattle.session.specs.declared.types.Session.{Session}
+use Rattle.session.specs.declared.types.Fed.{Fed}
+use Rattle.session.specs.declared.types.Turn.{Turn}
+use Rattle.session.specs.Standing.{heldIn, doFit, longestFrame, Begun, Leads, slice}
+
+-- ---- what stands next in the input, from `used` on
+-- whether an answer has room in an output of this length, and the tables fit
+abbrev pub canAnswer : Bool → ℕ → ℕ → Bool
+canAnswer fits put out = fits && leb (put + mostBytes) out
+
+-- a whole line, of which the turn uses all and its line feed, and which is the turn's frame
+pub record Whole (input : List ℕ) (used : ℕ) (skip : Bool) (turn : Turn) : Type 0 where
+  pub onward : used < turn .used
+  pub within : turn .used ≤ length input
+  pub skip-ends : turn .skip ≡ false
+  pub line : List ℕ → List ℕ
+  pub reads : (p : List ℕ) → Begun skip p → textOf (p ++ slice used (turn .used) input) ≡ record { lines = line p ∷ []; rest = [] }
+  pub frame : (p : List ℕ) → Begun skip p → frameOf (line p) ≡ turn .frame
+
+-- no whole line: all is used, or a beginning that a frame can still come of is left
+pub record None (input : List ℕ) (used : ℕ) (skip : Bool) (turn : Turn) : Type 0 where
+  pub onward : used ≤ turn .used
+  pub within : turn .used ≤ length input
+  pub left : length input ≤ turn .used + longestFrame
+  pub no-feed : NoFeed input (turn .used) (length input)
+  pub reads : (p : List ℕ) → Begun skip p → textOf (p ++ slice used (turn .used) input) ≡ record { lines = []; rest = p ++ slice used (turn .used) input }
+  pub begun : (p : List ℕ) → Begun skip p → Begun (turn .skip) (p ++ slice used (turn .used) input)
+
+-- nothing is read: an answer might not have room
+pub record Waits (fed : Fed) (can : Bool) (turn : Turn) : Type 0 where
+  pub cannot : can ≡ false
+  pub used-same : turn .used ≡ fed .used
+  pub skip-same : turn .skip ≡ fed .session .skip
+
+abbrev pub NextIf : Bool → Bool → List ℕ → Fed → Bool → Turn → Type 0
+NextIf true true input fed can turn = Waits fed can turn
+NextIf true false input fed can turn = None input (fed .used) (fed .session .skip) turn
+NextIf false full input fed can turn = (can ≡ true) × Whole input (fed .used) (fed .session .skip) turn
+
+abbrev pub Next : List ℕ → Fed → Bool → Turn → Type 0
+Next input fed can turn = NextIf (turn .ends) (turn .full) input fed can turn
+
+-- ---- a part of the input
+-- what is left of a part of the input once no more of it is answered
+abbrev pub Left : Bool → List ℕ → ℕ → Bool → Type 0
+Left true input used can = can ≡ false
+Left false input used can = (length input ≤ used + longestFrame) × NoFeed input used (length input)
+
+-- while lines may still be answered, each turn reads one
+abbrev pub Ends : Bool → Bool → List ℕ → ℕ → ℕ → Bool → Type 0
+Ends true full input before used can = before < used
+Ends false full input before used can = Left full input used can
+
+abbrev pub can : Fed → ℕ → ℕ → ℕ → ℕ → ℕ → ℕ → Bool
+can fed waiting submitted served dropped starts out = canAnswer (doFit (fed .session) waiting submitted served dropped starts) (fed .put) out
+
+-- one turn: what led up to where it began leads on to where it ends
+pub record Stepped (input : List ℕ) (fed : Fed) (ws : List Request) (submitted served dropped starts out : List ℕ)
+    (r : Fed) (ws′ : List Request) (submitted′ served′ dropped′ out′ : List ℕ) : Type 0 where
+  pub onward : fed .used ≤ r .used
+  pub within : r .used ≤ length input
+  pub room : r .put ≤ length out
+  pub fits :
+      doFit (fed .session) (length ws) (length submitted) (length served) (length dropped) (length starts) ≡ true
+      → doFit (r .session) (length ws) (length submitted) (length served) (length dropped) (length starts) ≡ true
+  pub leads : (s₀ : State) (skip₀ : Bool)
+      → Leads s₀ skip₀ (take (fed .used) input) (heldIn (fed .session) ws submitted served dropped) (fed .session .skip) (take (fed .put) out)
+      → Leads s₀ skip₀ (take (r .used) input) (heldIn (r .session) ws′ submitted′ served′ dropped′) (r .session .skip) (take (r .put) out′)
+  pub ends :
+      Ends (r .going) (r .full) input (fed .used) (r .used)
+      (can r (length ws) (length submitted) (length served) (length dropped) (length starts) (length out))
+
+-- tables keep their lengths
+pub record SameLengths (ws : List Request) (submitted served dropped out : List ℕ) (ws′ : List Request) (submitted′ served′ dropped′ out′ : List ℕ)
+    : Type 0 where
+  pub waiting-long : length ws′ ≡ length ws
+  pub submitted-long : length submitted′ ≡ length submitted
+  pub served-long : length served′ ≡ length served
+  pub dropped-long : length dropped′ ≡ length dropped
+  pub out-long : length out′ ≡ length out
+
+-- a part of the input: what of it is used leads from the state at entry to the state at exit and to what is written. The start
+-- slots at exit, the output behind what is written, and table entries that no session uses are any
+pub record FedBy (session : Session) (input : List ℕ) (ws : List Request) (submitted served dropped starts out : List ℕ)
+    (r : Fed) (ws′ : List Request) (submitted′ served′ dropped′ out′ : List ℕ) : Type 0 where
+  pub within : r .used ≤ length input
+  pub room : r .put ≤ length out
+  pub ended : r .going ≡ false
+  pub long : SameLengths ws submitted served dropped out ws′ submitted′ served′ dropped′ out′
+  pub fits :
+      doFit session (length ws) (length submitted) (length served) (length dropped) (length starts) ≡ true
+      → doFit (r .session) (length ws) (length submitted) (length served) (length dropped) (length starts) ≡ true
+  pub leads :
+      Leads (heldIn session ws submitted served dropped) (session .skip) (take (r .used) input)
+      (heldIn (r .session) ws′ submitted′ served′ dropped′) (r .session .skip) (take (r .put) out′)
+  pub left :
+      Left (r .full) input (r .used)
+      (can r (length ws) (length submitted) (length served) (length dropped) (length starts) (length out))
+
+-- ---- the end of the input
+-- what is owed where so many characters are left and a line is begun as skip says: "a last line without its line feed gets
+-- refusal 1"
+abbrev pub owed : Bool → ℕ → List ℕ
+owed true n = answerLine (Refused 1)
+owed false zero = []
+owed false (suc n) = answerLine (Refused 1)

@@ -1,0 +1,4 @@
+pub mod Answers
+pub mod Feeding
+pub mod Parts
+pub mod Standing

@@ -1,0 +1,141 @@
+// The session over lent tables: `feed` answers the lines of a part of the input, `turns::finish` what is owed at its end.
+pub mod turns;
+pub mod types;
+
+use decide::types::Reply;
+use frame::values;
+use spec::types::Frame;
+use spec::types::Head;
+use spec::types::Request;
+use types::Fed;
+use types::Session;
+ghost use mathlib.Core.Path.{_≡_};
+ghost use Prim.Native.Nat.{_≤_};
+ghost use lib.ListN.{length};
+ghost use Rattle.columns.specs.Columns.{stateOf};
+ghost use Rattle.frame.specs.Digits.{digitTable};
+ghost use Rattle.session.specs.Answers.{Answered};
+ghost use Rattle.session.specs.Feeding.{Stepped, FedBy};
+
+// The call that a frame asks for, on the tables as they are lent to it.
+fn answer(
+    frame: Frame,
+    head: Head,
+    waiting: &mut [Request],
+    submitted: &mut [u32],
+    served: &mut [u32],
+    dropped: &mut [u32],
+    starts: &mut [u64],
+) -> Reply
+    ensures { λ r. ⌜ Answered frame (now (starts .entry))
+        (stateOf head (now (waiting .entry)) (now (submitted .entry)) (now (served .entry)) (now (dropped .entry)))
+        (now (submitted .entry)) (now (served .entry)) (now (dropped .entry))
+        r (now (waiting .exit)) (now (submitted .exit)) (now (served .exit)) (now (dropped .exit)) (now (starts .exit)) ⌝ }
+{
+    match frame {
+        Frame::Open {
+            clients,
+            period,
+            records: _,
+        } => {
+            return queue::open(head, waiting, submitted, served, dropped, clients, period);
+        }
+        Frame::Submit { client, deadline } => {
+            return queue::submit(head, waiting, submitted, served, dropped, client, deadline);
+        }
+        Frame::Tick => {
+            return queue::tick(head, waiting, submitted, served, dropped);
+        }
+        Frame::Report { client } => {
+            return queue::report(head, waiting, submitted, served, dropped, client);
+        }
+        Frame::Chart => {
+            return queue::chart(head, waiting, submitted, served, dropped, starts);
+        }
+        Frame::Bad => {
+            return turns::no_frame(head);
+        }
+    }
+}
+
+// Answers one line, where one is whole and its answer has room.
+fn step(
+    table: &[u8],
+    fed: Fed,
+    input: &[u8],
+    waiting: &mut [Request],
+    submitted: &mut [u32],
+    served: &mut [u32],
+    dropped: &mut [u32],
+    starts: &mut [u64],
+    out: &mut [u8],
+) -> Fed
+    requires { ⌜ (now table ≡ digitTable) × (fed .used ≤ length (now input)) × (fed .put ≤ length (now out)) ⌝ }
+    ensures { λ r. ⌜ Stepped (now (input .entry)) fed (now (waiting .entry)) (now (submitted .entry)) (now (served .entry))
+        (now (dropped .entry)) (now (starts .entry)) (now (out .entry)) r (now (waiting .exit)) (now (submitted .exit))
+        (now (served .exit)) (now (dropped .exit)) (now (out .exit)) ⌝ }
+{
+    let turn = turns::next_turn(
+        table,
+        input,
+        fed,
+        waiting.len(),
+        submitted.len(),
+        served.len(),
+        dropped.len(),
+        starts.len(),
+        out.len(),
+    );
+    if turn.ends {
+        return turns::stopped(fed, turn);
+    }
+    let frame = turns::frame_of(turn);
+    let head = turns::head_of(fed);
+    let lent = turns::lent(fed, turn);
+    let reply = answer(
+        frame,
+        head,
+        &mut waiting[..lent.records],
+        &mut submitted[..lent.clients],
+        &mut served[..lent.clients],
+        &mut dropped[..lent.clients],
+        starts,
+    );
+    let put = turns::put_reply(out, fed, reply, starts);
+    turns::answered(fed, turn, reply, put)
+}
+
+// Answers the whole lines of a part of the input, as far as the output has room. What is not used is handed in again, with more
+// of the input behind it.
+pub fn feed(
+    session: Session,
+    input: &[u8],
+    waiting: &mut [Request],
+    submitted: &mut [u32],
+    served: &mut [u32],
+    dropped: &mut [u32],
+    starts: &mut [u64],
+    out: &mut [u8],
+) -> Fed
+    ensures { λ r. ⌜ FedBy session (now (input .entry)) (now (waiting .entry)) (now (submitted .entry)) (now (served .entry))
+        (now (dropped .entry)) (now (starts .entry)) (now (out .entry)) r (now (waiting .exit)) (now (submitted .exit))
+        (now (served .exit)) (now (dropped .exit)) (now (out .exit)) ⌝ }
+{
+    let table = values::digit_table();
+    let mut fed = turns::begin(session);
+    while fed.going {
+        let next = step(
+            &table,
+            fed,
+            input,
+            waiting,
+            submitted,
+            served,
+            dropped,
+            starts,
+            out,
+        );
+        fed = next;
+    }
+    fed
+}

@@ -1,0 +1,307 @@
+// The parts of a turn that need no table: what is read, how much is lent, what is written, where the session then stands.
+use crate::types::Fed;
+use crate::types::Lent;
+use crate::types::Session;
+use crate::types::Turn;
+use decide::types::Reply;
+use frame::answers;
+use frame::frames;
+use frame::lines;
+use frame::lines::Line;
+use spec::types::Answer;
+use spec::types::Frame;
+use spec::types::Head;
+ghost use mathlib.Core.Bool.{true, false};
+ghost use mathlib.Core.List.{_++_};
+ghost use mathlib.Core.Path.{_≡_};
+ghost use Prim.Native.Nat.{_+_, _≤_};
+ghost use lib.ListN.{length, take};
+ghost use Rattle.spec.specs.declared.types.Answer.the-variants.{Refused};
+ghost use Rattle.spec.specs.Lists.{isRefused};
+ghost use Rattle.frame.specs.Digits.{digitTable};
+ghost use Rattle.frame.specs.Lines.{NoFeed, Ends};
+ghost use Rattle.frame.specs.Written.{mostBytes, CanDraw, replyBytes};
+ghost use Rattle.session.specs.Standing.{doFit, upTo, recordsFor, clientsFor, recordsAfter};
+ghost use Rattle.session.specs.Feeding.{can, Whole, None, Next, owed};
+
+// Before the first line: no tables.
+pub fn start() -> Session
+    ensures { λ r. ⌜ r ≡ record { head = record { clients = 0; period = 0; clock = 0; last = 0; waiting = 0 }; records = 0; skip = false } ⌝ }
+{
+    Session {
+        head: Head {
+            clients: 0,
+            period: 0,
+            clock: 0,
+            last: 0,
+            waiting: 0,
+        },
+        records: 0,
+        skip: false,
+    }
+}
+
+// Nothing of the input is used.
+pub(crate) fn begin(session: Session) -> Fed
+    ensures { λ r. ⌜ r ≡ record { session = session; used = 0; put = 0; going = true; full = false } ⌝ }
+{
+    Fed {
+        session,
+        used: 0,
+        put: 0,
+        going: true,
+        full: false,
+    }
+}
+
+// Whether tables of these lengths will do.
+fn fit(
+    session: Session,
+    waiting: usize,
+    submitted: usize,
+    served: usize,
+    dropped: usize,
+    starts: usize,
+) -> bool
+    ensures { λ r. ⌜ r ≡ doFit session waiting submitted served dropped starts ⌝ }
+{
+    ((session.records <= 2048) & (session.head.clients <= 256))
+        & (((2048 <= waiting) & (2048 <= starts))
+            & ((256 <= submitted) & ((256 <= served) & (256 <= dropped))))
+}
+
+// A whole line, whose feed stands at `end`. One that was read past so far has more digits than any frame.
+fn whole(table: &[u8], input: &[u8], fed: Fed, end: usize) -> Turn
+    requires { ⌜ (now table ≡ digitTable) × Ends (now input) (fed .used) end ⌝ }
+    ensures { λ r. ⌜ (r .ends ≡ false) × Whole (now (input .entry)) (fed .used) (fed .session .skip) r ⌝ }
+{
+    let used = end + 1;
+    if fed.session.skip {
+        return Turn {
+            ends: false,
+            full: false,
+            used,
+            skip: false,
+            frame: Frame::Bad,
+        };
+    }
+    let digits = lines::digits_at(input, fed.used, end);
+    let frame = frames::frame_of(table, digits);
+    Turn {
+        ends: false,
+        full: false,
+        used,
+        skip: false,
+        frame,
+    }
+}
+
+// No line feed: what has more digits than any frame is read past, and the beginning of a frame is left.
+fn begun(input: &[u8], fed: Fed) -> Turn
+    requires { ⌜ (fed .used ≤ length (now input)) × NoFeed (now input) (fed .used) (length (now input)) ⌝ }
+    ensures { λ r. ⌜ (r .ends ≡ true) × (r .full ≡ false) × None (now (input .entry)) (fed .used) (fed .session .skip) r ⌝ }
+{
+    let end = input.len();
+    let skip = fed.session.skip | (22 < end - fed.used);
+    let used = if skip { end } else { fed.used };
+    Turn {
+        ends: true,
+        full: false,
+        used,
+        skip,
+        frame: Frame::Bad,
+    }
+}
+
+// What stands next in the input, where `can` says whether a line may be answered at all.
+fn look(table: &[u8], input: &[u8], fed: Fed, can: bool) -> Turn
+    requires { ⌜ (now table ≡ digitTable) × (fed .used ≤ length (now input)) ⌝ }
+    ensures { λ r. ⌜ Next (now (input .entry)) fed can r ⌝ }
+{
+    if !can {
+        return Turn {
+            ends: true,
+            full: true,
+            used: fed.used,
+            skip: fed.session.skip,
+            frame: Frame::Bad,
+        };
+    }
+    match lines::line_at(input, fed.used) {
+        Line::Whole { end } => {
+            return whole(table, input, fed, end);
+        }
+        Line::Begun => {
+            return begun(input, fed);
+        }
+    }
+}
+
+// What stands next in the input, if the tables will do and an answer has room.
+pub(crate) fn next_turn(
+    table: &[u8],
+    input: &[u8],
+    fed: Fed,
+    waiting: usize,
+    submitted: usize,
+    served: usize,
+    dropped: usize,
+    starts: usize,
+    out: usize,
+) -> Turn
+    requires { ⌜ (now table ≡ digitTable) × (fed .used ≤ length (now input)) × (fed .put ≤ out) ⌝ }
+    ensures { λ r. ⌜ Next (now (input .entry)) fed (can fed waiting submitted served dropped starts out) r ⌝ }
+{
+    let fits = fit(fed.session, waiting, submitted, served, dropped, starts);
+    let room = 71687 <= out - fed.put;
+    look(table, input, fed, fits & room)
+}
+
+// Where feeding ends.
+pub(crate) fn stopped(fed: Fed, turn: Turn) -> Fed
+    ensures { λ r. ⌜ r ≡ record {
+      session = record { head = fed .session .head; records = fed .session .records; skip = turn .skip };
+      used = turn .used;
+      put = fed .put;
+      going = false;
+      full = turn .full;
+    } ⌝ }
+{
+    let session = fed.session;
+    let head = session.head;
+    Fed {
+        session: Session {
+            head,
+            records: session.records,
+            skip: turn.skip,
+        },
+        used: turn.used,
+        put: fed.put,
+        going: false,
+        full: turn.full,
+    }
+}
+
+fn up_to(most: u64, n: u64) -> usize
+    ensures { λ r. ⌜ r ≡ upTo most n ⌝ }
+{
+    if n <= most { n as usize } else { 0 }
+}
+
+// How much of the tables the frame's call gets.
+pub(crate) fn lent(fed: Fed, turn: Turn) -> Lent
+    ensures { λ r. ⌜ r ≡ record { records = recordsFor (turn .frame) (fed .session); clients = clientsFor (turn .frame) (fed .session) } ⌝ }
+{
+    let frame = turn.frame;
+    match frame {
+        Frame::Open {
+            clients,
+            period: _,
+            records,
+        } => Lent {
+            records: up_to(2048, records),
+            clients: up_to(256, clients),
+        },
+        _ => Lent {
+            records: up_to(2048, fed.session.records),
+            clients: up_to(256, fed.session.head.clients),
+        },
+    }
+}
+
+pub(crate) fn head_of(fed: Fed) -> Head
+    ensures { λ r. ⌜ r ≡ fed .session .head ⌝ }
+{
+    fed.session.head
+}
+
+pub(crate) fn frame_of(turn: Turn) -> Frame
+    ensures { λ r. ⌜ r ≡ turn .frame ⌝ }
+{
+    turn.frame
+}
+
+// The reply to a line that is no frame.
+pub(crate) fn no_frame(head: Head) -> Reply
+    ensures { λ r. ⌜ r ≡ record { head = head; answer = Refused 1 } ⌝ }
+{
+    Reply {
+        head,
+        answer: Answer::Refused { number: 1 },
+    }
+}
+
+// Writes a reply behind what is written.
+pub(crate) fn put_reply(out: &mut [u8], fed: Fed, reply: Reply, starts: &[u64]) -> usize
+    requires { ⌜ (fed .put + mostBytes ≤ length (now out)) × CanDraw (reply .answer) (now starts) ⌝ }
+    ensures { λ r. ⌜ (fed .put ≤ r) × (r ≤ fed .put + mostBytes)
+        × (take r (now (out .exit)) ≡ take (fed .put) (now (out .entry)) ++ replyBytes (reply .answer) (now (starts .entry))) ⌝ }
+{
+    let answer = reply.answer;
+    answers::put_reply(out, fed.put, answer, starts)
+}
+
+fn is_refused(answer: Answer) -> bool
+    ensures { λ r. ⌜ r ≡ isRefused answer ⌝ }
+{
+    match answer {
+        Answer::Refused { number: _ } => true,
+        _ => false,
+    }
+}
+
+// How many waiting records are in use after the frame got its answer.
+fn records_after(frame: Frame, answer: Answer, before: u64) -> u64
+    ensures { λ r. ⌜ r ≡ recordsAfter frame answer before ⌝ }
+{
+    match frame {
+        Frame::Open {
+            clients: _,
+            period: _,
+            records,
+        } => { if is_refused(answer) { before } else { records } }
+        _ => before,
+    }
+}
+
+// Where the session stands after a line.
+pub(crate) fn answered(fed: Fed, turn: Turn, reply: Reply, put: usize) -> Fed
+    ensures { λ r. ⌜ r ≡ record {
+      session = record {
+        head = reply .head;
+        records = recordsAfter (turn .frame) (reply .answer) (fed .session .records);
+        skip = turn .skip;
+      };
+      used = turn .used;
+      put = put;
+      going = true;
+      full = false;
+    } ⌝ }
+{
+    let head = reply.head;
+    let answer = reply.answer;
+    let frame = turn.frame;
+    let records = records_after(frame, answer, fed.session.records);
+    Fed {
+        session: Session {
+            head,
+            records,
+            skip: turn.skip,
+        },
+        used: turn.used,
+        put,
+        going: true,
+        full: false,
+    }
+}
+
+// At the end of the input: a line that has no line feed is refused.
+pub fn finish(session: Session, left: usize, out: &mut [u8]) -> usize
+    requires { ⌜ 39 ≤ length (now out) ⌝ }
+    ensures { λ r. ⌜ (r ≤ 39) × (take r (now (out .exit)) ≡ owed (session .skip) left) ⌝ }
+{
+    if !session.skip & (left == 0) {
+        return 0;
+    }
+    answers::put_answer(out, 0, Answer::Refused { number: 1 })
+}

@@ -1,0 +1,61 @@
+// The session program: it reads lines from standard input and answers them on standard output. `session::feed` answers them; here are
+// the tables, the buffers and the loop.
+mod flow;
+
+use spec::types::Request;
+ghost use Rattle.session_main.specs.Flowing.{Served};
+
+// Feeds the session part by part, until the input ends or a write fails.
+fn serve(
+    waiting: &mut [Request],
+    submitted: &mut [u32],
+    served: &mut [u32],
+    dropped: &mut [u32],
+    starts: &mut [u64],
+    buffer: &mut [u8],
+    out: &mut [u8],
+) -> bool
+    ensures { λ r. ⌜ Served (now (waiting .entry)) (now (submitted .entry)) (now (served .entry)) (now (dropped .entry))
+        (now (waiting .exit)) (now (submitted .exit)) (now (served .exit)) (now (dropped .exit)) r ⌝ }
+{
+    let mut flow = flow::start();
+    while flow.turns > 0 {
+        let fed = session::feed(
+            flow.session,
+            &buffer[..flow.have],
+            waiting,
+            submitted,
+            served,
+            dropped,
+            starts,
+            out,
+        );
+        let next = flow::go_on(flow, fed, buffer, out);
+        flow = next;
+    }
+    flow.ended
+}
+
+// "The session program reserves 2,048 waiting records once"; the output has room for two of the longest replies.
+fn main() {
+    let mut waiting = [Request {
+        deadline: 0,
+        number: 0,
+        client: 0,
+    }; 2048];
+    let mut submitted = [0u32; 256];
+    let mut served = [0u32; 256];
+    let mut dropped = [0u32; 256];
+    let mut starts = [0u64; 2048];
+    let mut buffer = [0u8; 65536];
+    let mut out = [0u8; 143374];
+    serve(
+        &mut waiting,
+        &mut submitted,
+        &mut served,
+        &mut dropped,
+        &mut starts,
+        &mut buffer,
+        &mut out,
+    );
+}
