@@ -20,7 +20,7 @@ use tables::*;
 
 const SHORT: usize = 20_000;
 const LONG: usize = 1_000_000;
-const ROUNDS: u32 = 3;
+const ROUNDS: u32 = 9;
 
 // A kind of session: the tables' lengths, of which each open takes one; how many frames there are from one open to the next;
 // and how many slots there are for each record up to the latest deadline, or nearly.

@@ -36,7 +36,8 @@ fn serve(
     flow.ended
 }
 
-// "The session program reserves 2,048 waiting records once"; the output has room for two of the longest replies.
+// "The session program reserves 2,048 waiting records once". The output has room for four of the longest replies, so that the answers
+// to a whole buffer mostly fit and nothing has to be moved.
 fn main() {
     let mut waiting = [Request {
         deadline: 0,
@@ -48,7 +49,7 @@ fn main() {
     let mut dropped = [0u32; 256];
     let mut starts = [0u64; 2048];
     let mut buffer = [0u8; 65536];
-    let mut out = [0u8; 143374];
+    let mut out = [0u8; 286748];
     serve(
         &mut waiting,
         &mut submitted,

@@ -110,8 +110,8 @@ module _ {M : Type 1} (𝓤 : URA M) (H : Heap 𝓤) (A : Atoms 𝓤) (W : Given
         rewrite ! 0 (λ (xs : List ℕ). ‵ (Held-array u64 2048 l₅ xs)) (zeros-is 2048) refl $
         move ! (39 ∷ []) $ repeats ! u8 (uint-lawful 𝓤 H A W w8) (uint-copy 𝓤 H A W w8) (uint-makes 𝓤 H A W w8) 65536 0 (vint w8 0) (refl, lit< tt) l₆ (lit ! tt) (from ! (stop !)) (
         rewrite ! 0 (λ (xs : List ℕ). ‵ (Held-array u8 65536 l₆ xs)) (zeros-is 65536) refl $
-        move ! (38 ∷ []) $ repeats ! u8 (uint-lawful 𝓤 H A W w8) (uint-copy 𝓤 H A W w8) (uint-makes 𝓤 H A W w8) 143374 0 (vint w8 0) (refl, lit< tt) l₇ (lit ! tt) (from ! (stop !)) (
-        rewrite ! 0 (λ (xs : List ℕ). ‵ (Held-array u8 143374 l₇ xs)) (zeros-is 143374) refl $
+        move ! (38 ∷ []) $ repeats ! u8 (uint-lawful 𝓤 H A W w8) (uint-copy 𝓤 H A W w8) (uint-makes 𝓤 H A W w8) 286748 0 (vint w8 0) (refl, lit< tt) l₇ (lit ! tt) (from ! (stop !)) (
+        rewrite ! 0 (λ (xs : List ℕ). ‵ (Held-array u8 286748 l₇ xs)) (zeros-is 286748) refl $
         assigns ! (addr ! (from ! (stop !))) (from ! (stop !)) (init ! 33 refl (tt, tt)) $
         assigns ! (agg ! (and-then ! (load ! (from ! (stop !)) (look ! 33 refl)) (and-then ! (big-lit ! (record { fits = lit< tt })) (no-more !)))) (from ! (stop !)) (init ! 31 refl (tt, (tt, (record { fits = lit< tt }, tt)))) $
         assigns ! (addr ! (from ! (stop !))) (from ! (stop !)) (init ! 29 refl (tt, tt)) $
@@ -127,13 +127,13 @@ module _ {M : Type 1} (𝓤 : URA M) (H : Heap 𝓤) (A : Atoms 𝓤) (W : Given
         assigns ! (addr ! (from ! (stop !))) (from ! (stop !)) (init ! 9 refl (tt, tt)) $
         assigns ! (agg ! (and-then ! (load ! (from ! (stop !)) (look ! 9 refl)) (and-then ! (big-lit ! (record { fits = lit< tt })) (no-more !)))) (from ! (stop !)) (init ! 7 refl (tt, (tt, (record { fits = lit< tt }, tt)))) $
         -- serve(&mut waiting, &mut submitted, &mut served, &mut dropped, &mut starts, &mut buffer, &mut out);
-        let ps₁ : List (Param 𝓤 H A) = loan (array-lent W R 2048 l₁ tt records (subst (Room R) (sym records-long) (lit< tt, lit< tt)) records-long) ∷ loan (array-lent W u32 256 l₂ tt (zeros 256) (subst (Room u32) (sym (zeros-long 256)) (lit< tt, lit< tt)) (zeros-long 256)) ∷ loan (array-lent W u32 256 l₃ tt (zeros 256) (subst (Room u32) (sym (zeros-long 256)) (lit< tt, lit< tt)) (zeros-long 256)) ∷ loan (array-lent W u32 256 l₄ tt (zeros 256) (subst (Room u32) (sym (zeros-long 256)) (lit< tt, lit< tt)) (zeros-long 256)) ∷ loan (array-lent W u64 2048 l₅ tt (zeros 2048) (subst (Room u64) (sym (zeros-long 2048)) (lit< tt, lit< tt)) (zeros-long 2048)) ∷ loan (array-lent W u8 65536 l₆ tt (zeros 65536) (subst (Room u8) (sym (zeros-long 65536)) (lit< tt, lit< tt)) (zeros-long 65536)) ∷ loan (array-lent W u8 143374 l₇ tt (zeros 143374) (subst (Room u8) (sym (zeros-long 143374)) (lit< tt, lit< tt)) (zeros-long 143374)) ∷ [] in
+        let ps₁ : List (Param 𝓤 H A) = loan (array-lent W R 2048 l₁ tt records (subst (Room R) (sym records-long) (lit< tt, lit< tt)) records-long) ∷ loan (array-lent W u32 256 l₂ tt (zeros 256) (subst (Room u32) (sym (zeros-long 256)) (lit< tt, lit< tt)) (zeros-long 256)) ∷ loan (array-lent W u32 256 l₃ tt (zeros 256) (subst (Room u32) (sym (zeros-long 256)) (lit< tt, lit< tt)) (zeros-long 256)) ∷ loan (array-lent W u32 256 l₄ tt (zeros 256) (subst (Room u32) (sym (zeros-long 256)) (lit< tt, lit< tt)) (zeros-long 256)) ∷ loan (array-lent W u64 2048 l₅ tt (zeros 2048) (subst (Room u64) (sym (zeros-long 2048)) (lit< tt, lit< tt)) (zeros-long 2048)) ∷ loan (array-lent W u8 65536 l₆ tt (zeros 65536) (subst (Room u8) (sym (zeros-long 65536)) (lit< tt, lit< tt)) (zeros-long 65536)) ∷ loan (array-lent W u8 286748 l₇ tt (zeros 286748) (subst (Room u8) (sym (zeros-long 286748)) (lit< tt, lit< tt)) (zeros-long 286748)) ∷ [] in
         move ! (6 ∷ 5 ∷ 4 ∷ 3 ∷ 2 ∷ 1 ∷ 0 ∷ []) $ nothing ! $ move ! (7 ∷ 0 ∷ []) $ fjoin ! $ move ! (6 ∷ 0 ∷ []) $ fjoin ! $ move ! (5 ∷ 0 ∷ []) $ fjoin ! $ move ! (4 ∷ 0 ∷ []) $ fjoin ! $ move ! (3 ∷ 0 ∷ []) $ fjoin ! $ move ! (2 ∷ 0 ∷ []) $ fjoin ! $ move ! (1 ∷ 0 ∷ []) $ fjoin ! $ calls-with ! fm ps₁ (emp 𝓤) (id⊢ 𝓤 (emp 𝓤)) bool (λ r last. Served records (zeros 256) (zeros 256) (zeros 256) (last .0) (last .1 .0) (last .1 .1 .0) (last .1 .1 .1 .0) r)
         (λ c. known-serve (bound W ps₁ c)) (λ c. (and-then ! (load ! (from ! (stop !)) (look ! 26 refl)) (and-then ! (load ! (from ! (stop !)) (look ! 22 refl)) (and-then ! (load ! (from ! (stop !)) (look ! 18 refl)) (and-then ! (load ! (from ! (stop !)) (look ! 14 refl)) (and-then ! (load ! (from ! (stop !)) (look ! 10 refl)) (and-then ! (load ! (from ! (stop !)) (look ! 6 refl)) (and-then ! (load ! (from ! (stop !)) (look ! 2 refl)) (no-more !))))))))) (λ w₁ u last₁ served kept₁.
         fsplit ! $ move ! (1 ∷ []) $ fsplit ! $ move ! (1 ∷ []) $ fsplit ! $ move ! (1 ∷ []) $ fsplit ! $ move ! (1 ∷ []) $ fsplit ! $ move ! (1 ∷ []) $ fsplit ! $ move ! (1 ∷ []) $ fsplit ! $ move ! (1 ∷ []) $ drop ! $ move ! (7 ∷ []) $ lands-told ! bool vbool bool-tells w₁ u (λ u-is.
         land ! (from ! (stop !)) (init ! 35 refl (tt, tt)) $
         assigns ! (of-opd ! (unit-lit !)) (from ! (stop !)) (init ! 46 refl (tt, tt)) $
-        use1 W (‵ (froom (tyArray (lone (u8 .mir)) 143374) l₇ 0)) (array-room W u8 143374 l₇ (last₁ .1 .1 .1 .1 .1 .1 .0)) $ move ! (1 ∷ []) $ use1 W (‵ (froom (tyArray (lone (u8 .mir)) 65536) l₆ 0)) (array-room W u8 65536 l₆ (last₁ .1 .1 .1 .1 .1 .0)) $ move ! (2 ∷ []) $ use1 W (‵ (froom (tyArray (lone (u64 .mir)) 2048) l₅ 0)) (array-room W u64 2048 l₅ (last₁ .1 .1 .1 .1 .0)) $ move ! (3 ∷ []) $ use1 W (‵ (froom (tyArray (lone (u32 .mir)) 256) l₄ 0)) (array-room W u32 256 l₄ (last₁ .1 .1 .1 .0)) $ move ! (4 ∷ []) $ use1 W (‵ (froom (tyArray (lone (u32 .mir)) 256) l₃ 0)) (array-room W u32 256 l₃ (last₁ .1 .1 .0)) $ move ! (5 ∷ []) $ use1 W (‵ (froom (tyArray (lone (u32 .mir)) 256) l₂ 0)) (array-room W u32 256 l₂ (last₁ .1 .0)) $ move ! (6 ∷ []) $ use1 W (‵ (froom (tyArray (lone (R .mir)) 2048) l₁ 0)) (array-room W R 2048 l₁ (last₁ .0)) $
+        use1 W (‵ (froom (tyArray (lone (u8 .mir)) 286748) l₇ 0)) (array-room W u8 286748 l₇ (last₁ .1 .1 .1 .1 .1 .1 .0)) $ move ! (1 ∷ []) $ use1 W (‵ (froom (tyArray (lone (u8 .mir)) 65536) l₆ 0)) (array-room W u8 65536 l₆ (last₁ .1 .1 .1 .1 .1 .0)) $ move ! (2 ∷ []) $ use1 W (‵ (froom (tyArray (lone (u64 .mir)) 2048) l₅ 0)) (array-room W u64 2048 l₅ (last₁ .1 .1 .1 .1 .0)) $ move ! (3 ∷ []) $ use1 W (‵ (froom (tyArray (lone (u32 .mir)) 256) l₄ 0)) (array-room W u32 256 l₄ (last₁ .1 .1 .1 .0)) $ move ! (4 ∷ []) $ use1 W (‵ (froom (tyArray (lone (u32 .mir)) 256) l₃ 0)) (array-room W u32 256 l₃ (last₁ .1 .1 .0)) $ move ! (5 ∷ []) $ use1 W (‵ (froom (tyArray (lone (u32 .mir)) 256) l₂ 0)) (array-room W u32 256 l₂ (last₁ .1 .0)) $ move ! (6 ∷ []) $ use1 W (‵ (froom (tyArray (lone (R .mir)) 2048) l₁ 0)) (array-room W R 2048 l₁ (last₁ .0)) $
         returns ! (look ! 46 refl) $ forget ! 46 refl $ forget ! 37 refl $ forget ! 35 refl $ forget ! 33 refl $ forget ! 31 refl $ forget ! 29 refl $ forget ! 27 refl $ forget ! 25 refl $ forget ! 23 refl $ forget ! 21 refl $ forget ! 19 refl $ forget ! 17 refl $ forget ! 15 refl $ forget ! 13 refl $ forget ! 11 refl $ forget ! 9 refl $ forget ! 7 refl $
         move ! (46 ∷ 47 ∷ []) $ free1 ! $ move ! (0 ∷ 45 ∷ []) $ free1 ! $ move ! (0 ∷ 43 ∷ []) $ free1 ! $ move ! (0 ∷ 41 ∷ []) $ free1 ! $ move ! (0 ∷ 39 ∷ []) $ free1 ! $ move ! (0 ∷ 37 ∷ []) $ free1 ! $ move ! (0 ∷ 35 ∷ []) $ free1 ! $ move ! (0 ∷ 33 ∷ []) $ free1 ! $ move ! (30 ∷ 31 ∷ []) $ free1 ! $ move ! (28 ∷ 29 ∷ []) $ free1 ! $ move ! (26 ∷ 27 ∷ []) $ free1 ! $ move ! (24 ∷ 25 ∷ []) $ free1 ! $ move ! (22 ∷ 23 ∷ []) $ free1 ! $ move ! (20 ∷ 21 ∷ []) $ free1 ! $ move ! (18 ∷ 19 ∷ []) $ free1 ! $ move ! (16 ∷ 17 ∷ []) $ free1 ! $ move ! (14 ∷ 15 ∷ []) $ free1 ! $ move ! (12 ∷ 13 ∷ []) $ free1 ! $ move ! (10 ∷ 11 ∷ []) $ free1 ! $ move ! (8 ∷ 9 ∷ []) $ free1 ! $ move ! (6 ∷ 7 ∷ []) $ free1 ! $ move ! (4 ∷ 5 ∷ []) $ free1 ! $ move ! (2 ∷ 3 ∷ []) $ free1 ! $ free1 ! $ free0 ! $
         by ! (exits))))))))))))))))))))))))))))))))))
