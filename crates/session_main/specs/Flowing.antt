@@ -27,7 +27,7 @@ first ws submitted served dropped =
     record { session = atStart; waitingTable = ws; submitted = submitted; served = served; dropped = dropped }
 
 -- from the tables ws₀ .. dropped₀ the program came to ws .. dropped by feeding a session one input from its start, part behind
--- part, nothing left out and nothing twice; which input that is, the operating system says
+-- part, nothing left out and nothing twice; which input that is, no contract says
 pub record Served (ws₀ : List Request) (submitted₀ served₀ dropped₀ : List ℕ) (ws : List Request)
     (submitted served dropped : List ℕ) (whole : Bool) : Type 0 where
   pub input : List ℕ

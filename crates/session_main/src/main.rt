@@ -5,7 +5,7 @@ mod flow;
 use spec::types::Request;
 ghost use Rattle.session_main.specs.Flowing.{Served};
 
-// Feeds the session part by part, until the input ends or a write fails.
+// Feeds the session part by part, until the input ends or a write fails; hands back whether the input's end was reached.
 fn serve(
     waiting: &mut [Request],
     submitted: &mut [u32],
