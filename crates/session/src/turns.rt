@@ -295,11 +295,14 @@ pub(crate) fn answered(fed: Fed, turn: Turn, reply: Reply, put: usize) -> Fed
     }
 }
 
-// At the end of the input: a line that has no line feed is refused.
+// At the end of the input: a line that has no line feed is refused, where the output has room for an answer.
 pub fn finish(session: Session, left: usize, out: &mut [u8]) -> usize
-    requires { ⌜ 39 ≤ length (now out) ⌝ }
-    ensures { λ r. ⌜ (r ≤ 39) × (take r (now (out .exit)) ≡ owed (session .skip) left) ⌝ }
+    ensures { λ r. ⌜ (r ≤ length (now (out .entry)))
+        × (39 ≤ length (now (out .entry)) → take r (now (out .exit)) ≡ owed (session .skip) left) ⌝ }
 {
+    if out.len() < 39 {
+        return 0;
+    }
     if !session.skip & (left == 0) {
         return 0;
     }

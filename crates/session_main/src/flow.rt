@@ -22,7 +22,7 @@ pub struct Flow {
     pub ended: bool,
 }
 
-pub fn start() -> Flow
+pub(crate) fn start() -> Flow
     ensures { λ r. ⌜ r ≡ record { session = atStart; have = 0; turns = largest64; ended = false } ⌝ }
 {
     let session = turns::start();
@@ -63,10 +63,8 @@ fn write_front(out: &[u8], n: usize) -> bool
 
 // At the end of the input: what is owed for a line without its line feed.
 fn last(session: Session, left: usize, out: &mut [u8]) {
-    if out.len() >= 39 {
-        let n = turns::finish(session, left, out);
-        write_front(out, n);
-    }
+    let n = turns::finish(session, left, out);
+    write_front(out, n);
 }
 
 // Reads more of the input behind what is still to be fed, which stays; where there is no more, the program ends.
@@ -98,7 +96,7 @@ fn read_on(flow: Flow, buffer: &mut [u8], out: &mut [u8]) -> Flow
 }
 
 // Writes the answers and gets more of the input, if all whole lines are answered.
-pub fn go_on(flow: Flow, fed: Fed, buffer: &mut [u8], out: &mut [u8]) -> Flow
+pub(crate) fn go_on(flow: Flow, fed: Fed, buffer: &mut [u8], out: &mut [u8]) -> Flow
     requires { ⌜ (0 < flow .turns) × (flow .have ≤ length (now buffer)) × (fed .used ≤ flow .have) × (fed .put ≤ length (now out)) ⌝ }
     ensures { λ r. ⌜ GoesOn flow fed (now (buffer .entry)) (now (buffer .exit)) r ⌝ }
 {
