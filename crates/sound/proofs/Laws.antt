@@ -24,12 +24,24 @@ use Rattle.spec.specs.Chart.{roomTo}
 use Rattle.spec.specs.Sound.{waitingOf, isZeroRequest, isBalanced}
 use Rattle.spec.specs.Refusals.{refusal4}
 use Rattle.spec.proofs.Laws.Every.{Value, is-true, is-false, value, count-most}
+use Rattle.spec.proofs.Laws.Room.{room-back}
 use Rattle.spec.proofs.Laws.Clients.{of-yes, of-no, waitingOf-none, waitingOf-cons}
 use Rattle.spec.proofs.Laws.Sound.{within-test, Shaped}
 use Rattle.columns.specs.Columns.{rowsOf}
 use Rattle.columns.proofs.Laws.{length-rows, getD-rows, rest-cons}
 use Rattle.sound.specs.Checks.{hasShape, isNext, areNext, doesBalance, tallySize, talliedOf, tallyPlace, oneMore}
 use Rattle.sound.specs.Checks.{countedIf, Countable, Tallied}
+
+-- ---- a deadline that has room is past the clock
+pub room-past : (head : Head) (i deadline : ℕ) → i < roomTo head deadline → head .clock < deadline
+room-past head i deadline h =
+    elim (order deadline (head .clock)) [
+      | le g ↦ absurd (omega (arith, room-back head (head .clock) deadline g))
+      | gt g ↦ g
+    ]
+
+pub room-some : (head : Head) (i deadline : ℕ) → i < roomTo head deadline → 1 ≤ deadline
+room-some head i deadline h = omega (arith, room-past head i deadline h)
 
 -- ---- of a record that passes the other tests, only the order is left to ask
 pub next-order : (head : Head) (i : ℕ) (before w : Request)

@@ -1,4 +1,5 @@
 pub mod Laws
+pub mod Order
 pub mod Pass
 pub mod Passing
 pub mod Found

@@ -7,7 +7,6 @@ use mathlib.Core.List.{List, [], _∷_}
 use native.Mathlib.Omega.{arith}
 use borrow.Author.Tests.{leb-true, ltb-true, le-leb, lt-ltb}
 use lib.Dec.{leb}
-use Rattle.slots.proofs.Laws.Tests.{le, gt, order}
 use Rattle.spec.specs.declared.types.Head.{Head}
 use Rattle.spec.specs.declared.types.Request.{Request}
 use Rattle.spec.specs.Every.{every, everyFrom}
@@ -16,11 +15,11 @@ use Rattle.spec.specs.Order.{comesBefore, isInOrder}
 use Rattle.spec.specs.Chart.{roomTo, hasNoOverfull}
 use Rattle.spec.specs.Sound.{isHeadWithin, isAhead, isGiven, isClient, isZeroRequest, isBalanced, isSound}
 use Rattle.spec.proofs.Laws.Every.{and-both, same-test}
-use Rattle.spec.proofs.Laws.Room.{room-back}
 use Rattle.spec.proofs.Laws.Order.{before-facts, before-deadline, order-facts, before-test, earlier}
 use Rattle.spec.proofs.Laws.Sound.{within-facts, within-test}
 use Rattle.spec.proofs.Laws.Places.{Roomy, roomy-feasible, feasible-roomy}
 use Rattle.sound.specs.Checks.{isNext, areNext}
+use Rattle.sound.proofs.Laws.{room-past}
 
 every-cons : (p : Request → Bool) (w : Request) (ws : List Request) → every p (w ∷ ws) ≡ true
     → (p w ≡ true) × (every p ws ≡ true)
@@ -36,14 +35,6 @@ record Found (head : Head) (i : ℕ) (before : Request) (ws : List Request) : Ty
   pub given : every (λ w. isGiven (head .last) (w .number)) ws ≡ true
   pub owned : every (λ w. isClient (head .clients) (w .client)) ws ≡ true
   pub roomy : Roomy head i ws
-
--- a deadline that has room is past the clock
-room-past : (head : Head) (i deadline : ℕ) → i < roomTo head deadline → head .clock < deadline
-room-past head i deadline h =
-    elim (order deadline (head .clock)) [
-      | le g ↦ absurd (omega (arith, room-back head (head .clock) deadline g))
-      | gt g ↦ g
-    ]
 
 next-facts : (head : Head) (i : ℕ) (before : Request) (ws : List Request) → areNext head i before ws ≡ true
     → Found head i before ws

@@ -11,17 +11,13 @@ ghost use Rattle.spec.specs.Order.{comesBefore};
 ghost use Rattle.spec.specs.Sound.{isHeadWithin, isZeroRequest};
 ghost use Rattle.sound.specs.Checks.{hasShape, isNext, isNear, doesBalance};
 
-// Whether a comes before b in chart order.
+// Whether a comes before b in chart order, by one comparison: b's deadline counts one less where its number is not the larger.
+// A branch on equal deadlines would often be predicted wrong.
 pub(crate) fn comes_before(a: Request, b: Request) -> bool
+    requires { ⌜ 1 ≤ b .deadline ⌝ }
     ensures { λ r. ⌜ r ≡ comesBefore a b ⌝ }
 {
-    if a.deadline < b.deadline {
-        return true;
-    }
-    if a.deadline == b.deadline {
-        return a.number < b.number;
-    }
-    false
+    a.deadline <= b.deadline - (b.number <= a.number) as u64
 }
 
 // Whether w can stand at the index i, behind the record before it; how far ahead it is, `is_near` asks of the last one.

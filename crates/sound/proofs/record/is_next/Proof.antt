@@ -3,9 +3,9 @@ use mathlib.Core.Path.{sym, _∙_}
 use mathlib.Core.Bool.{and-false}
 use native.Mathlib.Omega.{arith}
 use borrow.Author.Needs.{needs}
-use borrow.Author.Tests.{le-ltb, lt-leb, not-true, not-false}
+use borrow.Author.Tests.{ltb-true, le-ltb, lt-leb, not-true, not-false}
 use Rattle.sound.specs.Checks.{isNext}
-use Rattle.sound.proofs.Laws.{next-order}
+use Rattle.sound.proofs.Laws.{room-some, next-order}
 use Rattle.sound.proofs.record.is_next.Statement.{statement}
 use Rattle.sound.proofs.record.is_next.Tie as tie
 
@@ -29,7 +29,8 @@ unfolding isNext
 returns-4 c = simp (sym (c .before .has-room .ensures) ∙ not-true _ (c .if4 .taken), and-false)
 
 comes-before-requires : tie.Need-comes-before-requires
-comes-before-requires c κs = search needs
+comes-before-requires c κs =
+    room-some _ _ _ (ltb-true _ _ (sym (c .before .has-room .ensures) ∙ not-false _ (c .if4 .left)))
 
 returns-5 : tie.Need-returns-5
 returns-5 c =
