@@ -1,5 +1,5 @@
 -- The theorem of the crate: an input that is fed in parts gets the answers of the session definition. Assumes nothing.
-use Prim.Native.Nat.{ℕ, _+_, _-_, _≤_}
+use Prim.Native.Nat.{ℕ, _+_, _-_, _≤_, _<_}
 use mathlib.Core.Bool.{Bool, true, false, false≢true}
 use mathlib.Core.List.{List, [], _∷_, _++_, append-nil}
 use mathlib.Core.Path.{_≡_, refl, sym, ap, _∙_}
@@ -8,6 +8,7 @@ use borrow.Author.Tests.{le-leb}
 use lib.Dec.{leb}
 use lib.ListN.{length, getD, take, drop, replicate, length-take, length-drop}
 use lib.Seq.{take-length, take-take, take-add, getD-drop}
+use Rattle.slots.proofs.Laws.Tests.{le, gt, order}
 use Rattle.spec.specs.declared.types.Request.{Request}
 use Rattle.spec.specs.Tables.{State}
 use Rattle.spec.specs.Session.{Text, textOf, replies, atEnd, session, atStart as stateAtStart}
@@ -132,7 +133,7 @@ all-fed input {used = used} {part = part} {out = out} {r = r} calls all made e =
     parts-together input (goes part r out calls (sym (take-length part) ∙ ap (take (length part)) all) made)
     (no-feed-left input used all (made .fed) e)
 
--- ---- a call that can answer uses something of its part, unless that is a beginning that a frame can still come of
+-- ---- a call that can answer, and says that lines may be left, has used some of its part
 -- of each kind some line can be begun
 some-begun : (skip : Bool) → (p : List ℕ) × Begun skip p
 unfolding textOf
@@ -151,25 +152,25 @@ module _ {session : Session} {part : List ℕ} {ws : List Request} {submitted se
     {ws′ : List Request} {submitted′ served′ dropped′ out′ : List ℕ}
     (f : FedBy session part ws submitted served dropped starts out r ws′ submitted′ served′ dropped′ out′)
     (fits : doFit session (length ws) (length submitted) (length served) (length dropped) (length starts) ≡ true)
-    (room : mostBytes ≤ length out) (none : r .used ≡ 0) where
-  put-nothing : take (r .put) out′ ≡ []
-  put-nothing =
+    (room : mostBytes ≤ length out) where
+  put-none : r .used ≡ 0 → r .put ≡ 0
+  put-none none =
+      let nothing : take (r .put) out′ ≡ [] =
       leads-nothing (heldIn session ws submitted served dropped) (session .skip)
       (heldIn (r .session) ws′ submitted′ served′ dropped′) (r .session .skip) (take (r .put) out′) (rw none at (f .leads))
+      in
+      omega (arith, f .room, f .long .out-long, length-take (r .put) out′, ap length nothing)
 
-  put-none : r .put ≡ 0
-  put-none = omega (arith, f .room, f .long .out-long, length-take (r .put) out′, ap length put-nothing)
-
-  can-still : canWith r ws submitted served dropped starts out ≡ true
-  can-still =
+  can-still : r .used ≡ 0 → canWith r ws submitted served dropped starts out ≡ true
+  can-still none =
       and-both (doFit (r .session) (length ws) (length submitted) (length served) (length dropped) (length starts))
       (leb (r .put + mostBytes) (length out)) (f .fits fits)
-      (le-leb (r .put + mostBytes) (length out) (omega (arith, put-none)))
+      (le-leb (r .put + mostBytes) (length out) (omega (arith, put-none none)))
 
-  pub feeds-on : (length part ≤ longestFrame) × NoFeed part 0 (length part)
-  feeds-on = go (r .full) (f .left)
-    where
-      go : (full : Bool) → Left full part (r .used) (canWith r ws submitted served dropped starts out)
-          → (length part ≤ longestFrame) × NoFeed part 0 (length part)
-      go true cannot = absurd (false≢true (sym cannot ∙ can-still))
-      go false left = rw none at left
+  pub feeds-on : r .full ≡ true → 0 < r .used
+  feeds-on e =
+      let cannot : canWith r ws submitted served dropped starts out ≡ false = rw e at (f .left) in
+      elim (order (r .used) 0) [
+        | le h ↦ absurd (false≢true (sym cannot ∙ can-still (omega arith)))
+        | gt h ↦ h
+      ]

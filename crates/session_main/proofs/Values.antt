@@ -19,7 +19,7 @@ abbrev pub FlowT : RattleType
 FlowT = TF.the-row
 
 abbrev pub flow-val : Flow → Val
-flow-val flow = vstruct (vcons (session-val (flow .session)) (vcons (vint w64 (flow .have)) (vcons (vint w64 (flow .turns)) (vcons (vbool (flow .ended)) vnil))))
+flow-val flow = vstruct (vcons (session-val (flow .session)) (vcons (vint w64 (flow .have)) (vcons (vint w64 (flow .turns)) (vcons (vbool (flow .ended)) (vcons (vbool (flow .failed)) vnil)))))
 
 abbrev pub flow-vals : Flow → List Val
 flow-vals flow = flow-val flow ∷ []

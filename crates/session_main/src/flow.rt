@@ -4,13 +4,13 @@ use libc::STDOUT_FILENO;
 use session::turns;
 use session::types::Fed;
 use session::types::Session;
-ghost use mathlib.Core.Bool.{true, false};
+ghost use mathlib.Core.Bool.{false};
 ghost use mathlib.Core.Path.{_≡_};
 ghost use Prim.Native.Nat.{_+_, _-_, _<_, _≤_};
 ghost use lib.ListN.{length, take, drop};
 ghost use Rattle.columns.specs.Columns.{largest64};
 ghost use Rattle.session.specs.Parts.{atStart};
-ghost use Rattle.session_main.specs.Flowing.{GoesOn};
+ghost use Rattle.session_main.specs.Flowing.{ReadsOn, Onward, GoesOn};
 
 // Where the program stands: the first `have` characters of the buffer are still to be fed. A loop that reads to the end of the input
 // needs a number that falls, since nothing says that the input ends: `turns`, which starts at the largest; 0 ends the program.
@@ -20,10 +20,12 @@ pub struct Flow {
     pub turns: u64,
     // The input is at its end, and no whole line of it is left.
     pub ended: bool,
+    // Answers could not be written.
+    pub failed: bool,
 }
 
 pub(crate) fn start() -> Flow
-    ensures { λ r. ⌜ r ≡ record { session = atStart; have = 0; turns = largest64; ended = false } ⌝ }
+    ensures { λ r. ⌜ r ≡ record { session = atStart; have = 0; turns = largest64; ended = false; failed = false } ⌝ }
 {
     let session = turns::start();
     Flow {
@@ -31,6 +33,7 @@ pub(crate) fn start() -> Flow
         have: 0,
         turns: 18446744073709551615,
         ended: false,
+        failed: false,
     }
 }
 
@@ -46,8 +49,10 @@ fn carry(buffer: &mut [u8], from: usize, n: usize)
     }
 }
 
-// Reads into the part, and hands back how many characters it got: none at the end of the input, and none where the read fails.
+// Reads into the part, and hands back how many characters it got: none at the end of the input, and none where the read fails. With
+// no room it would get none before the end.
 fn read_some(part: &mut [u8]) -> usize
+    requires { ⌜ 0 < length (now part) ⌝ }
     ensures { λ r. ⌜ r ≤ length (now (part .entry)) ⌝ }
 {
     let got = libc::read(STDIN_FILENO, part);
@@ -69,11 +74,8 @@ fn last(session: Session, left: usize, out: &mut [u8]) {
 
 // Reads more of the input behind what is still to be fed, which stays; where there is no more, the program ends.
 fn read_on(flow: Flow, buffer: &mut [u8], out: &mut [u8]) -> Flow
-    requires { ⌜ flow .have ≤ length (now buffer) ⌝ }
-    ensures { λ r. ⌜ (r .session ≡ flow .session)
-        × (take (flow .have) (now (buffer .exit)) ≡ take (flow .have) (now (buffer .entry)))
-        × (flow .have ≤ r .have) × (r .have ≤ length (now (buffer .entry))) × (r .turns ≤ flow .turns)
-        × (r .ended ≡ true → r .have ≡ flow .have) ⌝ }
+    requires { ⌜ flow .have < length (now buffer) ⌝ }
+    ensures { λ r. ⌜ ReadsOn flow (now (buffer .entry)) (now (buffer .exit)) r ⌝ }
 {
     let session = flow.session;
     let have = flow.have;
@@ -85,6 +87,7 @@ fn read_on(flow: Flow, buffer: &mut [u8], out: &mut [u8]) -> Flow
             have,
             turns: 0,
             ended: true,
+            failed: false,
         };
     }
     Flow {
@@ -92,12 +95,14 @@ fn read_on(flow: Flow, buffer: &mut [u8], out: &mut [u8]) -> Flow
         have: have + more,
         turns: flow.turns,
         ended: false,
+        failed: false,
     }
 }
 
 // Writes the answers and gets more of the input, if all whole lines are answered.
 pub(crate) fn go_on(flow: Flow, fed: Fed, buffer: &mut [u8], out: &mut [u8]) -> Flow
-    requires { ⌜ (0 < flow .turns) × (flow .have ≤ length (now buffer)) × (fed .used ≤ flow .have) × (fed .put ≤ length (now out)) ⌝ }
+    requires { ⌜ (0 < flow .turns) × (flow .have ≤ length (now buffer)) × (fed .used ≤ flow .have) × (fed .put ≤ length (now out))
+        × Onward (fed .full) flow fed (now buffer) ⌝ }
     ensures { λ r. ⌜ GoesOn flow fed (now (buffer .entry)) (now (buffer .exit)) r ⌝ }
 {
     let session = fed.session;
@@ -109,6 +114,7 @@ pub(crate) fn go_on(flow: Flow, fed: Fed, buffer: &mut [u8], out: &mut [u8]) -> 
             have,
             turns: 0,
             ended: false,
+            failed: true,
         };
     }
     let next = Flow {
@@ -116,6 +122,7 @@ pub(crate) fn go_on(flow: Flow, fed: Fed, buffer: &mut [u8], out: &mut [u8]) -> 
         have,
         turns: flow.turns - 1,
         ended: false,
+        failed: false,
     };
     if fed.full {
         return next;

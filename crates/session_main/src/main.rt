@@ -2,10 +2,11 @@
 // the tables, the buffers and the loop.
 mod flow;
 
+use flow::Flow;
 use spec::types::Request;
-ghost use Rattle.session_main.specs.Flowing.{Served};
+ghost use Rattle.session_main.specs.Flowing.{Reserved, Served};
 
-// Feeds the session part by part, until the input ends or a write fails; hands back whether the input's end was reached.
+// Feeds the session part by part, until the input ends or a write fails, and hands back where that was.
 fn serve(
     waiting: &mut [Request],
     submitted: &mut [u32],
@@ -14,7 +15,8 @@ fn serve(
     starts: &mut [u64],
     buffer: &mut [u8],
     out: &mut [u8],
-) -> bool
+) -> Flow
+    requires { ⌜ Reserved (now waiting) (now submitted) (now served) (now dropped) (now starts) (now buffer) (now out) ⌝ }
     ensures { λ r. ⌜ Served (now (waiting .entry)) (now (submitted .entry)) (now (served .entry)) (now (dropped .entry))
         (now (waiting .exit)) (now (submitted .exit)) (now (served .exit)) (now (dropped .exit)) r ⌝ }
 {
@@ -33,7 +35,7 @@ fn serve(
         let next = flow::go_on(flow, fed, buffer, out);
         flow = next;
     }
-    flow.ended
+    flow
 }
 
 // "The session program reserves 2,048 waiting records once". The output has room for four of the longest replies, so that the answers

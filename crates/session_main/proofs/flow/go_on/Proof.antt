@@ -1,8 +1,11 @@
 -- `session_main::flow::go_on` meets its contract. Assumes nothing.
+use Prim.Native.Nat.{_+_, _<_}
 use mathlib.Core.Bool.{false≢true}
-use mathlib.Core.Path.{refl, _∙_}
+use mathlib.Core.Path.{refl, sym, _∙_}
 use native.Mathlib.Omega.{arith}
 use borrow.Author.Needs.{needs}
+use lib.ListN.{length}
+use Rattle.session_main.proofs.Flows.{reads-kept, reads-falls}
 use Rattle.session_main.proofs.flow.go_on.Statement.{statement}
 use Rattle.session_main.proofs.flow.go_on.Tie as tie
 
@@ -31,6 +34,8 @@ returns c =
       within = search needs;
       falls = search needs;
       ends = λ e. absurd (false≢true e);
+      fails = λ e. refl;
+      goes = λ e h. absurd (false≢true (sym h));
     }
 
 sub-t15 : tie.Need-sub-t15
@@ -44,6 +49,8 @@ same-length-4 c = search needs
 
 returns-2 : tie.Need-returns-2
 returns-2 c =
+    let start = c .before .before .before .before .before .before .before .before .before .before .before .before .before .before in
+    let some : 0 < start .args .fed .used = rw (c .if2 .taken) at (start .pre .4) in
     record {
       session-same = refl;
       unused = c .before .before .before .before .before .before .before .carry .ensures;
@@ -51,10 +58,15 @@ returns-2 c =
       within = search needs;
       falls = search needs;
       ends = λ e. absurd (false≢true e);
+      fails = λ e. absurd (false≢true e);
+      goes = λ e h. (omega (arith, start .pre .0), omega arith);
     }
 
 read-on-requires : tie.Need-read-on-requires
-read-on-requires c κs = search needs
+read-on-requires c κs =
+    let start = c .before .before .before .before .before .before .before .before .before .before .before .before .before .before .before .before in
+    let room : start .args .flow .have < start .args .fed .used + length (start .args .buffer .now) = rw (c .before .before .if2 .left) at (start .pre .4) in
+    omega (arith, start .pre .2, c .before .before .before .before .before .before .before .before .before .carry .kept .0)
 
 same-length-5 : tie.Need-same-length-5
 same-length-5 c = search needs
@@ -67,13 +79,16 @@ returns-3 c =
     let read = c .before .before .before .before in
     let carried = read .before .before .before .before .before .before .before .before .before .before in
     let start = carried .before .before .before .before .before .before .before in
+    let reads = read .read-on .ensures in
     record {
-      session-same = read .read-on .ensures .0;
-      unused = read .read-on .ensures .1 ∙ carried .carry .ensures;
-      kept = read .read-on .ensures .2;
-      within = omega (arith, read .read-on .ensures .3, carried .carry .kept .0);
-      falls = omega (arith, start .pre .0, read .read-on .ensures .4);
-      ends = λ e. (read .before .before .before .if2 .left, read .read-on .ensures .5 e);
+      session-same = reads .session-same;
+      unused = reads .unused ∙ carried .carry .ensures;
+      kept = reads-kept reads;
+      within = omega (arith, reads .within, carried .carry .kept .0);
+      falls = omega (arith, start .pre .0, reads-falls reads);
+      ends = λ e. (read .before .before .before .if2 .left, reads .ends e .0, reads .ends e .1);
+      fails = λ e. absurd (false≢true (sym (reads .failed-not) ∙ e));
+      goes = λ e h. (omega (arith, reads .goes e .1), omega (arith, reads .goes e .0));
     }
 
 pub go-on-spec : {M : Type 1} → statement M

@@ -2,7 +2,7 @@
 use Prim.Native.Nat.{ℕ, _-_}
 use mathlib.Core.Bool.{false≢true}
 use mathlib.Core.List.{List}
-use mathlib.Core.Path.{refl}
+use mathlib.Core.Path.{refl, sym}
 use native.Mathlib.Omega.{arith}
 use borrow.Author.Needs.{needs}
 use borrow.Rule.Slice.PartMut.{take-put}
@@ -20,7 +20,11 @@ part-read-some-end : tie.Need-part-read-some-end
 part-read-some-end c = search needs
 
 read-some-requires : tie.Need-read-some-requires
-read-some-requires c κs = search needs
+read-some-requires c κs =
+    let start = c .before .before .before .before in
+    let have = start .args .flow .have in
+    let b : List ℕ = start .args .buffer .now in
+    omega (arith, length-take (length b - have) (drop have b), length-drop have b)
 
 last-requires : tie.Need-last-requires
 last-requires c κs = search needs
@@ -36,14 +40,15 @@ returns c =
     let read = c .before .before .before .before .before .before .before in
     let start = read .before .before .before .before .before in
     let have = start .args .flow .have in
-    let b : List ℕ = start .args .buffer .now in (
-      refl,
-      take-put have (length b - have) b (read .read-some .last .0) (start .pre),
-      search needs,
-      search needs,
-      search needs,
-      λ _. refl,
-    )
+    let b : List ℕ = start .args .buffer .now in
+    record {
+      session-same = refl;
+      unused = take-put have (length b - have) b (read .read-some .last .0) (omega arith);
+      within = search needs;
+      failed-not = refl;
+      ends = λ e. (refl, refl);
+      goes = λ e. absurd (false≢true (sym e));
+    }
 
 add-t8 : tie.Need-add-t8
 add-t8 c = search needs
@@ -56,14 +61,15 @@ returns-2 c =
     let read = c .before .before .before in
     let start = read .before .before .before .before .before in
     let have = start .args .flow .have in
-    let b : List ℕ = start .args .buffer .now in (
-      refl,
-      take-put have (length b - have) b (read .read-some .last .0) (start .pre),
-      search needs,
-      omega (arith, read .read-some .ensures, length-take (length b - have) (drop have b), length-drop have b),
-      search needs,
-      λ e. absurd (false≢true e),
-    )
+    let b : List ℕ = start .args .buffer .now in
+    record {
+      session-same = refl;
+      unused = take-put have (length b - have) b (read .read-some .last .0) (omega arith);
+      within = omega (arith, read .read-some .ensures, length-take (length b - have) (drop have b), length-drop have b);
+      failed-not = refl;
+      ends = λ e. absurd (false≢true e);
+      goes = λ e. (search needs, refl);
+    }
 
 pub read-on-spec : {M : Type 1} → statement M
 read-on-spec =
