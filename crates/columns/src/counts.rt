@@ -20,7 +20,7 @@ pub fn add_one(counts: &mut [u32], at: u64)
     if counts.len() <= i {
         return;
     }
-    if counts[i] == 4294967295 {
+    if counts[i] == u32::MAX {
         return;
     }
     counts[i] = counts[i] + 1;

@@ -49,7 +49,7 @@ fn can_rise(counts: &[u32], at: u64) -> bool
 {
     let i = at as usize;
     if i < counts.len() {
-        return counts[i] < 4294967295;
+        return counts[i] < u32::MAX;
     }
     true
 }

@@ -1,6 +1,7 @@
 // The refusals, first match wins: each function gives the number of the first that matches, or 0. `tables` is what the tables
 // call for, 4 or 5 or 0, however it was found: refusals 4 and 5 stand first in every list but open's.
 use columns::rows;
+use spec::bounds;
 use spec::types::Head;
 ghost use mathlib.Core.Path.{_≡_};
 ghost use mathlib.Core.List.{List};
@@ -18,13 +19,13 @@ pub fn open_refusal(clients: u64, period: u64, records: usize, accounts: usize) 
         → r ≡ firstMatch (openRefusals clients period s))
         ⌝ }
 {
-    if !((1 <= clients) & (clients <= 256)) {
+    if !((1 <= clients) & (clients <= bounds::MOST_CLIENTS as u64)) {
         return 2;
     }
-    if !((1 <= period) & (period <= 4294967295)) {
+    if !((1 <= period) & (period <= bounds::MOST_PERIOD)) {
         return 3;
     }
-    if !((1 <= records) & (records <= 2048)) {
+    if !((1 <= records) & (records <= bounds::MOST_RECORDS)) {
         return 4;
     }
     if accounts as u64 != clients {
@@ -59,13 +60,13 @@ pub fn submit_refusal(
     if deadline <= head.clock {
         return 7;
     }
-    if 65535 < deadline - head.clock {
+    if bounds::MOST_AHEAD < deadline - head.clock {
         return 7;
     }
-    if rows::counts_at(submitted, served, dropped, client).submitted == 268435455 {
+    if rows::counts_at(submitted, served, dropped, client).submitted == bounds::MOST_COUNTED {
         return 8;
     }
-    if head.last == 281474976710655 {
+    if head.last == bounds::NUMBER_END {
         return 9;
     }
     if head.waiting == records as u64 {
@@ -81,7 +82,7 @@ pub fn tick_refusal(tables: u64, head: Head) -> u64
     if tables != 0 {
         return tables;
     }
-    if head.clock == 281474976710655 {
+    if head.clock == bounds::CLOCK_END {
         return 11;
     }
     0

@@ -24,6 +24,10 @@ replyBytes (Idle slot) starts = answerLine (Idle slot)
 replyBytes (Reported client submitted served dropped waiting) starts = answerLine (Reported client submitted served dropped waiting)
 replyBytes (Refused number) starts = answerLine (Refused number)
 
+-- the characters of the longest line, a drop's or a served read's, with its line feed
+abbrev pub longestLine : ℕ
+longestLine = 39
+
 -- the most bytes that a reply has: 2,048 segments of 35 and their count's 7
 abbrev pub mostBytes : ℕ
 mostBytes = 71687

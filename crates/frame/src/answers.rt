@@ -10,7 +10,13 @@ ghost use lib.ListN.{length, getD, take};
 ghost use Rattle.spec.specs.Chart.{segmentsOf};
 ghost use Rattle.spec.specs.Frames.{lineFeed, field, lineOf, answerLine, segmentLines};
 ghost use Rattle.columns.specs.Columns.{largest64};
-ghost use Rattle.frame.specs.Written.{mostBytes, CanDraw, chartLines, replyBytes};
+ghost use Rattle.frame.specs.Written.{longestLine, mostBytes, CanDraw, chartLines, replyBytes};
+
+// The characters of the longest line, a drop's or a served read's, with its line feed.
+pub const LONGEST_LINE: usize = 39;
+
+// The characters of the longest reply: 2,048 segments of 35 and their count's 7.
+pub const MOST_BYTES: usize = 71687;
 
 fn put_feed(out: &mut [u8], at: usize) -> usize
     requires { ⌜ at < length (now out) ⌝ }
@@ -93,8 +99,8 @@ fn put_report(
 
 // An answer's line.
 pub fn put_answer(out: &mut [u8], at: usize, answer: Answer) -> usize
-    requires { ⌜ at + 39 ≤ length (now out) ⌝ }
-    ensures { λ r. ⌜ (at ≤ r) × (r ≤ at + 39)
+    requires { ⌜ at + longestLine ≤ length (now out) ⌝ }
+    ensures { λ r. ⌜ (at ≤ r) × (r ≤ at + longestLine)
         × (take r (now (out .exit)) ≡ take at (now (out .entry)) ++ answerLine answer) ⌝ }
 {
     match answer {

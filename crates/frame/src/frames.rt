@@ -6,6 +6,9 @@ ghost use Rattle.spec.specs.Frames.{frameOf};
 ghost use Rattle.frame.specs.Digits.{digitTable};
 ghost use Rattle.frame.specs.Kinds.{kindOf};
 
+// The digits of the longest frame, submit's.
+pub const LONGEST_FRAME: usize = 22;
+
 pub enum Kind {
     Open,
     Submit,
@@ -38,7 +41,7 @@ pub fn frame_of(table: &[u8], line: &[u8]) -> Frame
     if count < 2 {
         return Frame::Bad;
     }
-    if count > 22 {
+    if count > LONGEST_FRAME {
         return Frame::Bad;
     }
     if !digits::are_digits(table, line) {

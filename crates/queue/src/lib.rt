@@ -9,6 +9,7 @@ use decide::replies;
 use decide::types::Decision;
 use decide::types::Reply;
 use sound::check;
+use spec::bounds::MOST_RECORDS;
 use spec::types::Head;
 use spec::types::Request;
 ghost use mathlib.Core.Path.{_≡_};
@@ -128,7 +129,7 @@ fn submit_long(
         (now (submitted .entry)) (now (served .entry)) (now (dropped .entry))
         r (now (waiting .exit)) (now (submitted .exit)) (now (served .exit)) (now (dropped .exit)) ⌝ }
 {
-    let mut column = [0u64; 2048];
+    let mut column = [0u64; MOST_RECORDS];
     submit_over(
         &mut column,
         head,

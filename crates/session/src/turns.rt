@@ -8,6 +8,8 @@ use frame::answers;
 use frame::frames;
 use frame::lines;
 use frame::lines::Line;
+use spec::bounds::MOST_CLIENTS;
+use spec::bounds::MOST_RECORDS;
 use spec::types::Answer;
 use spec::types::Frame;
 use spec::types::Head;
@@ -20,7 +22,7 @@ ghost use Rattle.spec.specs.declared.types.Answer.the-variants.{Refused};
 ghost use Rattle.spec.specs.Lists.{isRefused};
 ghost use Rattle.frame.specs.Digits.{digitTable};
 ghost use Rattle.frame.specs.Lines.{NoFeed, Ends};
-ghost use Rattle.frame.specs.Written.{mostBytes, CanDraw, replyBytes};
+ghost use Rattle.frame.specs.Written.{longestLine, mostBytes, CanDraw, replyBytes};
 ghost use Rattle.session.specs.Standing.{doFit, upTo, recordsFor, clientsFor, recordsAfter};
 ghost use Rattle.session.specs.Feeding.{can, Whole, None, Next, owed};
 
@@ -65,9 +67,10 @@ fn fit(
 ) -> bool
     ensures { λ r. ⌜ r ≡ doFit session waiting submitted served dropped starts ⌝ }
 {
-    ((session.records <= 2048) & (session.head.clients <= 256))
-        & (((2048 <= waiting) & (2048 <= starts))
-            & ((256 <= submitted) & ((256 <= served) & (256 <= dropped))))
+    ((session.records <= MOST_RECORDS as u64) & (session.head.clients <= MOST_CLIENTS as u64))
+        & (((MOST_RECORDS <= waiting) & (MOST_RECORDS <= starts))
+            & ((MOST_CLIENTS <= submitted)
+                & ((MOST_CLIENTS <= served) & (MOST_CLIENTS <= dropped))))
 }
 
 // A whole line, whose feed stands at `end`. One that was read past so far has more digits than any frame.
@@ -102,7 +105,7 @@ fn begun(input: &[u8], fed: Fed) -> Turn
     ensures { λ r. ⌜ (r .ends ≡ true) × (r .full ≡ false) × None (now (input .entry)) (fed .used) (fed .session .skip) r ⌝ }
 {
     let end = input.len();
-    let skip = fed.session.skip | (22 < end - fed.used);
+    let skip = fed.session.skip | (frames::LONGEST_FRAME < end - fed.used);
     let used = if skip { end } else { fed.used };
     Turn {
         ends: true,
@@ -153,7 +156,7 @@ pub(crate) fn next_turn(
     ensures { λ r. ⌜ Next (now (input .entry)) fed (can fed waiting submitted served dropped starts out) r ⌝ }
 {
     let fits = fit(fed.session, waiting, submitted, served, dropped, starts);
-    let room = 71687 <= out - fed.put;
+    let room = answers::MOST_BYTES <= out - fed.put;
     look(table, input, fed, fits & room)
 }
 
@@ -199,12 +202,12 @@ pub(crate) fn lent(fed: Fed, turn: Turn) -> Lent
             period: _,
             records,
         } => Lent {
-            records: up_to(2048, records),
-            clients: up_to(256, clients),
+            records: up_to(MOST_RECORDS as u64, records),
+            clients: up_to(MOST_CLIENTS as u64, clients),
         },
         _ => Lent {
-            records: up_to(2048, fed.session.records),
-            clients: up_to(256, fed.session.head.clients),
+            records: up_to(MOST_RECORDS as u64, fed.session.records),
+            clients: up_to(MOST_CLIENTS as u64, fed.session.head.clients),
         },
     }
 }
@@ -298,9 +301,9 @@ pub(crate) fn answered(fed: Fed, turn: Turn, reply: Reply, put: usize) -> Fed
 // At the end of the input: a line that has no line feed is refused, where the output has room for an answer.
 pub fn finish(session: Session, left: usize, out: &mut [u8]) -> usize
     ensures { λ r. ⌜ (r ≤ length (now (out .entry)))
-        × (39 ≤ length (now (out .entry)) → take r (now (out .exit)) ≡ owed (session .skip) left) ⌝ }
+        × (longestLine ≤ length (now (out .entry)) → take r (now (out .exit)) ≡ owed (session .skip) left) ⌝ }
 {
-    if out.len() < 39 {
+    if out.len() < answers::LONGEST_LINE {
         return 0;
     }
     if !session.skip & (left == 0) {

@@ -31,7 +31,7 @@ pub(crate) fn start() -> Flow
     Flow {
         session,
         have: 0,
-        turns: 18446744073709551615,
+        turns: u64::MAX,
         ended: false,
         failed: false,
     }

@@ -3,6 +3,9 @@
 mod flow;
 
 use flow::Flow;
+use frame::answers::MOST_BYTES;
+use spec::bounds::MOST_CLIENTS;
+use spec::bounds::MOST_RECORDS;
 use spec::types::Request;
 ghost use Rattle.session_main.specs.Flowing.{Reserved, Served};
 
@@ -45,13 +48,13 @@ fn main() {
         deadline: 0,
         number: 0,
         client: 0,
-    }; 2048];
-    let mut submitted = [0u32; 256];
-    let mut served = [0u32; 256];
-    let mut dropped = [0u32; 256];
-    let mut starts = [0u64; 2048];
+    }; MOST_RECORDS];
+    let mut submitted = [0u32; MOST_CLIENTS];
+    let mut served = [0u32; MOST_CLIENTS];
+    let mut dropped = [0u32; MOST_CLIENTS];
+    let mut starts = [0u64; MOST_RECORDS];
     let mut buffer = [0u8; 65536];
-    let mut out = [0u8; 286748];
+    let mut out = [0u8; 4 * MOST_BYTES];
     serve(
         &mut waiting,
         &mut submitted,

@@ -1,6 +1,7 @@
 // The refusal that the tables call for, in two parts: before any record is looked at, and after all are.
 use crate::tables;
 use columns::rows;
+use spec::bounds::MOST_CLIENTS;
 use spec::types::Head;
 use spec::types::Request;
 ghost use mathlib.Core.Path.{_≡_};
@@ -45,7 +46,7 @@ fn contents_refusal(
     ensures { λ r. ⌜ r ≡ tablesRefusal
         (stateOf head (now (waiting .entry)) (now (submitted .entry)) (now (served .entry)) (now (dropped .entry))) ⌝ }
 {
-    let mut tally = [0u32; 512];
+    let mut tally = [0u32; 2 * MOST_CLIENTS];
     let n = head.waiting as usize;
     let next = tables::are_next(waiting, &mut tally, head, n);
     let zero = tables::are_zero(waiting, n);

@@ -1,4 +1,5 @@
 // The tests of one record, of one client's counts, and of the head.
+use spec::bounds;
 use spec::types::Counts;
 use spec::types::Head;
 use spec::types::Request;
@@ -45,7 +46,7 @@ pub(crate) fn is_near(head: Head, deadline: u64) -> bool
     requires { ⌜ head .clock ≤ clockEnd ⌝ }
     ensures { λ r. ⌜ r ≡ isNear head deadline ⌝ }
 {
-    deadline <= head.clock + 65535
+    deadline <= head.clock + bounds::MOST_AHEAD
 }
 
 // The bits of a record joined to those of others: none is set where all are zero.
@@ -61,24 +62,24 @@ pub(crate) fn does_balance(k: Counts, even: u32, odd: u32) -> bool
 {
     let waits = even as u64 + odd as u64;
     let all = k.served as u64 + k.dropped as u64 + waits;
-    (k.submitted as u64 == all) & (k.submitted <= 268435455)
+    (k.submitted as u64 == all) & (k.submitted <= bounds::MOST_COUNTED)
 }
 
 // Whether the head is within its bounds.
 pub(crate) fn is_head_within(head: Head) -> bool
     ensures { λ r. ⌜ r ≡ isHeadWithin head ⌝ }
 {
-    ((1 <= head.clients) & (head.clients <= 256))
-        & ((1 <= head.period) & (head.period <= 4294967295))
-        & (head.clock <= 281474976710655)
-        & (head.last <= 281474976710655)
+    ((1 <= head.clients) & (head.clients <= bounds::MOST_CLIENTS as u64))
+        & ((1 <= head.period) & (head.period <= bounds::MOST_PERIOD))
+        & (head.clock <= bounds::CLOCK_END)
+        & (head.last <= bounds::NUMBER_END)
 }
 
 // Whether tables of these lengths fit the head.
 pub(crate) fn has_shape(head: Head, records: usize, clients: usize) -> bool
     ensures { λ r. ⌜ r ≡ hasShape head records clients ⌝ }
 {
-    ((1 <= records) & (records <= 2048))
+    ((1 <= records) & (records <= bounds::MOST_RECORDS))
         & (clients as u64 == head.clients)
         & (head.waiting <= records as u64)
 }

@@ -1,4 +1,5 @@
 // The waiting records one after the other, then those behind them, then the clients: each record and each client once.
+use spec::bounds::MOST_CLIENTS;
 use spec::types::Counts;
 use spec::types::Head;
 use spec::types::Request;
@@ -23,7 +24,7 @@ fn step(tally: &mut [u32], head: Head, i: usize, before: Request, w: Request) ->
     if !crate::record::is_next(head, i as u64, before, w) {
         return false;
     }
-    let at = (i % 2) * 256 + w.client as usize;
+    let at = (i % 2) * MOST_CLIENTS + w.client as usize;
     tally[at] = tally[at] + 1;
     true
 }
@@ -89,7 +90,7 @@ pub(crate) fn are_balanced(
             served: served[i],
             dropped: dropped[i],
         };
-        balanced = balanced & crate::record::does_balance(k, tally[i], tally[256 + i]);
+        balanced = balanced & crate::record::does_balance(k, tally[i], tally[MOST_CLIENTS + i]);
         i += 1;
     }
     balanced
