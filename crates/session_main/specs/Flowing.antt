@@ -23,7 +23,7 @@ pub record ReadsOn (flow : Flow) (buffer buffer′ : List ℕ) (r : Flow) : Type
   pub ends : r .ended ≡ true → (r .have ≡ flow .have) × (r .turns ≡ 0)
   pub goes : r .ended ≡ false → (flow .have < r .have) × (r .turns ≡ flow .turns)
 
--- a call of `feed` with lines left used some of the buffer; one with none left room to read
+-- what the loop needs of a call of `feed` to go on: it used some of the buffer, or, where no line is left, there is room to read
 abbrev pub Onward : Bool → Flow → Fed → List ℕ → Type 0
 Onward true flow fed buffer = 0 < fed .used
 Onward false flow fed buffer = flow .have < fed .used + length buffer

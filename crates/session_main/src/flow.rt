@@ -49,8 +49,8 @@ fn carry(buffer: &mut [u8], from: usize, n: usize)
     }
 }
 
-// Reads into the part, and hands back how many characters it got: none at the end of the input, and none where the read fails. With
-// no room it would get none before the end.
+// Reads into the part, and hands back how many characters it got: none at the end of the input, and none where the read fails. A
+// part without room would look like the end.
 fn read_some(part: &mut [u8]) -> usize
     requires { ⌜ 0 < length (now part) ⌝ }
     ensures { λ r. ⌜ r ≤ length (now (part .entry)) ⌝ }
