@@ -25,6 +25,10 @@ abbrev pub Found : List ℕ → ℕ → Line → Type 0
 Found s at (Whole end) = Ends s at end
 Found s at Begun = NoFeed s at (length s)
 
--- the characters from an index up to another, or none where these are no part of s
+-- the characters from an index up to another
+abbrev pub slice : ℕ → ℕ → List ℕ → List ℕ
+slice from end s = take (end - from) (drop from s)
+
+-- the same, or none where these are no part of s
 abbrev pub part : List ℕ → ℕ → ℕ → List ℕ
-part s from end = cond (leb from end) (cond (leb end (length s)) (take (end - from) (drop from s)) []) []
+part s from end = cond (leb from end) (cond (leb end (length s)) (slice from end s) []) []

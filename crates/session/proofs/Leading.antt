@@ -9,7 +9,8 @@ use Rattle.spec.specs.Tables.{State}
 use Rattle.spec.specs.Frames.{frameOf}
 use Rattle.spec.specs.Session.{Text, textOf, reply, replies}
 use Rattle.session.specs.declared.types.Turn.{Turn}
-use Rattle.session.specs.Standing.{Begun, stateAfter, Reached, Leads, slice}
+use Rattle.frame.specs.Lines.{slice}
+use Rattle.session.specs.Standing.{Begun, stateAfter, Reached, Leads}
 use Rattle.session.specs.Feeding.{Whole, None}
 use Rattle.session.proofs.Texts.{begun, ended, readOn, text-append, text-none, state-append, replies-append}
 

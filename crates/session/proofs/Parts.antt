@@ -14,11 +14,11 @@ use Rattle.spec.specs.Tables.{State}
 use Rattle.spec.specs.Session.{Text, textOf, replies, atEnd, session, atStart as stateAtStart}
 use Rattle.spec.proofs.Laws.Every.{and-both}
 use Rattle.columns.specs.Columns.{rowsOf}
-use Rattle.frame.specs.Lines.{NoFeed}
+use Rattle.frame.specs.Lines.{NoFeed, slice}
 use Rattle.frame.specs.Written.{mostBytes}
 use Rattle.session.specs.declared.types.Session.{Session}
 use Rattle.session.specs.declared.types.Fed.{Fed}
-use Rattle.session.specs.Standing.{heldIn, doFit, longestFrame, Begun, Reached, Leads, slice}
+use Rattle.session.specs.Standing.{heldIn, doFit, longestFrame, Begun, Reached, Leads}
 use Rattle.session.specs.Feeding.{FedBy, Left, owed}
 use Rattle.session.specs.Parts.{atStart, Lent, Made, Through, begins, goes}
 use Rattle.session.proofs.Texts.{begun, text-append, slice-goes-on, take-slice}

@@ -17,7 +17,8 @@ use Rattle.decide.specs.declared.types.Reply.{Reply}
 use Rattle.session.specs.declared.types.Session.{Session}
 use Rattle.session.specs.declared.types.Fed.{Fed}
 use Rattle.session.specs.declared.types.Turn.{Turn}
-use Rattle.session.specs.Standing.{heldIn, doFit, recordsFor, clientsFor, recordsAfter, Leads, slice}
+use Rattle.frame.specs.Lines.{slice}
+use Rattle.session.specs.Standing.{heldIn, doFit, recordsFor, clientsFor, recordsAfter, Leads}
 use Rattle.session.specs.Feeding.{Whole, None, NextIf, Next, Left, Ends, can, Stepped, SameLengths, FedBy}
 use Rattle.session.proofs.Replied.{Replied}
 use Rattle.session.proofs.Texts.{take-slice}

@@ -12,8 +12,8 @@ use lib.Seq.{take-add, take-suc, getD-take, getD-drop}
 use Rattle.spec.specs.Tables.{State}
 use Rattle.spec.specs.Frames.{lineFeed, frameOf}
 use Rattle.spec.specs.Session.{Text, inFront, read, textOf, reply, replies}
-use Rattle.frame.specs.Lines.{NoFeed, Ends}
-use Rattle.session.specs.Standing.{stateAfter, slice}
+use Rattle.frame.specs.Lines.{NoFeed, Ends, slice}
+use Rattle.session.specs.Standing.{stateAfter}
 
 -- ---- texts
 -- the text that has begun a line only, and the one that has ended a line only

@@ -21,14 +21,14 @@ use Rattle.spec.specs.Session.{textOf}
 use Rattle.spec.proofs.Laws.Every.{or-none, same-test}
 use Rattle.spec.proofs.types.Answer as answers
 use Rattle.spec.proofs.types.Frame as frames
-use Rattle.frame.specs.Lines.{NoFeed, Ends, part}
+use Rattle.frame.specs.Lines.{NoFeed, Ends, part, slice}
 use Rattle.frame.specs.Written.{mostBytes}
 use Rattle.frame.proofs.Framing.{frame-length}
 use Rattle.frame.proofs.Parts.{part-is}
 use Rattle.session.specs.declared.types.Session.{Session}
 use Rattle.session.specs.declared.types.Fed.{Fed}
 use Rattle.session.specs.declared.types.Turn.{Turn}
-use Rattle.session.specs.Standing.{upTo, recordsFor, clientsFor, recordsAfter, longestFrame, Begun, slice}
+use Rattle.session.specs.Standing.{upTo, recordsFor, clientsFor, recordsAfter, longestFrame, Begun}
 use Rattle.session.specs.Feeding.{Whole, None, NextIf, Next, owed}
 use Rattle.session.proofs.Texts.{begun, slice-goes-on, slice-ends}
 use Rattle.session.proofs.Leading.{begun-text}

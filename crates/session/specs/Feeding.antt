@@ -10,12 +10,12 @@ use Rattle.spec.specs.declared.types.Request.{Request}
 use Rattle.spec.specs.Tables.{State}
 use Rattle.spec.specs.Frames.{frameOf, answerLine}
 use Rattle.spec.specs.Session.{textOf}
-use Rattle.frame.specs.Lines.{NoFeed}
+use Rattle.frame.specs.Lines.{NoFeed, slice}
 use Rattle.frame.specs.Written.{mostBytes}
 use Rattle.session.specs.declared.types.Session.{Session}
 use Rattle.session.specs.declared.types.Fed.{Fed}
 use Rattle.session.specs.declared.types.Turn.{Turn}
-use Rattle.session.specs.Standing.{heldIn, doFit, longestFrame, Begun, Leads, slice}
+use Rattle.session.specs.Standing.{heldIn, doFit, longestFrame, Begun, Leads}
 
 -- ---- what stands next in the input, from `used` on
 -- whether an answer has room in an output of this length, and the tables fit

@@ -1,11 +1,11 @@
 -- Where a session stands between two lines: the state that it holds in the lent tables, and how a line that has no line feed yet
 -- is remembered. Assumes nothing.
-use Prim.Native.Nat.{ℕ, _+_, _-_, _<_}
+use Prim.Native.Nat.{ℕ, _<_}
 use mathlib.Core.Bool.{Bool, true, false, cond, _&&_}
 use mathlib.Core.List.{List, [], _∷_, _++_}
 use mathlib.Core.Path.{_≡_}
 use lib.Dec.{leb}
-use lib.ListN.{length, take, drop}
+use lib.ListN.{length, take}
 use Rattle.spec.specs.declared.types.Frame.{Frame}
 use Rattle.spec.specs.declared.types.Frame.the-variants.{Open, Submit, Tick, Report, Chart, Bad}
 use Rattle.spec.specs.declared.types.Answer.{Answer}
@@ -84,7 +84,3 @@ pub record Reached (s₀ : State) (p i : List ℕ) (s : State) (skip : Bool) (o 
 -- the same whatever line was begun, of which only skip₀ is remembered
 abbrev pub Leads : State → Bool → List ℕ → State → Bool → List ℕ → Type 0
 Leads s₀ skip₀ i s skip o = (p : List ℕ) → Begun skip₀ p → Reached s₀ p i s skip o
-
--- the characters from an index up to another
-abbrev pub slice : ℕ → ℕ → List ℕ → List ℕ
-slice from end input = take (end - from) (drop from input)

@@ -24,11 +24,12 @@ ghost use Rattle.frame.specs.Digits.{digitTable};
 ghost use Rattle.frame.specs.Lines.{NoFeed, Ends};
 ghost use Rattle.frame.specs.Written.{longestLine, mostBytes, CanDraw, replyBytes};
 ghost use Rattle.session.specs.Standing.{doFit, upTo, recordsFor, clientsFor, recordsAfter};
+ghost use Rattle.session.specs.Parts.{atStart};
 ghost use Rattle.session.specs.Feeding.{can, Whole, None, Next, owed};
 
 // Before the first line: no tables.
 pub fn start() -> Session
-    ensures { λ r. ⌜ r ≡ record { head = record { clients = 0; period = 0; clock = 0; last = 0; waiting = 0 }; records = 0; skip = false } ⌝ }
+    ensures { λ r. ⌜ r ≡ atStart ⌝ }
 {
     Session {
         head: Head {

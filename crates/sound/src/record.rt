@@ -13,7 +13,7 @@ ghost use Rattle.spec.specs.Sound.{isHeadWithin, isZeroRequest};
 ghost use Rattle.sound.specs.Checks.{hasShape, isNext, isNear, doesBalance};
 
 // Whether a comes before b in chart order, by one comparison: b's deadline counts one less where its number is not the larger.
-// With branches on the deadlines a small session took nearly half as long again.
+// Branches on the deadlines take longer where few records wait: docs/landings/04-session.md.
 pub(crate) fn comes_before(a: Request, b: Request) -> bool
     requires { ⌜ 1 ≤ b .deadline ⌝ }
     ensures { λ r. ⌜ r ≡ comesBefore a b ⌝ }
