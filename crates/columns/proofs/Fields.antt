@@ -1,18 +1,14 @@
 -- A column is the `map` of a field: laws that carry columns to records, and back. Assumes nothing.
-use Prim.Native.Nat.{ℕ, zero, suc, _+_, _-_, _≤_, _<_}
-use mathlib.Core.Path.{_≡_, refl, ap}
+use Prim.Native.Nat.{ℕ, zero, suc, _-_, _≤_, _<_}
 use mathlib.Core.List.{List, [], _∷_, map}
+use mathlib.Core.Path.{_≡_, refl}
 use native.Mathlib.Omega.{arith}
-use lib.Dec.{leb}
 use lib.ListN.{length, getD, take}
-use Rattle.spec.specs.declared.types.Request.{Request}
-use Rattle.spec.specs.Every.{toNumber, countIf}
-use Rattle.spec.specs.Tables.{State, deadlinesOf}
-use Rattle.spec.specs.Order.{insertAt}
-use Rattle.spec.specs.Chart.{startsOf, endOf, dueBy}
-use Rattle.columns.specs.Columns.{rowsOf, countOf, stateOf, largest64}
-use Rattle.columns.specs.Scans.{putAt}
 use Rattle.columns.specs.Charted.{startSlot, startSlots}
+use Rattle.columns.specs.Columns.{rowsOf, countOf, stateOf, largest64}
+use Rattle.spec.specs.Chart.{startsOf, endOf}
+use Rattle.spec.specs.Tables.{State, deadlinesOf}
+use Rattle.spec.specs.declared.types.Request.{Request}
 
 -- the columns of a table, put together again, are the table
 pub rows-columns : {A : Type 0} (f : ℕ → ℕ → ℕ → A) (x y z : A → ℕ) → ((a : A) → f (x a) (y a) (z a) ≡ a)
@@ -28,13 +24,6 @@ pub state-columns : (s : State)
     ≡ s
 state-columns s =
     rw (rows-columns countOf (λ k. k .submitted) (λ k. k .served) (λ k. k .dropped) (λ k. refl) (s .clientTable))
-
--- a column of requests with one put in is the column with its entry put in
-pub column-insert : (f : Request → ℕ) (k : ℕ) (r : Request) (ws : List Request)
-    → map f (insertAt k r ws) ≡ putAt k (f r) (map f ws)
-column-insert f zero r ws = refl
-column-insert f (suc k) r [] = refl
-column-insert f (suc k) r (w ∷ ws) = ap (λ (l : List ℕ). f w ∷ l) (column-insert f k r ws)
 
 -- one of three columns
 pub data Which : Type 0 where
@@ -65,7 +54,7 @@ column-rows c f g e (suc n) (x ∷ xs) (y ∷ ys) [] h i j = absurd (omega arith
 column-rows c f g e (suc n) (x ∷ xs) (y ∷ ys) (z ∷ zs) h i j =
     rw (pick-cons c x y z xs ys zs, e x y z, column-rows c f g e n xs ys zs (omega arith) (omega arith) (omega arith))
 
--- ---- what scans of columns find
+-- ---- what is drawn
 start-same : (w : Request) (later : List ℕ) → startSlot (w .deadline) later ≡ endOf w later - 1
 start-same w [] = refl
 start-same w (s ∷ later) = refl
@@ -86,8 +75,3 @@ starts-below (d ∷ ds) zero h b = go (startSlots ds)
     go [] = omega (arith, b 0 (omega arith))
     go (s ∷ later) = omega (arith, b 0 (omega arith))
 starts-below (d ∷ ds) (suc k) h b = starts-below ds k (omega arith) (λ j i. b (suc j) (omega arith))
-
-pub due-column : (D : ℕ) (ws : List Request) → countIf (λ d. leb d D) (deadlinesOf ws) ≡ dueBy D ws
-unfolding countIf dueBy
-due-column D [] = refl
-due-column D (w ∷ ws) = ap (λ (n : ℕ). toNumber (leb (w .deadline) D) + n) (due-column D ws)

@@ -2,4 +2,3 @@ pub mod Counting
 pub mod Drawing
 pub mod Fields
 pub mod Laws
-pub mod Scanning

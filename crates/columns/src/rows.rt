@@ -10,7 +10,7 @@ ghost use Rattle.spec.specs.Chart.{roomTo};
 ghost use Rattle.columns.specs.Columns.{countsOf};
 
 // The smaller of two lengths.
-pub(crate) fn smaller(a: usize, b: usize) -> usize
+pub fn smaller(a: usize, b: usize) -> usize
     ensures { λ r. ⌜ r ≡ min a b ⌝ }
 {
     if a <= b {
@@ -26,17 +26,7 @@ pub fn shortest(a: usize, b: usize, c: usize) -> usize
     smaller(a, smaller(b, c))
 }
 
-// How many requests the slots from the clock to the deadline can take.
-pub(crate) fn room_to(head: Head, deadline: u64) -> u64
-    ensures { λ r. ⌜ r ≡ roomTo head deadline ⌝ }
-{
-    if deadline < head.clock {
-        return 0;
-    }
-    deadline - head.clock
-}
-
-// Whether those slots can take more than i requests. A sum spares the branch that the difference of `room_to` needs.
+// Whether the slots from the clock to the deadline can take more than i requests. A sum, since a difference would need a branch.
 pub fn has_room(head: Head, i: u64, deadline: u64) -> bool
     requires { ⌜ (head .clock ≤ clockEnd) × (i ≤ mostRecords) ⌝ }
     ensures { λ r. ⌜ r ≡ ltb i (roomTo head deadline) ⌝ }

@@ -1,23 +1,23 @@
 -- What a refusal that was found says of a decision, and an accepted submit of the columns that show the state. Assumes nothing.
-use Prim.Native.Nat.{ℕ, _≤_, _<_}
+use Prim.Native.Nat.{ℕ, _<_}
 use mathlib.Core.Path.{_≡_, refl, sym, ap, _∙_}
 use mathlib.Core.Logic.{_≢_}
 use mathlib.Core.Bool.{cond}
-use mathlib.Core.List.{List, [], _∷_, map}
+use mathlib.Core.List.{List, [], _∷_}
 use native.Mathlib.Omega.{arith}
 use borrow.Author.Tests.{eq-eqb, ne-eqb}
 use lib.Dec.{eqb}
-use lib.ListN.{length, getD, take, length-map, length-take}
+use lib.ListN.{length, getD}
 use Rattle.spec.specs.declared.types.Head.{Head}
 use Rattle.spec.specs.declared.types.Request.{Request}
 use Rattle.spec.specs.declared.types.Counts.{Counts}
 use Rattle.spec.specs.Tables.{zeroCounts, State, waiting}
-use Rattle.spec.specs.Refusals.{Refusal, firstMatch, tickRefusals}
+use Rattle.spec.specs.Refusals.{Refusal, firstMatch, submitRefusals, tickRefusals}
 use Rattle.spec.proofs.Laws.Accepted.{SubmitReady, waiting-length, tick-ready}
 use Rattle.columns.specs.Columns.{countOf, countsOf, largest32}
 use Rattle.columns.proofs.Laws.{length-rows, getD-rows}
 use Rattle.decide.specs.declared.types.Decision.the-variants.{Refuse, Serve, Idle}
-use Rattle.decide.specs.Decisions.{tickChoice, tickDecision}
+use Rattle.decide.specs.Decisions.{submitChoice, submitDecision, tickChoice, tickDecision}
 
 -- ---- "first match wins": the number that was found tells whether the call is refused or goes on
 module _ {A : Type 0} (accept : A) (refuse : ℕ → A) (rs : List Refusal) {t : ℕ} (found : t ≡ firstMatch rs) where
@@ -55,16 +55,19 @@ module _ (s : State) {t : ℕ} (found : t ≡ firstMatch (tickRefusals s)) where
       some-wait (waiting s) (λ e. n (sym (as-many z) ∙ e))
       ∙ sym (goes-on (tickChoice (waiting s)) Refuse (tickRefusals s) found z)
 
+-- ---- a submit
+module _ (client deadline : ℕ) (s : State) {t : ℕ} (found : t ≡ firstMatch (submitRefusals client deadline s)) where
+  pub submit-refused : t ≢ 0 → Refuse t ≡ submitDecision client deadline s
+  unfolding submitDecision
+  submit-refused n = sym (refused (submitChoice client deadline s) Refuse (submitRefusals client deadline s) found n)
+
+  pub submit-goes : t ≡ 0 → submitChoice client deadline s ≡ submitDecision client deadline s
+  unfolding submitDecision
+  submit-goes z = sym (goes-on (submitChoice client deadline s) Refuse (submitRefusals client deadline s) found z)
+
 -- ---- what an accepted submit says of the columns
 module _
     {head : Head} {s : State} {client deadline : ℕ} (ready : SubmitReady client deadline s) (same : s .head ≡ head) where
-  pub filled : length (waiting s) ≡ head .waiting
-  filled = waiting-length s (ready .ready .shape) ∙ ap (λ (h : Head). h .waiting) same
-
-  -- a column whose first entries are a field of the waiting requests has as many
-  pub column-long : (f : Request → ℕ) (xs : List ℕ) → map f (waiting s) ≡ take (head .waiting) xs → head .waiting ≤ length xs
-  column-long f xs e = omega (arith, filled, ap length e, length-map (waiting s) f, length-take (head .waiting) xs)
-
   -- the client's submitted has room for one more
   pub small : (su se dr : List ℕ) → s .clientTable ≡ countsOf su se dr → getD su client 0 < largest32
   small su se dr counts =

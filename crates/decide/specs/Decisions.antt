@@ -1,21 +1,20 @@
 -- What a submit and a tick have to do, before anything is changed: document 01, "Calls", "Refusals" and "Chart and victim".
 -- Assumes nothing.
-use Prim.Native.Nat.{ℕ}
+use Prim.Native.Nat.{ℕ, _<_}
 use mathlib.Core.Path.{_≡_}
 use mathlib.Core.Bool.{cond}
 use mathlib.Core.List.{List, [], _∷_}
 use lib.Dec.{eqb}
-use lib.ListN.{length}
+use lib.ListN.{length, take, drop, replicate}
 use Rattle.spec.specs.declared.types.Head.{Head}
 use Rattle.spec.specs.declared.types.Request.{Request}
-use Rattle.spec.specs.Tables.{State, waiting}
+use Rattle.spec.specs.Tables.{mostClients, State, waiting, deadlinesOf, clientsOf}
 use Rattle.spec.specs.Order.{placeOf}
-use Rattle.spec.specs.Chart.{dueBy, hasNoOverfull, Search, nothing, found, firstOverfull}
+use Rattle.spec.specs.Chart.{dueBy, hasNoOverfull}
 use Rattle.spec.specs.Refusals.{Refusal, firstMatch, submitRefusals, tickRefusals}
 use Rattle.spec.specs.Calls.{newRequest, withNew, victimPlace}
 use Rattle.columns.specs.Columns.{countsOf}
-use Rattle.decide.specs.declared.types.Fit.{Fit}
-use Rattle.decide.specs.declared.types.Fit.the-variants.{Refused, All, Over}
+use Rattle.search.specs.Scans.{overfullFrom, latestOf, putAt}
 use Rattle.decide.specs.declared.types.Decision.{Decision}
 use Rattle.decide.specs.declared.types.Decision.the-variants.{Refuse, Keep, Drop, Serve, Idle}
 
@@ -33,36 +32,18 @@ submitChoice client deadline s =
 unfoldable pub submitDecision : ℕ → ℕ → State → Decision
 submitDecision client deadline s = unless (submitRefusals client deadline s) (submitChoice client deadline s)
 
--- ---- a submit in two steps: what the new request meets, by the deadlines alone; then what is done
--- "The search for an overfull deadline ends at the first one found and yields it.": how many of these requests are due by it
-abbrev pub dueByFound : Search → List Request → ℕ
-dueByFound nothing ws = 0
-dueByFound (found D) ws = dueBy D ws
-
--- "These are exactly those with deadlines up to the smallest overfull one": candidates are the waiting requests due by it and
--- the new one, so that before the last candidate stand as many as those waiting ones
-abbrev pub lastCandidate : ℕ → ℕ → State → ℕ
-lastCandidate client deadline s = dueByFound (firstOverfull (s .head) (withNew client deadline s)) (waiting s)
-
--- "If every request can still finish, the answer is kept, with number and place (from 0). Otherwise one record is taken out"
-unfoldable pub acceptedFit : ℕ → ℕ → State → Fit
-acceptedFit client deadline s =
-    cond (hasNoOverfull (s .head) (withNew client deadline s))
-    (All (placeOf (newRequest client deadline s) (waiting s)))
-    (Over (placeOf (newRequest client deadline s) (waiting s)) (lastCandidate client deadline s))
-
--- "first match wins"
-unfoldable pub submitFit : ℕ → ℕ → State → Fit
-submitFit client deadline s =
-    cond (eqb (firstMatch (submitRefusals client deadline s)) 0)
-    (acceptedFit client deadline s)
-    (Refused (firstMatch (submitRefusals client deadline s)))
-
--- of how many of the waiting records the clients are needed: only a victim is found by them
-abbrev pub neededClients : Fit → ℕ → ℕ
-neededClients (Refused number) waiting = 0
-neededClients (All place) waiting = 0
-neededClients (Over place last) waiting = waiting
+-- what the searches of an accepted submit found in a state: the new request's place; the first overfull deadline, 0 where there is
+-- none; and, where there is one, of each client the last candidate, the waiting requests that are due by it and the new one
+pub record Found (client deadline : ℕ) (head : Head) (latest submitted served dropped : List ℕ) (place found : ℕ) (s : State)
+    : Type 0 where
+  pub accepted : firstMatch (submitRefusals client deadline s) ≡ 0
+  pub head-same : s .head ≡ head
+  pub counts-same : s .clientTable ≡ countsOf submitted served dropped
+  pub placed : place ≡ dueBy deadline (waiting s)
+  pub searched : found ≡ overfullFrom (s .head) place (deadline ∷ drop place (deadlinesOf (waiting s)))
+  pub marked : 0 < found
+      → latest
+      ≡ latestOf 1 (putAt place client (take (dueBy found (waiting s)) (clientsOf (waiting s)))) (replicate mostClients 0)
 
 -- ---- a tick
 -- "Tick serves the first waiting record ..; with none waiting it answers idle."

@@ -1,97 +1,47 @@
-// What a submit and a tick have to do, from the refusal that was found, the columns of the tables and the head. A submit is
-// decided in two steps: whether all requests can still finish is told by their deadlines, and most often they can; only where
-// they cannot does the victim take their clients too.
+// What a submit and a tick have to do, from the refusal that was found, from what the searches found, and the head.
 use crate::types::Decision;
-use crate::types::Fit;
-use columns::search;
-use columns::search::Overfull;
-use columns::victim;
+use search::victim;
 use spec::types::Head;
 ghost use mathlib.Core.Path.{_≡_};
-ghost use Prim.Native.Nat.{ℕ};
-ghost use lib.Dec.{ltb};
-ghost use lib.ListN.{getD, take};
-ghost use Rattle.spec.specs.Tables.{State, waiting, deadlinesOf, clientsOf};
-ghost use Rattle.spec.specs.Refusals.{firstMatch, submitRefusals, tickRefusals};
-ghost use Rattle.columns.specs.Columns.{countsOf, largest32};
-ghost use Rattle.decide.specs.Decisions.{submitFit, submitDecision, tickDecision};
-ghost use Rattle.decide.specs.declared.types.Fit.the-variants.{Over};
+ghost use Prim.Native.Nat.{ℕ, _≤_, _<_};
+ghost use lib.ListN.{length, getD};
+ghost use Rattle.spec.specs.Tables.{State};
+ghost use Rattle.spec.specs.Refusals.{firstMatch, tickRefusals};
+ghost use Rattle.columns.specs.Columns.{largest32};
+ghost use Rattle.decide.specs.declared.types.Decision.the-variants.{Refuse};
+ghost use Rattle.decide.specs.Decisions.{submitChoice, tickDecision, Found};
 
-// Submit's first step: refused, or the new request's place and, where not all can finish, the last candidate's. The column may
-// be longer than the waiting requests. Where no refusal was found it shows them, so that the test of its length passes: with it
-// nothing is asked of the caller.
-pub fn submit_fit(head: Head, deadlines: &[u64], refusal: u64, deadline: u64) -> Fit
-    ensures { λ r. ⌜ ((client : ℕ) (s : State) → refusal ≡ firstMatch (submitRefusals client deadline s) → s .head ≡ head
-        → (refusal ≡ 0 → deadlinesOf (waiting s) ≡ take (head .waiting) (now (deadlines .entry)))
-        → r ≡ submitFit client deadline s) ⌝ }
+// A refused call's.
+pub fn refuse(number: u64) -> Decision
+    ensures { λ r. ⌜ r ≡ Refuse number ⌝ }
 {
-    if refusal != 0 {
-        return Fit::Refused { number: refusal };
-    }
-    let n = head.waiting as usize;
-    if deadlines.len() < n {
-        return Fit::Refused { number: refusal };
-    }
-    let place = search::due_by(deadlines, n, deadline);
-    let found = search::first_overfull(head, deadlines, n, place, deadline);
-    match found {
-        Overfull::None => Fit::All { place },
-        Overfull::At { deadline: due } => {
-            let last = search::due_by(deadlines, n, due);
-            Fit::Over { place, last }
-        }
-    }
+    Decision::Refuse { number }
 }
 
-// Whether one more can be counted in an entry of a column; a column has 0 beyond its end.
-fn can_rise(counts: &[u32], at: u64) -> bool
-    ensures { λ r. ⌜ r ≡ ltb (getD (now (counts .entry)) at 0) largest32 ⌝ }
-{
-    let i = at as usize;
-    if i < counts.len() {
-        return counts[i] < u32::MAX;
-    }
-    true
-}
-
-// Submit's second step: refused, kept at a place, or one record dropped. The clients are read only where one is; they and the
-// counts then show the state, so that the tests pass: with them nothing is asked of the caller.
-pub fn submit_decision(
+// A submit that is not refused: the new request is kept at its place or, where a deadline was found overfull, the victim goes. It
+// is found by each client's last candidate.
+pub fn submit_choice(
     head: Head,
-    clients: &[u64],
+    latest: &[u16],
     submitted: &[u32],
     served: &[u32],
     dropped: &[u32],
-    fit: Fit,
     client: u64,
+    place: usize,
+    found: u64,
 ) -> Decision
-    ensures { λ r. ⌜ ((deadline : ℕ) (s : State) → fit ≡ submitFit client deadline s → s .head ≡ head
-        → s .clientTable ≡ countsOf (now (submitted .entry)) (now (served .entry)) (now (dropped .entry))
-        → ((place last : ℕ) → fit ≡ Over place last → clientsOf (waiting s) ≡ take (head .waiting) (now (clients .entry)))
-        → r ≡ submitDecision client deadline s) ⌝ }
+    requires { ⌜ (head .clients ≤ length (now latest)) × (getD (now submitted) client 0 < largest32) ⌝ }
+    ensures { λ r. ⌜ ((deadline : ℕ) (s : State)
+        → Found client deadline head (now (latest .entry)) (now (submitted .entry)) (now (served .entry)) (now (dropped .entry))
+        place found s
+        → r ≡ submitChoice client deadline s) ⌝ }
 {
-    match fit {
-        Fit::Refused { number } => Decision::Refuse { number },
-        Fit::All { place } => Decision::Keep { place },
-        Fit::Over { place, last } => {
-            let n = head.waiting as usize;
-            let within = (place <= n) & (last <= n) & (n <= clients.len());
-            if !(within & can_rise(submitted, client)) {
-                return Decision::Refuse { number: 0 };
-            }
-            let victim = victim::smallest_ratio_place(
-                clients,
-                n,
-                submitted,
-                served,
-                dropped,
-                place,
-                client,
-                last,
-            );
-            Decision::Drop { place, victim }
-        }
+    if found == 0 {
+        return Decision::Keep { place };
     }
+    let clients = head.clients as usize;
+    let victim = victim::smallest_ratio_place(latest, submitted, served, dropped, client, clients);
+    Decision::Drop { place, victim }
 }
 
 // Tick: refused, the first waiting record served, or idle.

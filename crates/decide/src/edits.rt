@@ -1,14 +1,12 @@
-// How a decision changes the waiting table, how much of the table it is read from, and the record that a submit puts in.
+// How a decision changes the waiting table, and the record that a submit puts in.
 use crate::types::Decision;
 use crate::types::Edit;
-use crate::types::Fit;
 use spec::types::Head;
 use spec::types::Request;
 ghost use mathlib.Core.Path.{_≡_};
 ghost use mathlib.Core.Bool.{cond};
 ghost use Prim.Native.Nat.{_<_};
 ghost use lib.Dec.{eqb};
-ghost use Rattle.decide.specs.Decisions.{neededClients};
 ghost use Rattle.decide.specs.Replies.{dropEdit, editOf, raised, numberedRequest};
 
 // The new record goes in at `place`, and the one that then stands at `victim` goes out, as one change.
@@ -72,17 +70,6 @@ pub fn unless_refused(refusal: u64, records: u64) -> usize
         return records as usize;
     }
     0
-}
-
-// Of how many records a submit reads the clients: only a victim is found by them.
-pub fn clients_needed(fit: Fit, waiting: u64) -> usize
-    ensures { λ r. ⌜ r ≡ neededClients fit waiting ⌝ }
-{
-    match fit {
-        Fit::Refused { number: _ } => 0,
-        Fit::All { place: _ } => 0,
-        Fit::Over { place: _, last: _ } => waiting as usize,
-    }
 }
 
 // One more, up to the largest number: no number of a sound state is that.

@@ -1,15 +1,6 @@
-// What a new request meets, what a call has to do, how it changes the waiting table, and what it hands back.
+// What a call has to do, how it changes the waiting table, and what it hands back.
 use spec::types::Answer;
 use spec::types::Head;
-
-// Where a new request goes, and whether all requests can then still finish.
-pub enum Fit {
-    Refused { number: u64 },
-    // All can, with the new one at `place`.
-    All { place: usize },
-    // They cannot: candidates are those from the first up to the one at `last`, the new one among them.
-    Over { place: usize, last: usize },
-}
 
 // What a submit or a tick does to the waiting table; the other calls change no waiting record by a decision.
 pub enum Decision {

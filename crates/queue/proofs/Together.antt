@@ -2,40 +2,35 @@
 use Prim.Native.Nat.{ℕ, suc, _≤_, _<_, min}
 use mathlib.Core.Path.{_≡_, refl, sym, ap, subst, _∙_}
 use mathlib.Core.Bool.{Bool, true, false, cond}
-use mathlib.Core.List.{List, _++_, map, append-nil}
+use mathlib.Core.List.{List, _++_, append-nil}
 use mathlib.Core.Logic.{_≢_}
 use native.Mathlib.Omega.{arith}
 use lib.Dec.{eqb}
-use lib.ListN.{length, getD, take, drop, replicate}
-use lib.Seq.{take-at, drop-at, drop-length}
+use lib.ListN.{length, getD, take, drop, replicate, length-map}
+use lib.Seq.{take-at, drop-at, drop-length, length-take-le}
 use Rattle.slots.proofs.Laws.Tests.{Same, same-yes, same-no, same}
 use Rattle.spec.specs.declared.types.Head.{Head}
 use Rattle.spec.specs.declared.types.Request.{Request}
 use Rattle.spec.specs.declared.types.Answer.the-variants.{Refused}
-use Rattle.spec.specs.Tables.{mostRecords, zeroRequest, State, waiting, deadlinesOf, clientsOf}
+use Rattle.spec.specs.Tables.{zeroRequest, State, waiting, deadlinesOf}
 use Rattle.spec.specs.Refusals.{Refusal, firstMatch, openRefusals, submitRefusals, tickRefusals, reportRefusals, chartRefusals}
 use Rattle.spec.specs.Calls.{Outcome, unlessRefused, openAccepted, openOf, newRequest, requestAt, submitOf, tickOf}
 use Rattle.spec.specs.Calls.{reportAccepted, reportOf, chartAccepted, chartOf, chartOutput}
-use Rattle.spec.proofs.Laws.Accepted.{Decided as Settled, accepts, refuses as declines, decided as settled, submit-ready}
+use Rattle.spec.proofs.Laws.Accepted.{Decided as Settled, accepts, refuses as declines, decided as settled}
 use Rattle.spec.proofs.Laws.Accepted.{ChartReady, chart-ready}
-use Rattle.spec.proofs.Laws.Sound.{Shaped}
 use Rattle.spec.proofs.Calls.Refused.{Written, untouched, written, output-written}
 use Rattle.columns.specs.Columns.{countOf, countsOf, stateOf, largest64}
 use Rattle.columns.specs.Charted.{startSlots}
 use Rattle.columns.proofs.Laws.{length-rows}
-use Rattle.table.specs.Records.{exchanged, takenOut, fieldOf}
-use Rattle.table.proofs.Laws.{length-column}
+use Rattle.table.specs.Records.{exchanged, takenOut}
 use Rattle.sound.specs.Checks.{tablesRefusal}
 use Rattle.decide.specs.declared.types.Reply.{Reply}
 use Rattle.decide.specs.declared.types.Edit.{Edit}
 use Rattle.decide.specs.declared.types.Decision.{Decision}
 use Rattle.decide.specs.declared.types.Decision.the-variants.{Drop, Serve}
-use Rattle.decide.specs.declared.types.Fit.{Fit}
-use Rattle.decide.specs.declared.types.Fit.the-variants.{Refused as NotFit, All, Over}
-use Rattle.decide.specs.Decisions.{submitFit, neededClients, submitDecision, tickDecision}
+use Rattle.decide.specs.Decisions.{submitDecision, tickDecision}
 use Rattle.decide.specs.Replies.{editOf, raised, numberedRequest, Answers}
 use Rattle.decide.proofs.Carried.{charted}
-use Rattle.decide.proofs.Choosing.Chosen.{Decided, decided}
 use Rattle.decide.proofs.Replying.Counted.{answers, holds-same}
 use Rattle.decide.proofs.Replying.Edited.{submit-edited, submit-taken, new-fits, tick-table, tick-gone}
 use Rattle.queue.specs.Gives.{Gives}
@@ -65,11 +60,6 @@ given w a =
 module _ (head : Head) (ws : List Request) (su se dr : List ℕ) where
   abbrev s : State
   s = stateOf head ws su se dr
-
-  column-front : (client : Bool) (n : ℕ) (rest : List ℕ) → n ≤ length ws
-      → take n (map (fieldOf client) (take n ws) ++ rest) ≡ map (fieldOf client) (take n ws)
-  column-front client n rest h =
-      take-at (map (fieldOf client) (take n ws)) rest n (length-column (fieldOf client) n ws h)
 
   -- ---- report
   pub reported : (client tables refusal : ℕ) (r : Reply) → tables ≡ tablesRefusal s
@@ -101,13 +91,13 @@ module _ (head : Head) (ws : List Request) (su se dr : List ℕ) where
         ready : refusal ≡ 0 → ChartReady output s
         ready z = chart-ready output s (sym told ∙ z)
 
-    module _ (out₁ out₂ : List ℕ) (first : out₁ ≡ map (fieldOf false) (take n ws) ++ drop n output)
+    module _ (out₁ out₂ : List ℕ) (first : out₁ ≡ deadlinesOf (take n ws) ++ drop n output)
         (second : out₂ ≡ startSlots (take n out₁) ++ drop n out₁) where
       abbrev front : List ℕ
-      front = map (fieldOf false) (take n ws)
+      front = deadlinesOf (take n ws)
 
       front-long : length front ≡ n
-      front-long = length-column (fieldOf false) n ws (within .0)
+      front-long = length-map (take n ws) (λ (w : Request). w .deadline) ∙ length-take-le n ws (within .0)
 
       slots : out₂ ≡ startSlots front ++ drop n output
       slots =
@@ -126,10 +116,10 @@ module _ (head : Head) (ws : List Request) (su se dr : List ℕ) where
           go : (b : Bool) → Same refusal 0 b → n ≡ cond b (head .waiting) 0
               → startSlots front ++ drop n output ≡ chartOutput output s
           go true (same-yes z) e =
-              subst (λ (m : ℕ). startSlots (map (fieldOf false) (take m ws)) ++ drop m output ≡ chartOutput output s) (sym e)
+              subst (λ (m : ℕ). startSlots (deadlinesOf (take m ws)) ++ drop m output ≡ chartOutput output s) (sym e)
               (charted output s (sym told ∙ z))
           go false (same-no z) e =
-              subst (λ (m : ℕ). startSlots (map (fieldOf false) (take m ws)) ++ drop m output ≡ chartOutput output s) (sym e)
+              subst (λ (m : ℕ). startSlots (deadlinesOf (take m ws)) ++ drop m output ≡ chartOutput output s) (sym e)
               (untouched-output z (output-written output s))
 
     pub chart-gives : (r : Reply)
@@ -205,50 +195,6 @@ module _ (head : Head) (ws : List Request) (su se dr : List ℕ) where
       same-edit = edits ∙ ap (λ (d : Decision). editOf d (head .waiting) (length ws)) decided
 
   -- ---- submit
-  module _ (client deadline refusal : ℕ) (told : refusal ≡ firstMatch (submitRefusals client deadline s)) where
-    -- what is copied before the search
-    module _ (n : ℕ) (copied : n ≡ cond (eqb refusal 0) (head .waiting) 0) where
-      pub scanned-within : (n ≤ length ws) × (n ≤ mostRecords)
-      scanned-within = (
-        unless-within refusal (head .waiting) n (length ws) copied (λ z. shaped z .waits),
-        unless-within refusal (head .waiting) n mostRecords copied (λ z. omega (arith, shaped z .waits, shaped z .most-records)),
-      )
-        where
-          shaped : refusal ≡ 0 → Shaped s
-          shaped z = submit-ready client deadline s (sym told ∙ z) .ready .shape
-
-      pub deadlines-shown : (rest column : List ℕ) → column ≡ map (fieldOf false) (take n ws) ++ rest → refusal ≡ 0
-          → deadlinesOf (waiting s) ≡ take (head .waiting) column
-      deadlines-shown rest column e z =
-          subst (λ (m : ℕ). map (fieldOf false) (take m ws) ≡ take m column) same-count
-          (sym (ap (take n) e ∙ column-front false n rest (scanned-within .0)))
-        where
-          same-count : n ≡ head .waiting
-          same-count = copied ∙ ap (λ (k : ℕ). cond (eqb k 0) (head .waiting) 0) z
-
-    -- what is copied after it
-    module _ (fit : Fit) (found : fit ≡ submitFit client deadline s) (m : ℕ) (needed : m ≡ neededClients fit (head .waiting)) where
-      pub needed-within : (m ≤ length ws) × (m ≤ mostRecords)
-      needed-within =
-          subst (λ (k : ℕ). (k ≤ length ws) × (k ≤ mostRecords)) (sym needed)
-          (go fit
-          (subst (λ (f : Fit). Decided client deadline s f (submitDecision client deadline s)) (sym found)
-          (decided client deadline s)))
-        where
-          go : (f : Fit) → Decided client deadline s f (submitDecision client deadline s)
-              → (neededClients f (head .waiting) ≤ length ws) × (neededClients f (head .waiting) ≤ mostRecords)
-          go (NotFit number) d = (omega arith, omega arith)
-          go (All place) d = (omega arith, omega arith)
-          go (Over place last) d =
-              let q = d .ready .ready .shape in (q .waits, omega (arith, q .waits, q .most-records))
-
-      pub clients-shown : (rest column : List ℕ) → column ≡ map (fieldOf true) (take m ws) ++ rest
-          → (place last : ℕ) → fit ≡ Over place last → clientsOf (waiting s) ≡ take (head .waiting) column
-      clients-shown rest column e place last over =
-          subst (λ (k : ℕ). map (fieldOf true) (take k ws) ≡ take k column)
-          (needed ∙ ap (λ (f : Fit). neededClients f (head .waiting)) over)
-          (sym (ap (take m) e ∙ column-front true m rest (needed-within .0)))
-
   pub submitted-gives : (client deadline : ℕ) (decision : Decision) (e : Edit) (new gone : Request) (ws′ : List Request)
       (r : Reply) (su′ dr′ : List ℕ)
       → decision ≡ submitDecision client deadline s

@@ -19,8 +19,6 @@ use Rattle.decide.proofs.types.Edit as TE
 use Rattle.decide.proofs.types.Edit.Laws as TE′
 use Rattle.decide.proofs.types.Decision as TD
 use Rattle.decide.proofs.types.Decision.Laws as TD′
-use Rattle.decide.proofs.types.Fit as TF
-use Rattle.decide.proofs.types.Fit.Laws as TF′
 
 abbrev pub ReplyT : RattleType
 ReplyT = TR.the-row
@@ -30,9 +28,6 @@ EditT = TE.the-row
 
 abbrev pub DecisionT : RattleType
 DecisionT = TD.the-row
-
-abbrev pub FitT : RattleType
-FitT = TF.the-row
 
 abbrev pub edit-val : Edit → Val
 edit-val e = vstruct (vcons (vint w64 (e .out)) (vcons (vint w64 (e .at)) vnil))
@@ -64,9 +59,3 @@ module _ {M : Type 1} (𝓤 : URA M) (H : Heap 𝓤) (A : Atoms 𝓤) (W : Given
 
   pub decision-makes : Makes 𝓤 H A DecisionT (Is DecisionT)
   decision-makes = LE.makes TD.the-type TD′.the-plain 𝓤 H A
-
-  pub fit-lawful : Lawful 𝓤 H A FitT
-  fit-lawful = LE.lawful TF.the-type TF′.the-laws 𝓤 H A W tt
-
-  pub fit-makes : Makes 𝓤 H A FitT (Is FitT)
-  fit-makes = LE.makes TF.the-type TF′.the-plain 𝓤 H A

@@ -8,17 +8,16 @@ use decide::refusals;
 use decide::replies;
 use decide::types::Decision;
 use decide::types::Reply;
+use search::records;
 use sound::check;
-use spec::bounds::MOST_RECORDS;
+use spec::bounds::MOST_CLIENTS;
 use spec::types::Head;
 use spec::types::Request;
 ghost use mathlib.Core.Path.{_≡_};
-ghost use Prim.Native.Nat.{_≤_, min};
-ghost use lib.ListN.{length};
-ghost use Rattle.spec.specs.Tables.{mostRecords};
+ghost use Rattle.spec.specs.Refusals.{firstMatch, submitRefusals};
 ghost use Rattle.spec.specs.Calls.{openOf, submitOf, tickOf, reportOf, chartOf, chartOutput};
 ghost use Rattle.columns.specs.Columns.{stateOf};
-ghost use Rattle.decide.specs.Decisions.{submitDecision};
+ghost use Rattle.decide.specs.Decisions.{submitChoice, submitDecision};
 ghost use Rattle.queue.specs.Gives.{Gives};
 
 // Open: the clock, the last number, the waiting count and every record of both tables become zero.
@@ -44,10 +43,9 @@ pub fn open(
     replies::open_reply(head, submitted, served, dropped, refusal, clients, period)
 }
 
-// What a submit has to do. The column takes the deadlines of the waiting records, and after the search their clients, where a
-// victim has to be found.
-fn submit_decision(
-    column: &mut [u64],
+// What a submit does that is not refused. Where a deadline is overfull, the waiting records up to the last candidate are marked,
+// each with its client, and the new request among them; where none is, `last` is 0 and no record is marked.
+fn accepted_decision(
     waiting: &[Request],
     submitted: &[u32],
     served: &[u32],
@@ -56,7 +54,42 @@ fn submit_decision(
     client: u64,
     deadline: u64,
 ) -> Decision
-    requires { ⌜ min (length (now waiting)) mostRecords ≤ length (now column) ⌝ }
+    requires { ⌜ firstMatch (submitRefusals client deadline
+        (stateOf head (now waiting) (now submitted) (now served) (now dropped))) ≡ 0 ⌝ }
+    ensures { λ r. ⌜ r ≡ submitChoice client deadline
+        (stateOf head (now (waiting .entry)) (now (submitted .entry)) (now (served .entry)) (now (dropped .entry))) ⌝ }
+{
+    let mut latest = [0u16; MOST_CLIENTS];
+    let n = head.waiting as usize;
+    let place = records::due_by(waiting, n, deadline);
+    let found = records::first_overfull(head, waiting, n, place, deadline);
+    let last = records::due_by(waiting, n, found);
+    let before = rows::smaller(place, last);
+    records::mark(waiting, &mut latest, 0, before, 1);
+    records::note(&mut latest, client, place + 1);
+    records::mark(waiting, &mut latest, place, last, 2);
+    calls::submit_choice(
+        head,
+        &latest,
+        submitted,
+        served,
+        dropped,
+        client,
+        place,
+        found,
+    )
+}
+
+// What a submit has to do.
+fn submit_decision(
+    waiting: &[Request],
+    submitted: &[u32],
+    served: &[u32],
+    dropped: &[u32],
+    head: Head,
+    client: u64,
+    deadline: u64,
+) -> Decision
     ensures { λ r. ⌜ r ≡ submitDecision client deadline
         (stateOf head (now (waiting .entry)) (now (submitted .entry)) (now (served .entry)) (now (dropped .entry))) ⌝ }
 {
@@ -71,79 +104,13 @@ fn submit_decision(
         client,
         deadline,
     );
-    let n = edits::unless_refused(refusal, head.waiting);
-    table::column(waiting, column, n, false);
-    let fit = calls::submit_fit(head, column, refusal, deadline);
-    let m = edits::clients_needed(fit, head.waiting);
-    table::column(waiting, column, m, true);
-    calls::submit_decision(head, column, submitted, served, dropped, fit, client)
+    if refusal != 0 {
+        return calls::refuse(refusal);
+    }
+    accepted_decision(waiting, submitted, served, dropped, head, client, deadline)
 }
 
-// Submit, with a column for as many waiting records as there can be.
-fn submit_over(
-    column: &mut [u64],
-    head: Head,
-    waiting: &mut [Request],
-    submitted: &mut [u32],
-    served: &mut [u32],
-    dropped: &mut [u32],
-    client: u64,
-    deadline: u64,
-) -> Reply
-    requires { ⌜ min (length (now waiting)) mostRecords ≤ length (now column) ⌝ }
-    ensures { λ r. ⌜ Gives
-        (submitOf client deadline (stateOf head (now (waiting .entry))
-        (now (submitted .entry)) (now (served .entry)) (now (dropped .entry))))
-        (now (submitted .entry)) (now (served .entry)) (now (dropped .entry))
-        r (now (waiting .exit)) (now (submitted .exit)) (now (served .exit)) (now (dropped .exit)) ⌝ }
-{
-    let decision = submit_decision(
-        column,
-        waiting,
-        submitted,
-        served,
-        dropped,
-        head,
-        client,
-        deadline,
-    );
-    let edit = edits::edit_of(decision, head.waiting, waiting.len());
-    let new = edits::new_request(head, client, deadline);
-    let gone = table::exchange(waiting, edit.out, edit.at, new);
-    replies::submit_reply(head, submitted, served, dropped, decision, client, gone)
-}
-
-// Submit to a table of any length.
-fn submit_long(
-    head: Head,
-    waiting: &mut [Request],
-    submitted: &mut [u32],
-    served: &mut [u32],
-    dropped: &mut [u32],
-    client: u64,
-    deadline: u64,
-) -> Reply
-    ensures { λ r. ⌜ Gives
-        (submitOf client deadline (stateOf head (now (waiting .entry))
-        (now (submitted .entry)) (now (served .entry)) (now (dropped .entry))))
-        (now (submitted .entry)) (now (served .entry)) (now (dropped .entry))
-        r (now (waiting .exit)) (now (submitted .exit)) (now (served .exit)) (now (dropped .exit)) ⌝ }
-{
-    let mut column = [0u64; MOST_RECORDS];
-    submit_over(
-        &mut column,
-        head,
-        waiting,
-        submitted,
-        served,
-        dropped,
-        client,
-        deadline,
-    )
-}
-
-// Submit: the new request is put in chart order; where not all can finish, one is dropped. A short table has a short column, since
-// zeroing one of 2,048 would cost more than all else.
+// Submit: the new request is put in chart order; where not all can finish, one is dropped.
 pub fn submit(
     head: Head,
     waiting: &mut [Request],
@@ -159,20 +126,11 @@ pub fn submit(
         (now (submitted .entry)) (now (served .entry)) (now (dropped .entry))
         r (now (waiting .exit)) (now (submitted .exit)) (now (served .exit)) (now (dropped .exit)) ⌝ }
 {
-    if waiting.len() > 64 {
-        return submit_long(head, waiting, submitted, served, dropped, client, deadline);
-    }
-    let mut column = [0u64; 64];
-    submit_over(
-        &mut column,
-        head,
-        waiting,
-        submitted,
-        served,
-        dropped,
-        client,
-        deadline,
-    )
+    let decision = submit_decision(waiting, submitted, served, dropped, head, client, deadline);
+    let edit = edits::edit_of(decision, head.waiting, waiting.len());
+    let new = edits::new_request(head, client, deadline);
+    let gone = table::exchange(waiting, edit.out, edit.at, new);
+    replies::submit_reply(head, submitted, served, dropped, decision, client, gone)
 }
 
 // Tick: the first waiting record is served, or none waits; then the clock rises by 1, and a period may begin.
@@ -242,7 +200,7 @@ pub fn chart(
     let tables = check::tables_refusal(waiting, submitted, served, dropped, head);
     let refusal = refusals::chart_refusal(tables, head, output.len());
     let n = edits::unless_refused(refusal, head.waiting);
-    table::column(waiting, output, n, false);
+    table::deadlines(waiting, output, n);
     chart::write_starts(output, n);
     replies::chart_reply(head, refusal)
 }

@@ -1,22 +1,21 @@
 -- What the passes ask of tables whose lengths and head are not refused, and what they come to. Assumes nothing.
 use Prim.Native.Nat.{ℕ, _≤_}
-use mathlib.Core.Path.{_≡_, ap, subst, _∙_}
+use mathlib.Core.Path.{_≡_, ap, _∙_}
 use mathlib.Core.Logic.{_≢_}
-use mathlib.Core.Bool.{Bool, not, cond, _&&_}
+use mathlib.Core.Bool.{Bool, cond, _&&_}
 use mathlib.Core.List.{List}
 use native.Mathlib.Omega.{arith}
-use lib.Dec.{T, T-not, eqb, eqb→eq, eqb-refl}
 use lib.ListN.{length, take, drop, replicate}
 use Rattle.spec.specs.declared.types.Head.{Head}
 use Rattle.spec.specs.declared.types.Request.{Request}
 use Rattle.spec.specs.Every.{every, everyFrom}
-use Rattle.spec.specs.Tables.{mostClients, mostRecords, clockEnd, State}
+use Rattle.spec.specs.Tables.{mostClients, mostRecords, State}
 use Rattle.spec.specs.Sound.{isZeroRequest}
 use Rattle.spec.proofs.Laws.Sound.{Shaped, HeadWithin, head-facts}
-use Rattle.table.proofs.Laws.{not-not}
 use Rattle.columns.specs.Columns.{countOf, countsOf, stateOf}
-use Rattle.sound.specs.Checks.{tallySize, talliedOf, doesBalance, Countable, Passed, headRefusal, tablesRefusal}
-use Rattle.sound.proofs.Laws.{rows-reach, shape-facts, zero-countable}
+use Rattle.sound.specs.Checks.{tallySize, talliedOf, doesBalance, Bounded, Countable, Passed, headRefusal, tablesRefusal}
+use Rattle.sound.proofs.Laws.{rows-reach, shape-facts}
+use Rattle.sound.proofs.Tally.{zero-countable}
 use Rattle.sound.proofs.Found.{head-refused, head-passed, found-sound, sound-refused}
 
 module _ (head : Head) (ws : List Request) (su se dr : List ℕ) where
@@ -36,12 +35,13 @@ module _ (head : Head) (ws : List Request) (su se dr : List ℕ) where
     headed : HeadWithin head
     headed = head-facts head (head-passed s asked .1)
 
-    pub next-asked :
-        (head .waiting ≤ length ws) × (head .waiting ≤ mostRecords) × (head .clients ≤ mostClients) × (head .clock ≤ clockEnd)
-        × Countable (replicate tallySize 0)
+    pub next-asked : Bounded head (head .waiting) × (head .waiting ≤ length ws) × Countable (head .waiting) (replicate tallySize 0)
     next-asked =
-        let few : head .waiting ≤ mostRecords = omega (arith, shaped .waits, shaped .most-records) in
-        (shaped .waits, few, headed .most-clients, headed .clock, zero-countable)
+        let few : head .waiting ≤ mostRecords = omega (arith, shaped .waits, shaped .most-records) in (
+          record { clients = headed .most-clients; clock = headed .clock; records = few },
+          shaped .waits,
+          zero-countable (head .waiting) (omega arith),
+        )
 
     pub balanced-asked : (tally : List ℕ) → length tally ≡ tallySize
         → (head .clients ≤ length su) × (head .clients ≤ length se) × (head .clients ≤ length dr) × (head .clients ≤ mostClients)
@@ -61,10 +61,3 @@ module _ (head : Head) (ws : List Request) (su se dr : List ℕ) where
         ∙ ap (λ (x : Bool). cond x 0 5)
         (found-sound s (head-passed s asked .0) (head-passed s asked .1) tally next zero balanced n z b)
         ∙ sound-refused s (head-passed s asked .0)
-
--- ---- the test whether a number is 0, as a branch has it
-pub not-zero : (n : ℕ) → T (not (eqb n 0)) → n ≢ 0
-not-zero n h e = T-not (eqb n 0) h (subst (λ (m : ℕ). T (eqb n m)) e (eqb-refl n))
-
-pub is-zero : (n : ℕ) → T (not (not (eqb n 0))) → n ≡ 0
-is-zero n h = eqb→eq n 0 (not-not (eqb n 0) h)

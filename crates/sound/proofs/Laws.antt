@@ -1,36 +1,35 @@
--- Laws of the passes: the tests of one record, what one turn of a pass leaves to do, the count per client, and the shape of the
--- tables. Assumes nothing.
+-- Laws of the passes: the tests of one record and of one client's counts, what one turn of a pass leaves to do, the clients with
+-- the count of the records, and the shape of the tables. Assumes nothing.
 use Prim.Native.Nat.{ℕ, zero, suc, _+_, _%_, _≤_, _<_}
-use mathlib.Core.Path.{_≡_, refl, sym, ap, _∙_}
-use mathlib.Core.Bool.{Bool, true, false, not, _&&_, _||_, and-eq-true-iff, and-true, and-assoc}
+use mathlib.Core.Path.{_≡_, refl, sym, ap, subst, _∙_}
+use mathlib.Core.Bool.{Bool, true, false, not, _&&_, _||_, and-eq-true-iff, and-false, and-assoc}
 use mathlib.Core.List.{List, [], _∷_}
 use mathlib.Core.Logic.{_≢_}
-use native.Mathlib.Decide.{ℕ-discrete}
 use native.Mathlib.Numerals.{add-one}
 use native.Mathlib.Omega.{arith}
 use borrow.Author.Tests.{leb-true, leb-false, ltb-true, eqb-true, lt-ltb, le-ltb, ne-eqb}
 use lib.Bits.{bitOr, or-add-and, and-le-r}
-use lib.Dec.{leb, ltb, eqb}
-use lib.ListN.{length, getD, take, drop, replicate, length-set, length-replicate, getD-replicate}
-use lib.Seq.{take-all, getD-set-same, getD-set-other}
-use Rattle.slots.proofs.Laws.Tests.{le, gt, order}
+use lib.Dec.{T, T-not, leb, ltb, eqb, eqb→eq, eqb-refl}
+use lib.ListN.{length, getD, take, drop, replicate}
+use lib.Seq.{take-all}
+use Rattle.slots.proofs.Laws.Tests.{le, gt, order, Test, holds, fails, test}
 use Rattle.spec.specs.declared.types.Head.{Head}
 use Rattle.spec.specs.declared.types.Request.{Request}
 use Rattle.spec.specs.declared.types.Counts.{Counts}
 use Rattle.spec.specs.Every.{isWithin, every, everyFrom}
-use Rattle.spec.specs.Tables.{mostClients, mostRecords, State}
+use Rattle.spec.specs.Tables.{mostClients, mostRecords, mostCounted, State}
 use Rattle.spec.specs.Order.{comesBefore}
 use Rattle.spec.specs.Chart.{roomTo}
 use Rattle.spec.specs.Sound.{waitingOf, isZeroRequest, isBalanced}
 use Rattle.spec.specs.Refusals.{refusal4}
-use Rattle.spec.proofs.Laws.Every.{Value, is-true, is-false, value, count-most}
+use Rattle.spec.proofs.Laws.Every.{Value, is-true, is-false, value}
 use Rattle.spec.proofs.Laws.Room.{room-back}
-use Rattle.spec.proofs.Laws.Clients.{of-yes, of-no, waitingOf-none, waitingOf-cons}
 use Rattle.spec.proofs.Laws.Sound.{within-test, Shaped}
+use Rattle.table.proofs.Laws.{not-not}
 use Rattle.columns.specs.Columns.{rowsOf}
 use Rattle.columns.proofs.Laws.{length-rows, getD-rows, rest-cons}
-use Rattle.sound.specs.Checks.{hasShape, isNext, areNext, doesBalance, tallySize, talliedOf, tallyPlace, oneMore}
-use Rattle.sound.specs.Checks.{countedIf, Countable, Tallied}
+use Rattle.sound.specs.Checks.{hasShape, isNext, doesBalance, tallySize, talliedOf, Tallied}
+use Rattle.sound.proofs.Tally.{tally-zero}
 
 -- ---- a deadline that has room is past the clock
 pub room-past : (head : Head) (i deadline : ℕ) → i < roomTo head deadline → head .clock < deadline
@@ -79,13 +78,14 @@ module _ {A : Type 0} (f : ℕ → ℕ → ℕ → A) (xs ys zs : List ℕ) (n i
       ∙ ap (λ (a : A). a ∷ drop (i + 1) (take n (rowsOf f xs ys zs)))
       (getD-rows f xs ys zs i (f 0 0 0) (omega arith) (omega arith) (omega arith))
 
--- ---- a pass that does not end early: its verdict b so far and the verdict on what is left make up the whole. A turn takes
--- the next test into b, and at the end nothing is left
+-- ---- a pass with one verdict: that so far, b, and that on what is left make up the whole. A turn takes the next test into b. It
+-- ends where b fails, or where nothing is left
 verdict-turn : (b t rest left whole : Bool) → left ≡ t && rest → b && left ≡ whole → (b && t) && rest ≡ whole
 verdict-turn b t rest left whole e h = and-assoc b t rest ∙ ap (λ (x : Bool). b && x) (sym e) ∙ h
 
-pub verdict-end : (b left whole : Bool) → left ≡ true → b && left ≡ whole → b ≡ whole
-verdict-end b left whole e h = sym (and-true b) ∙ ap (λ (x : Bool). b && x) (sym e) ∙ h
+pub verdict-end : (b left whole : Bool) → (T b → left ≡ true) → b && left ≡ whole → b ≡ whole
+verdict-end true left whole e h = sym (e tt) ∙ h
+verdict-end false left whole e h = h
 
 module _ {A : Type 0} (b : Bool) (x : A) (xs l : List A) (whole : Bool) (e : l ≡ x ∷ xs) where
   pub every-turn : (test : A → Bool) → b && every test l ≡ whole → (b && test x) && every test xs ≡ whole
@@ -99,7 +99,7 @@ module _ {A : Type 0} (b : Bool) (x : A) (xs l : List A) (whole : Bool) (e : l �
       rw (add-one i)
       (verdict-turn b (test i x) (everyFrom test (suc i) xs) (everyFrom test i l) whole (ap (everyFrom test i) e) h)
 
--- ---- bits gathered from numbers: none is set where all numbers are zero
+-- ---- bits joined: none is set where both numbers are zero
 or-zero : (a b : ℕ) → eqb (bitOr a b) 0 ≡ eqb a 0 && eqb b 0
 or-zero zero b = refl
 or-zero (suc a) b =
@@ -108,112 +108,37 @@ or-zero (suc a) b =
       ne-eqb (bitOr (suc a) b) 0 (λ e. omega (arith, or-add-and (suc a) b, and-le-r (suc a) b)),
     )
 
-pub bits-zero : (bits : ℕ) (w : Request)
-    → eqb (bitOr bits (bitOr (bitOr (w .deadline) (w .number)) (w .client))) 0 ≡ eqb bits 0 && isZeroRequest w
+pub bits-zero : (w : Request) → eqb (bitOr (bitOr (w .deadline) (w .number)) (w .client)) 0 ≡ isZeroRequest w
 unfolding isZeroRequest
-bits-zero bits w = simp (or-zero, and-assoc)
+bits-zero w = simp or-zero
 
--- ---- the pass over the records: the next record, then the rest
-pub next-cons : (head : Head) (i : ℕ) (before w : Request) (ws l : List Request) → l ≡ w ∷ ws
-    → areNext head i before l ≡ isNext head i before w && areNext head (i + 1) w ws
-unfolding areNext
-next-cons head i before w ws l e = rw (add-one i) (ap (areNext head i before) e)
+-- ---- counts cut to their bound: where one is beyond it, they do not balance
+abbrev cut : ℕ → ℕ
+cut count = count % (mostCounted + 1)
 
--- ---- a count per client of the requests passed: with those left it makes up all
-pub record Tallying (tally₀ : List ℕ) (ws left : List Request) (tally : List ℕ) : Type 0 where
-  pub size : length tally ≡ tallySize
-  pub at : (c : ℕ) → c < mostClients → talliedOf tally c + waitingOf c left ≡ talliedOf tally₀ c + waitingOf c ws
-
-pub tally-none : (tally : List ℕ) (ws : List Request) → length tally ≡ tallySize → Tallying tally ws ws tally
-tally-none tally ws e = record { size = e; at = λ c h. refl }
-
-pub tally-all : (tally₀ : List ℕ) (ws : List Request) (tally : List ℕ) → Tallying tally₀ ws [] tally → Tallied ws tally₀ tally
-tally-all tally₀ ws tally t = record { at = λ c h. omega (arith, t .at c h, waitingOf-none c) }
-
--- a client's count grew by no more than the number of requests
-pub tally-most : (tally₀ : List ℕ) (ws left : List Request) (tally : List ℕ) → Tallying tally₀ ws left tally
-    → (c : ℕ) → c < mostClients → talliedOf tally c ≤ talliedOf tally₀ c + length ws
-unfolding waitingOf
-tally-most tally₀ ws left tally t c h = omega (arith, t .at c h, count-most (λ v. eqb (v .client) c) ws)
-
--- a count of zeros
-tally-zero : (c : ℕ) → c < mostClients → talliedOf (replicate tallySize 0) c ≡ 0
-tally-zero c h =
-    omega (
-      arith,
-      getD-replicate {A = ℕ} tallySize c 0 0 (omega arith),
-      getD-replicate {A = ℕ} tallySize (mostClients + c) 0 0 (omega arith),
-    )
-
-pub zero-countable : Countable (replicate tallySize 0)
-zero-countable =
-    record { size = length-replicate {A = ℕ} tallySize 0; most = λ c h. omega (arith, tally-zero c h) }
-
--- neither of a client's two numbers is larger than their sum
-pub place-most : (tally : List ℕ) (i client : ℕ) → getD tally (tallyPlace i client) 0 ≤ talliedOf tally client
-place-most tally i client =
-    elim (order (i % 2) 0) [
-      | le h ↦ let e : tallyPlace i client ≡ client = omega arith in rw e (omega arith)
-      | gt h ↦ let e : tallyPlace i client ≡ mostClients + client = omega arith in rw e (omega arith)
-    ]
-
--- one more in either half is one more of a client's count, and changes no other's
-more-here : (tally : List ℕ) (p q : ℕ) → q ≡ p → p < length tally → getD (oneMore p tally) q 0 ≡ getD tally q 0 + 1
-more-here tally p q e h = rw e (getD-set-same tally p (getD tally p 0 + 1) 0 h)
-
-more-elsewhere : (tally : List ℕ) (p q : ℕ) → q ≢ p → getD (oneMore p tally) q 0 ≡ getD tally q 0
-more-elsewhere tally p q e = getD-set-other tally p q (getD tally p 0 + 1) 0 e
-
-module _ (tally : List ℕ) (i client : ℕ) (h : client < mostClients) where
-  more-own : length tally ≡ tallySize → talliedOf (oneMore (tallyPlace i client) tally) client ≡ talliedOf tally client + 1
-  more-own size =
-      elim (order (i % 2) 0) [
-        | le g ↦ omega (
-          arith,
-          more-here tally (tallyPlace i client) client (omega arith) (omega arith),
-          more-elsewhere tally (tallyPlace i client) (mostClients + client) (λ e. omega arith),
-        )
-        | gt g ↦ omega (
-          arith,
-          more-elsewhere tally (tallyPlace i client) client (λ e. omega arith),
-          more-here tally (tallyPlace i client) (mostClients + client) (omega arith) (omega arith),
-        )
-      ]
-
-  more-other : (c : ℕ) → c < mostClients → c ≢ client → talliedOf (oneMore (tallyPlace i client) tally) c ≡ talliedOf tally c
-  more-other c l e =
-      omega (
-        arith,
-        more-elsewhere tally (tallyPlace i client) c (λ f. e (omega arith)),
-        more-elsewhere tally (tallyPlace i client) (mostClients + c) (λ f. e (omega arith)),
-      )
-
--- a record that passed is counted
-pub tally-turn : (tally₀ : List ℕ) (ws left : List Request) (i : ℕ) (w : Request) (tally next : List ℕ)
-    → Tallying tally₀ ws (w ∷ left) tally → w .client < mostClients → next ≡ countedIf true i w tally
-    → Tallying tally₀ ws left next
-tally-turn tally₀ ws left i w tally next t h e =
-    rw e (record { size = simp length-set (t .size); at = λ c l. go c l (ℕ-discrete c (w .client)) })
+pub cut-balance : (k : Counts) (waits : ℕ)
+    → (eqb (k .submitted) (cut (k .served) + cut (k .dropped) + waits)
+    && (leb (k .submitted) mostCounted && leb (k .served) mostCounted && leb (k .dropped) mostCounted))
+    ≡ doesBalance k waits
+unfolding doesBalance
+cut-balance k waits =
+    go (leb (k .submitted) mostCounted) (leb (k .served) mostCounted) (leb (k .dropped) mostCounted)
+    (test (k .submitted) mostCounted) (test (k .served) mostCounted) (test (k .dropped) mostCounted)
   where
-    go : (c : ℕ) → c < mostClients → Dec (c ≡ w .client)
-        → talliedOf (oneMore (tallyPlace i (w .client)) tally) c + waitingOf c left ≡ talliedOf tally₀ c + waitingOf c ws
-    go c l (yes e) =
-        rw e
-        (omega (
-          arith,
-          more-own tally i (w .client) h (t .size),
-          t .at (w .client) h,
-          waitingOf-cons (w .client) w left,
-          of-yes (w .client) w refl,
-        ))
-    go c l (no e) =
-        omega (
-          arith,
-          more-other tally i (w .client) h c l e,
-          t .at c l,
-          waitingOf-cons c w left,
-          of-no c w e,
-        )
+    apart : mostCounted < k .served + k .dropped → k .submitted ≤ mostCounted
+        → eqb (k .submitted) (k .served + k .dropped + waits) ≡ false
+    apart l m = ne-eqb (k .submitted) (k .served + k .dropped + waits) (λ e. omega arith)
+
+    go : (x y z : Bool) → Test (k .submitted) mostCounted x → Test (k .served) mostCounted y → Test (k .dropped) mostCounted z
+        → (eqb (k .submitted) (cut (k .served) + cut (k .dropped) + waits) && (x && y && z))
+        ≡ (eqb (k .submitted) (k .served + k .dropped + waits) && x)
+    go false y z su se dr = simp and-false
+    go true true true (holds l) (holds m) (holds n) =
+        let e : cut (k .served) ≡ k .served = omega arith in
+        let f : cut (k .dropped) ≡ k .dropped = omega arith in
+        rw (e, f)
+    go true true false (holds l) (holds m) (fails n) = simp (and-false, apart (omega arith) l)
+    go true false z (holds l) (fails m) dr = simp (and-false, apart (omega arith) l)
 
 -- ---- the pass over the clients, with the count of a pass over the records
 from-same : {A : Type 0} (f g : ℕ → A → Bool) (i : ℕ) (xs : List A)
@@ -266,3 +191,10 @@ shape-refused s =
     go true true c e = e
     go true false c e = refl
     go false b c e = refl
+
+-- ---- the test whether a number is 0, as a branch has it
+pub not-zero : (n : ℕ) → T (not (eqb n 0)) → n ≢ 0
+not-zero n h e = T-not (eqb n 0) h (subst (λ (m : ℕ). T (eqb n m)) e (eqb-refl n))
+
+pub is-zero : (n : ℕ) → T (not (not (eqb n 0))) → n ≡ 0
+is-zero n h = eqb→eq n 0 (not-not (eqb n 0) h)

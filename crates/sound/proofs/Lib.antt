@@ -1,6 +1,8 @@
+pub mod Tally
 pub mod Laws
 pub mod Order
+pub mod Turns
+pub mod Calls
 pub mod Pass
-pub mod Passing
 pub mod Found
 pub mod Contents

@@ -1,5 +1,5 @@
 -- The tests of one pass over the waiting records, and of one over the clients. Assumes nothing.
-use Prim.Native.Nat.{ℕ, suc, _+_, _*_, _%_, _≤_, _<_}
+use Prim.Native.Nat.{ℕ, zero, suc, _+_, _*_, _%_, _≤_, _<_}
 use mathlib.Core.Path.{_≡_}
 use mathlib.Core.Bool.{Bool, true, cond, _&&_}
 use mathlib.Core.List.{List, [], _∷_}
@@ -9,7 +9,7 @@ use Rattle.spec.specs.declared.types.Head.{Head}
 use Rattle.spec.specs.declared.types.Request.{Request}
 use Rattle.spec.specs.declared.types.Counts.{Counts}
 use Rattle.spec.specs.Every.{isWithin}
-use Rattle.spec.specs.Tables.{mostClients, mostRecords, mostAhead, mostCounted, zeroRequest, State}
+use Rattle.spec.specs.Tables.{mostClients, mostRecords, mostAhead, mostCounted, clockEnd, zeroRequest, State}
 use Rattle.spec.specs.Order.{comesBefore}
 use Rattle.spec.specs.Chart.{roomTo}
 use Rattle.spec.specs.Refusals.{firstMatch, refusal4, refusal5}
@@ -28,35 +28,76 @@ isNext head i before w =
     && ltb i (roomTo head (w .deadline))
     && comesBefore before w
 
--- ---- a count per client, in two halves: records are counted in them by turns, and a client's count is the sum of both
+-- ---- a count per client, in four parts: records are counted in them by turns, and a client's count is the sum of its four
+abbrev pub parts : ℕ
+parts = 4
+
 abbrev pub tallySize : ℕ
-tallySize = mostClients + mostClients
+tallySize = parts * mostClients
+
+-- where a part counts a client
+abbrev pub tallyPlace : ℕ → ℕ → ℕ
+tallyPlace part client = part * mostClients + client
+
+-- f of each number below n, added up
+abbrev pub sumBelow : ℕ → (ℕ → ℕ) → ℕ
+sumBelow zero f = 0
+sumBelow (suc n) f = sumBelow n f + f n
 
 abbrev pub talliedOf : List ℕ → ℕ → ℕ
-talliedOf tally client = getD tally client 0 + getD tally (mostClients + client) 0
-
--- where the record with the index i is counted
-abbrev pub tallyPlace : ℕ → ℕ → ℕ
-tallyPlace i client = i % 2 * mostClients + client
+talliedOf tally client = sumBelow parts (λ part. getD tally (tallyPlace part client) 0)
 
 abbrev pub oneMore : ℕ → List ℕ → List ℕ
 oneMore place tally = set tally place (getD tally place 0 + 1)
 
--- the count with one more request counted, if it passed
+-- the count with one more request counted, the one with the index i, if it passed
 abbrev pub countedIf : Bool → ℕ → Request → List ℕ → List ℕ
-countedIf passed i w tally = cond passed (oneMore (tallyPlace i (w .client)) tally) tally
+countedIf passed i w tally = cond passed (oneMore (tallyPlace (i % parts) (w .client)) tally) tally
+
+-- the largest number of 16 bits
+abbrev pub largest16 : ℕ
+largest16 = 65535
+
+-- a count per client to which so many more can be added
+pub record Countable (more : ℕ) (tally : List ℕ) : Type 0 where
+  pub size : length tally ≡ tallySize
+  pub most : (c : ℕ) → c < mostClients → talliedOf tally c + more ≤ largest16
 
 -- ---- the pass over the waiting records, and the one over the clients
--- what one turn finds: whether the record passes, and the count per client with it
-pub record Stepped (head : Head) (i : ℕ) (before w : Request) (tally₀ : List ℕ) (r : Bool) (tally : List ℕ) : Type 0 where
-  pub verdict : r ≡ isNext head i before w
-  pub counted : tally ≡ countedIf r i w tally₀
+-- what it relies on: bounds of the head, and a number of records that a table can have
+pub record Bounded (head : Head) (n : ℕ) : Type 0 where
+  pub clients : head .clients ≤ mostClients
+  pub clock : head .clock ≤ clockEnd
+  pub records : n ≤ mostRecords
+
+-- where it stands: whether all records so far passed, and the count per client
+abbrev pub Standing : Type 0
+Standing = Bool × List ℕ
+
+-- one turn, of the record w at the index i, behind the one before it: it is counted if it passes and all so far did
+unfoldable pub turn : Head → ℕ → Request → Request → Standing → Standing
+turn head i before w s =
+    (s .0 && isNext head i before w, countedIf (s .0 && isNext head i before w) i w (s .1))
+
+-- the record before an index, zero where there is none
+abbrev pub recordBefore : List Request → ℕ → Request
+recordBefore ys zero = zeroRequest
+recordBefore ys (suc i) = getD ys i zeroRequest
+
+-- so many turns over the records of a table, the first at the index i
+unfoldable pub turns : Head → List Request → ℕ → ℕ → Standing → Standing
+turns head ys i zero s = s
+turns head ys i (suc k) s = turns head ys (suc i) k (turn head i (recordBefore ys i) (getD ys i zeroRequest) s)
 
 -- a deadline is past the clock by no more than it may
 abbrev pub isNear : Head → ℕ → Bool
 isNear head deadline = leb deadline (head .clock + mostAhead)
 
--- of all of them, the first with the index i; deadlines ascend, so that all are near if the last is
+-- where the pass stands once its last record is asked whether it is near
+abbrev pub asked : Head → Request → Standing → Standing
+asked head last s = (s .0 && isNear head (last .deadline), s .1)
+
+-- whether all of them are as they should be, the first with the index i; deadlines ascend, so that all are near if the last is
 unfoldable pub areNext : Head → ℕ → Request → List Request → Bool
 areNext head i before [] = isNear head (before .deadline)
 areNext head i before (w ∷ ws) = isNext head i before w && areNext head (suc i) w ws
@@ -64,11 +105,6 @@ areNext head i before (w ∷ ws) = isNext head i before w && areNext head (suc i
 -- a client's counts balance with so many waiting
 unfoldable pub doesBalance : Counts → ℕ → Bool
 doesBalance k waits = eqb (k .submitted) (k .served + k .dropped + waits) && leb (k .submitted) mostCounted
-
--- a count per client with no count above what a table can have: so many more can be added
-pub record Countable (tally : List ℕ) : Type 0 where
-  pub size : length tally ≡ tallySize
-  pub most : (c : ℕ) → c < mostClients → talliedOf tally c ≤ mostRecords
 
 -- a count per client with these requests counted
 pub record Tallied (ws : List Request) (tally₀ tally : List ℕ) : Type 0 where

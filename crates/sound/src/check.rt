@@ -46,7 +46,7 @@ fn contents_refusal(
     ensures { λ r. ⌜ r ≡ tablesRefusal
         (stateOf head (now (waiting .entry)) (now (submitted .entry)) (now (served .entry)) (now (dropped .entry))) ⌝ }
 {
-    let mut tally = [0u32; 2 * MOST_CLIENTS];
+    let mut tally = [0u16; 4 * MOST_CLIENTS];
     let n = head.waiting as usize;
     let next = tables::are_next(waiting, &mut tally, head, n);
     let zero = tables::are_zero(waiting, n);

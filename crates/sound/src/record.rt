@@ -5,12 +5,13 @@ use spec::types::Head;
 use spec::types::Request;
 ghost use Prim.Native.Nat.{_+_, _≤_};
 ghost use mathlib.Core.Path.{_≡_};
-ghost use mathlib.Core.Bool.{_&&_};
-ghost use lib.Dec.{eqb};
 ghost use Rattle.spec.specs.Tables.{mostRecords, clockEnd};
 ghost use Rattle.spec.specs.Order.{comesBefore};
 ghost use Rattle.spec.specs.Sound.{isHeadWithin, isZeroRequest};
 ghost use Rattle.sound.specs.Checks.{hasShape, isNext, isNear, doesBalance};
+
+// How many values a count can have, 0 to its bound.
+const COUNTS: u32 = bounds::MOST_COUNTED + 1;
 
 // Whether a comes before b in chart order, by one comparison: b's deadline counts one less where its number is not the larger.
 // Branches on the deadlines take longer where few records wait: docs/landings/04-session.md.
@@ -49,20 +50,24 @@ pub(crate) fn is_near(head: Head, deadline: u64) -> bool
     deadline <= head.clock + bounds::MOST_AHEAD
 }
 
-// The bits of a record joined to those of others: none is set where all are zero.
-pub(crate) fn gather(bits: u64, w: Request) -> u64
-    ensures { λ r. ⌜ eqb r 0 ≡ (eqb bits 0 && isZeroRequest w) ⌝ }
+// Whether a record is zero, by one test of the bits of its fields.
+pub(crate) fn is_zero(w: Request) -> bool
+    ensures { λ r. ⌜ r ≡ isZeroRequest w ⌝ }
 {
-    bits | (w.deadline | w.number | w.client)
+    (w.deadline | w.number | w.client) == 0
 }
 
-// Whether a client's counts balance with those waiting, counted in two parts. The sum is of 64 bits, where it cannot wrap.
-pub(crate) fn does_balance(k: Counts, even: u32, odd: u32) -> bool
-    ensures { λ r. ⌜ r ≡ doesBalance k (even + odd) ⌝ }
+// Whether a client's counts balance with those waiting, counted in four parts. The sum is of 32 bits, so that several clients can
+// be looked at in one go: it cannot wrap, since served and dropped are cut to their bound, and a count that is cut is refused.
+pub(crate) fn does_balance(k: Counts, a: u16, b: u16, c: u16, d: u16) -> bool
+    ensures { λ r. ⌜ r ≡ doesBalance k (a + b + c + d) ⌝ }
 {
-    let waits = even as u64 + odd as u64;
-    let all = k.served as u64 + k.dropped as u64 + waits;
-    (k.submitted as u64 == all) & (k.submitted <= bounds::MOST_COUNTED)
+    let waits = (a as u32 + b as u32) + (c as u32 + d as u32);
+    let all = k.served % COUNTS + k.dropped % COUNTS + waits;
+    (k.submitted == all)
+        & ((k.submitted <= bounds::MOST_COUNTED)
+            & (k.served <= bounds::MOST_COUNTED)
+            & (k.dropped <= bounds::MOST_COUNTED))
 }
 
 // Whether the head is within its bounds.

@@ -1,40 +1,63 @@
-// The waiting records one after the other, then those behind them, then the clients: each record and each client once.
+// The waiting records one after the other, then those behind them, then the clients: each record and each client is tested once.
 use spec::bounds::MOST_CLIENTS;
 use spec::types::Counts;
 use spec::types::Head;
 use spec::types::Request;
-ghost use Prim.Native.Nat.{_≤_, _<_};
+ghost use Prim.Native.Nat.{_+_, _-_, _%_, _≤_};
 ghost use mathlib.Core.Path.{_≡_};
+ghost use mathlib.Core.Bool.{true};
 ghost use lib.ListN.{length, take, drop};
 ghost use Rattle.spec.specs.Every.{every, everyFrom};
-ghost use Rattle.spec.specs.Tables.{mostClients, mostRecords, clockEnd};
+ghost use Rattle.spec.specs.Tables.{mostClients};
 ghost use Rattle.spec.specs.Sound.{isZeroRequest};
-ghost use Rattle.columns.specs.Columns.{countsOf, largest32};
-ghost use Rattle.sound.specs.Checks.{tallySize, talliedOf, doesBalance, Stepped, Countable, Passed};
+ghost use Rattle.columns.specs.Columns.{countsOf};
+ghost use Rattle.sound.specs.Checks.{tallySize, talliedOf, doesBalance, Countable, Bounded, turn, turns, recordBefore};
+ghost use Rattle.sound.specs.Checks.{asked, Passed};
 
-// One turn of the pass over the records: whether the record may stand at its index behind the one before it; if so it is
-// counted. The tally has two halves, used by turns: adding to one place twice in a row waits for the store, and with few
-// clients most records would.
-fn step(tally: &mut [u32], head: Head, i: usize, before: Request, w: Request) -> bool
-    requires { ⌜ (head .clients ≤ mostClients) × (head .clock ≤ clockEnd) × (i ≤ mostRecords)
-        × (w .client < mostClients → talliedOf (now tally) (w .client) < largest32)
-        × (length (now tally) ≡ tallySize) ⌝ }
-    ensures { λ r. ⌜ Stepped head i before w (now (tally .entry)) r (now (tally .exit)) ⌝ }
+// One turn of the pass over the records, told whether all before it passed: whether they and this one do, a record that may
+// stand at its index behind the one before it; if so it is counted. The tally has four parts, used by turns: adding to one place
+// twice in a row waits for the store, and with few clients most records would.
+pub(crate) fn step(
+    ok: bool,
+    tally: &mut [u16],
+    head: Head,
+    i: usize,
+    before: Request,
+    w: Request,
+) -> bool
+    requires { ⌜ Bounded head i × Countable 1 (now tally) ⌝ }
+    ensures { λ r. ⌜ (r, now (tally .exit)) ≡ turn head i before w (ok, now (tally .entry)) ⌝ }
 {
+    if !ok {
+        return false;
+    }
     if !crate::record::is_next(head, i as u64, before, w) {
         return false;
     }
-    let at = (i % 2) * MOST_CLIENTS + w.client as usize;
+    let at = (i % 4) * MOST_CLIENTS + w.client as usize;
     tally[at] = tally[at] + 1;
     true
 }
 
-// Whether the first n records are as waiting ones should be, and how many of them each client has. Deadlines ascend, so that
-// only the last is asked whether it is near; where there is none, the zero record is asked.
-pub(crate) fn are_next(t: &[Request], tally: &mut [u32], head: Head, n: usize) -> bool
-    requires { ⌜ (n ≤ length (now t)) × (n ≤ mostRecords) × (head .clients ≤ mostClients) × (head .clock ≤ clockEnd)
-        × Countable (now tally) ⌝ }
-    ensures { λ r. ⌜ Passed head (take n (now (t .entry))) (now (tally .entry)) r (now (tally .exit)) ⌝ }
+// Four turns, from the index i on. Each is told whether those before it passed, so that there is no branch between them.
+fn four(t: &[Request], tally: &mut [u16], head: Head, i: usize, before: Request) -> bool
+    requires { ⌜ Bounded head (i + 4) × (i + 4 ≤ length (now t)) × (before ≡ recordBefore (now t) i) × Countable 4 (now tally) ⌝ }
+    ensures { λ r. ⌜ (r, now (tally .exit)) ≡ turns head (now (t .entry)) i 4 (true, now (tally .entry)) ⌝ }
+{
+    let a = table::get(t, i);
+    let p = step(true, tally, head, i, before, a);
+    let b = table::get(t, i + 1);
+    let q = step(p, tally, head, i + 1, a, b);
+    let c = table::get(t, i + 2);
+    let r = step(q, tally, head, i + 2, b, c);
+    let d = table::get(t, i + 3);
+    step(r, tally, head, i + 3, c, d)
+}
+
+// The turns of the first n records, four at a time, until one of the four does not pass.
+fn fours(t: &[Request], tally: &mut [u16], head: Head, n: usize) -> bool
+    requires { ⌜ Bounded head n × (n ≤ length (now t)) × (n % 4 ≡ 0) × Countable n (now tally) ⌝ }
+    ensures { λ r. ⌜ (r, now (tally .exit)) ≡ turns head (now (t .entry)) 0 n (true, now (tally .entry)) ⌝ }
 {
     let mut before = Request {
         deadline: 0,
@@ -44,8 +67,41 @@ pub(crate) fn are_next(t: &[Request], tally: &mut [u32], head: Head, n: usize) -
     let mut passed = true;
     let mut i = 0;
     while (i < n) & passed {
+        passed = four(t, tally, head, i, before);
+        before = table::get(t, i + 3);
+        i += 4;
+    }
+    passed
+}
+
+// The record before an index, zero where there is none.
+fn previous(t: &[Request], i: usize) -> Request
+    requires { ⌜ i ≤ length (now t) ⌝ }
+    ensures { λ r. ⌜ r ≡ recordBefore (now (t .entry)) i ⌝ }
+{
+    if i == 0 {
+        return Request {
+            deadline: 0,
+            number: 0,
+            client: 0,
+        };
+    }
+    table::get(t, i - 1)
+}
+
+// The turns of the records from one index on, one at a time, if all before it passed, until one does not pass; and whether the
+// last is near.
+fn rest(t: &[Request], tally: &mut [u16], head: Head, from: usize, n: usize, ok: bool) -> bool
+    requires { ⌜ Bounded head n × (n ≤ length (now t)) × (from ≤ n) × Countable (n - from) (now tally) ⌝ }
+    ensures { λ r. ⌜ (r, now (tally .exit))
+        ≡ asked head (recordBefore (now (t .entry)) n) (turns head (now (t .entry)) from (n - from) (ok, now (tally .entry))) ⌝ }
+{
+    let mut before = previous(t, from);
+    let mut passed = ok;
+    let mut i = from;
+    while (i < n) & passed {
         let w = table::get(t, i);
-        passed = step(tally, head, i, before, w);
+        passed = step(true, tally, head, i, before, w);
         before = w;
         i += 1;
     }
@@ -53,25 +109,35 @@ pub(crate) fn are_next(t: &[Request], tally: &mut [u32], head: Head, n: usize) -
     passed & near
 }
 
-// Whether the records from one index on are zero. Their bits are gathered and tested once, at the end, so that no record has a
-// branch of its own.
+// Whether the first n records are as waiting ones should be, and how many of them each client has. Deadlines ascend, so that
+// only the last is asked whether it is near; where there is none, the zero record is asked.
+pub(crate) fn are_next(t: &[Request], tally: &mut [u16], head: Head, n: usize) -> bool
+    requires { ⌜ Bounded head n × (n ≤ length (now t)) × Countable n (now tally) ⌝ }
+    ensures { λ r. ⌜ Passed head (take n (now (t .entry))) (now (tally .entry)) r (now (tally .exit)) ⌝ }
+{
+    let m = n / 4 * 4;
+    let p = fours(t, tally, head, m);
+    rest(t, tally, head, m, n, p)
+}
+
+// Whether the records from one index on are zero; the first that is not ends the search.
 pub(crate) fn are_zero(t: &[Request], from: usize) -> bool
     ensures { λ r. ⌜ r ≡ every isZeroRequest (drop from (now (t .entry))) ⌝ }
 {
     let n = t.len();
-    let mut bits = 0;
+    let mut zero = true;
     let mut i = from;
-    while i < n {
+    while (i < n) & zero {
         let w = table::get(t, i);
-        bits = crate::record::gather(bits, w);
+        zero = crate::record::is_zero(w);
         i += 1;
     }
-    bits == 0
+    zero
 }
 
-// Whether the counts of the first n clients balance with both halves of the tally.
+// Whether the counts of the first n clients balance with the four parts of the tally.
 pub(crate) fn are_balanced(
-    tally: &[u32],
+    tally: &[u16],
     submitted: &[u32],
     served: &[u32],
     dropped: &[u32],
@@ -90,7 +156,14 @@ pub(crate) fn are_balanced(
             served: served[i],
             dropped: dropped[i],
         };
-        balanced = balanced & crate::record::does_balance(k, tally[i], tally[MOST_CLIENTS + i]);
+        balanced = balanced
+            & crate::record::does_balance(
+                k,
+                tally[i],
+                tally[MOST_CLIENTS + i],
+                tally[2 * MOST_CLIENTS + i],
+                tally[3 * MOST_CLIENTS + i],
+            );
         i += 1;
     }
     balanced

@@ -20,24 +20,25 @@ use contract.Monad.{Fun, fact, factI}
 use sound.WpLaws.{FmC}
 use types.Kit.{Given, Item, ‵, Post, runs, lands, Seq, _$_, move, drop, rewrite, fsplit, fjoin}
 use denote.Laws.{Is}
-use denote.Plain.{Nothing}
 use denote.Steps.{nothing}
 use denote.Triple.Statement.{Contract, Triple}
 use denote.Triple.Spec.{tripleOf}
 use Rattle.spec.specs.declared.types.Request.{Request}
 use Rattle.spec.specs.Tables.{zeroRequest}
 use Rattle.table.proofs.Walk.Rows.{R, mach, vals, tells, request}
-use Rattle.table.proofs.Walk.Steps.{lands-unit}
 use Rattle.table.proofs.Walk.Lent.{Elements, Look}
-use Rattle.table.proofs.Walk.Loans.{Param, loan, bound, number, lent, looked, Operands, calls-with, calls-told}
+use Rattle.table.proofs.Walk.Loans.{Param, loan, bound, number, lent, looked, Operands, calls-on, calls-told}
 use Rattle.table.proofs.get as get
 use Rattle.table.proofs.get.Symbol.{name as #table·get}
 use Rattle.table.proofs.put as put
 use Rattle.table.proofs.put.Symbol.{name as #table·put}
 use Rattle.table.proofs.next as next
-use Rattle.table.proofs.field as field
 use Rattle.table.proofs.store as store
 use Rattle.table.proofs.shift as shift
+use Rattle.table.proofs.to_front as to-front
+use Rattle.table.proofs.to_back as to-back
+use Rattle.table.proofs.rotate as rotate
+use Rattle.table.proofs.move_between as move-between
 
 module _ {M : Type 1} (𝓤 : URA M) (H : Heap 𝓤) (A : Atoms 𝓤) (mem : Memory → SProp 𝓤) (run : Routine → Fun 𝓤) where
   abbrev pub Get : Contract 𝓤
@@ -49,14 +50,23 @@ module _ {M : Type 1} (𝓤 : URA M) (H : Heap 𝓤) (A : Atoms 𝓤) (mem : Mem
   abbrev pub Next : Contract 𝓤
   Next = tripleOf 𝓤 H A next.signature (next.spec 𝓤 H A mem run)
 
-  abbrev pub Field : Contract 𝓤
-  Field = tripleOf 𝓤 H A field.signature (field.spec 𝓤 H A mem run)
-
   abbrev pub Store : Contract 𝓤
   Store = tripleOf 𝓤 H A store.signature (store.spec 𝓤 H A mem run)
 
   abbrev pub Shift : Contract 𝓤
   Shift = tripleOf 𝓤 H A shift.signature (shift.spec 𝓤 H A mem run)
+
+  abbrev pub ToFront : Contract 𝓤
+  ToFront = tripleOf 𝓤 H A to-front.signature (to-front.spec 𝓤 H A mem run)
+
+  abbrev pub ToBack : Contract 𝓤
+  ToBack = tripleOf 𝓤 H A to-back.signature (to-back.spec 𝓤 H A mem run)
+
+  abbrev pub Rotate : Contract 𝓤
+  Rotate = tripleOf 𝓤 H A rotate.signature (rotate.spec 𝓤 H A mem run)
+
+  abbrev pub MoveBetween : Contract 𝓤
+  MoveBetween = tripleOf 𝓤 H A move-between.signature (move-between.spec 𝓤 H A mem run)
 
 module _ {M : Type 1} {𝓤 : URA M} {H : Heap 𝓤} {A : Atoms 𝓤} (W : Given 𝓤 H A) {b o n : ℕ} {ys : List Request} where
   -- what is passed to `get`, and to `put`
@@ -81,6 +91,5 @@ module _ {M : Type 1} {𝓤 : URA M} {H : Heap 𝓤} {A : Atoms 𝓤} {K : Type 
       → Seq K W (‵ (es .held (set ys i r)) ∷ Γ) (lands C Λ E d vunit rest q)
       → Seq K W (‵ (es .held ys) ∷ Γ) (runs C Λ E (seq (call #table·put xs d) rest) q)
   calls-put t mem run fm known {ys = ys} es i fits within r is os k =
-      nothing t $ move t (1 ∷ 0 ∷ []) $ fjoin t $
-      calls-with t fm (Writing W es i fits r is) (fact 𝓤 (i < length ys)) (factI 𝓤 _ (emp 𝓤) within) Nothing (λ u last. last .0 ≡ set ys i r) (λ c. known (bound W (Writing W es i fits r is) c)) os (λ w u last written kept.
-      fsplit t $ rewrite t 0 (λ (zs : List Request). ‵ (es .held zs)) written refl $ move t (1 ∷ []) $ drop t $ move t (1 ∷ []) $ lands-unit t w u k)
+      calls-on t fm (lent W es) (number W i fits ∷ request W r is ∷ []) refl (i < length ys) within (λ zs. zs ≡ set ys i r) (λ c. known (bound W (Writing W es i fits r is) c)) os (λ zs written kept.
+      rewrite t 0 (λ (l : List Request). ‵ (es .held l)) written refl $ k)

@@ -1,15 +1,15 @@
 -- Laws of the waiting table as a list of records: a record moved by one, one exchanged for another, the first entries replaced.
 -- Assumes nothing.
-use Prim.Native.Nat.{ℕ, zero, suc, _+_, _-_, _≤_, _<_, _^_}
-use mathlib.Core.Path.{_≡_, refl, ap, _∙_}
-use mathlib.Core.Bool.{Bool, true, false, cond, not, _&&_}
+use Prim.Native.Nat.{ℕ, zero, suc, _+_, _-_, _≤_, _<_, _^_, zero-le}
+use mathlib.Core.Path.{_≡_, refl, sym, ap, _∙_}
+use mathlib.Core.Bool.{Bool, true, false, cond, not, _&&_, true≢false}
 use mathlib.Core.Logic.{_≢_}
 use mathlib.Core.List.{List, [], _∷_, _++_, map}
-use native.Mathlib.Nat.{zero-add}
+use native.Mathlib.Nat.{zero-add, add-zero, suc-add}
 use native.Mathlib.Numerals.{add-one}
 use native.Mathlib.Omega.{arith}
-use lib.Dec.{T, ltb, eqb, ltb→lt, nltb→le, eqb→eq, eqb-refl, T-not}
-use lib.ListN.{length, getD, set, take, drop, length-set, List·getD-map, length-map}
+use lib.Dec.{T, ltb, eqb, ltb→lt, eqb→eq, eqb-refl, T-not}
+use lib.ListN.{length, getD, set, take, drop, length-set, List·getD-map, length-map, length-drop, take-append-drop}
 use lib.Seq.{getD-take, paste-suc, length-paste, take-all, length-take-le}
 use Rattle.spec.specs.declared.types.Request.{Request}
 use Rattle.spec.specs.Tables.{zeroRequest}
@@ -78,13 +78,13 @@ pub record Going (up : Bool) (from to : ℕ) (ys : List Request) (i : ℕ) (zs :
   pub within : i < length ys
   pub toward : Toward up to i
 
-pub sets-out : (from to : ℕ) (ys : List Request) → from < length ys → Going (ltb to from) from to ys from ys
-sets-out from to ys h =
-    record { others = refl; same-length = refl; within = h; toward = go (ltb to from) (ltb→lt to from) (nltb→le to from) }
-  where
-    go : (b : Bool) → (T b → to < from) → (T (not b) → from ≤ to) → Toward b to from
-    go true f g = omega (arith, f tt)
-    go false f g = g tt
+-- what `shift` asks of two places in a table of n
+abbrev pub Asked : Bool → ℕ → ℕ → ℕ → Type 0
+Asked up from to n = (from < n) × (to < n) × (up ≡ true → to ≤ from) × (up ≡ false → from ≤ to)
+
+pub sets-out : (up : Bool) (from to : ℕ) (ys : List Request) → Asked up from to (length ys) → Going up from to ys from ys
+sets-out true from to ys h = record { others = refl; same-length = refl; within = h .0; toward = h .2 refl }
+sets-out false from to ys h = record { others = refl; same-length = refl; within = h .0; toward = h .3 refl }
 
 -- the record at the next place is copied to this one
 module _ {up : Bool} {from to : ℕ} {ys : List Request} (i : ℕ) (zs : List Request) (g : Going up from to ys i zs) where
@@ -106,6 +106,56 @@ module _ {up : Bool} {from to : ℕ} {ys : List Request} (i : ℕ) (zs : List Re
 
   pub arrives : T (not (not (eqb i to))) → Shifted from to ys zs
   arrives h = record { others = rw (← eqb→eq i to (not-not (eqb i to) h)) (g .others) }
+
+-- ---- a shift over the first places, the way that `up` says
+pub asks : (up : Bool) (last n : ℕ) → last < n → Asked up (cond up last 0) (cond up 0 last) n
+asks true last n h = (h, omega arith, (λ _. zero-le), λ e. absurd (true≢false e))
+asks false last n h = (omega arith, h, (λ e. absurd (true≢false (sym e))), λ _. zero-le)
+
+-- a test has come out as b
+pub turned : (up b : Bool) (last : ℕ) (ys zs : List Request) → T (cond b up (not up))
+    → Shifted (cond b last 0) (cond b 0 last) ys zs → Shifted (cond up last 0) (cond up 0 last) ys zs
+turned true true last ys zs h s = s
+turned true false last ys zs h s = absurd h
+turned false true last ys zs h s = absurd h
+turned false false last ys zs h s = s
+
+-- ---- a shift of a part
+-- a record behind others is taken out: they stay
+remove-behind : (xs ws : List Request) (k : ℕ) → removeAt (length xs + k) (xs ++ ws) ≡ xs ++ removeAt k ws
+unfolding removeAt
+remove-behind [] ws k = rw (zero-add k)
+remove-behind (x ∷ xs) ws k = rw (suc-add (length xs) k) (ap (λ (l : List Request). x ∷ l) (remove-behind xs ws k))
+
+-- the records from a on, shifted, are the whole shifted at places that are a further
+shifted-from : (a k l : ℕ) (ys zs : List Request) → a ≤ length ys → Shifted k l (drop a ys) zs
+    → Shifted (a + k) (a + l) ys (take a ys ++ zs)
+shifted-from a k l ys zs h s =
+    record {
+      others =
+          behind l zs ∙ ap (λ (ws : List Request). take a ys ++ ws) (s .others) ∙ sym (behind k (drop a ys))
+          ∙ ap (removeAt (a + k)) (take-append-drop a ys);
+    }
+  where
+    behind : (i : ℕ) (ws : List Request) → removeAt (a + i) (take a ys ++ ws) ≡ take a ys ++ removeAt i ws
+    behind i ws = rw (length-take-le a ys h) at (remove-behind (take a ys) ws i)
+
+module _ (a i : ℕ) (ys : List Request) (h : a ≤ i) (k : i < length ys) where
+  pub far-within : i - a < length (drop a ys)
+  far-within = rw (length-drop a ys) (omega arith)
+
+  -- between a and i, the way that `up` says
+  pub moved : (up : Bool) (zs : List Request) → Shifted (cond up (i - a) 0) (cond up 0 (i - a)) (drop a ys) zs
+      → Shifted (cond up i a) (cond up a i) ys (take a ys ++ zs)
+  moved up zs s = go up (shifted-from a (cond up (i - a) 0) (cond up 0 (i - a)) ys zs (omega arith) s)
+    where
+      far : a + (i - a) ≡ i
+      far = omega arith
+
+      go : (b : Bool) → Shifted (a + cond b (i - a) 0) (a + cond b 0 (i - a)) ys (take a ys ++ zs)
+          → Shifted (cond b i a) (cond b a i) ys (take a ys ++ zs)
+      go true t = rw (far, add-zero) at t
+      go false t = rw (far, add-zero) at t
 
 -- ---- an exchange
 

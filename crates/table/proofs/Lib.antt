@@ -1,3 +1,4 @@
 pub mod Calls
+pub mod Ends
 pub mod Laws
 pub mod Walk

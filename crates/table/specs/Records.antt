@@ -25,7 +25,3 @@ takenOut out at r ys = cond (areIn out at ys) (getD ys out zeroRequest) r
 -- the records but for one place: from one table to the other that place moved from `from` to `to`
 pub record Shifted (from to : ℕ) (before after : List Request) : Type 0 where
   pub others : removeAt to after ≡ removeAt from before
-
--- the client of a record, or its deadline
-abbrev pub fieldOf : Bool → Request → ℕ
-fieldOf client w = cond client (w .client) (w .deadline)

@@ -1,12 +1,12 @@
-// The waiting table, a lent slice of request records: read one, write one, exchange one for another, clear, copy a field out.
+// The waiting table, a lent slice of request records: read one, write one, exchange one for another, clear, copy deadlines out.
 use spec::types::Request;
 ghost use Prim.Native.Nat.{_+_, _-_, _<_, _≤_};
 ghost use mathlib.Core.Path.{_≡_};
 ghost use mathlib.Core.Bool.{true, false, cond};
-ghost use mathlib.Core.List.{_++_, map};
+ghost use mathlib.Core.List.{_++_};
 ghost use lib.ListN.{length, getD, set, take, drop, replicate};
-ghost use Rattle.spec.specs.Tables.{zeroRequest};
-ghost use Rattle.table.specs.Records.{exchanged, takenOut, Shifted, fieldOf};
+ghost use Rattle.spec.specs.Tables.{zeroRequest, deadlinesOf};
+ghost use Rattle.table.specs.Records.{exchanged, takenOut, Shifted};
 
 // One record.
 pub fn get(t: &[Request], i: usize) -> Request
@@ -36,12 +36,16 @@ fn next(i: usize, up: bool) -> usize
 }
 
 // Every record from one place to another moves by one, over the first place. The second is free then: whatever it holds, all
-// others stand as they should.
-fn shift(t: &mut [Request], from: usize, to: usize)
-    requires { ⌜ (from < length (now t)) × (to < length (now t)) ⌝ }
+// others stand as they should. `up` says that the second is nearer to the front, as in `next`.
+fn shift(t: &mut [Request], from: usize, to: usize, up: bool)
+    requires { ⌜
+        (from < length (now t))
+        × (to < length (now t))
+        × (up ≡ true → to ≤ from)
+        × (up ≡ false → from ≤ to)
+        ⌝ }
     ensures { λ _. ⌜ Shifted from to (now (t .entry)) (now (t .exit)) ⌝ }
 {
-    let up = to < from;
     let mut i = from;
     while i != to {
         let j = next(i, up);
@@ -49,6 +53,45 @@ fn shift(t: &mut [Request], from: usize, to: usize)
         put(t, i, w);
         i = j;
     }
+}
+
+// The records up to `last` move by one to the front, over the first. The constants tell the compiler which way the loop goes, so
+// that it moves them as one block.
+fn to_front(t: &mut [Request], last: usize)
+    requires { ⌜ last < length (now t) ⌝ }
+    ensures { λ _. ⌜ Shifted 0 last (now (t .entry)) (now (t .exit)) ⌝ }
+{
+    shift(t, 0, last, false);
+}
+
+// The same to the back, over the one at `last`.
+fn to_back(t: &mut [Request], last: usize)
+    requires { ⌜ last < length (now t) ⌝ }
+    ensures { λ _. ⌜ Shifted last 0 (now (t .entry)) (now (t .exit)) ⌝ }
+{
+    shift(t, last, 0, true);
+}
+
+// The one or the other. Each way stays a block only where the choice is made here, over a part that the caller lends.
+fn rotate(t: &mut [Request], last: usize, up: bool)
+    requires { ⌜ last < length (now t) ⌝ }
+    ensures { λ _. ⌜ Shifted (cond up last 0) (cond up 0 last) (now (t .entry)) (now (t .exit)) ⌝ }
+{
+    if up {
+        return to_back(t, last);
+    }
+    to_front(t, last)
+}
+
+// Every record between two places moves by one, over the one at `out`: a shift, on the part that begins at the nearer place.
+fn move_between(t: &mut [Request], out: usize, at: usize)
+    requires { ⌜ (out < length (now t)) × (at < length (now t)) ⌝ }
+    ensures { λ _. ⌜ Shifted out at (now (t .entry)) (now (t .exit)) ⌝ }
+{
+    if at < out {
+        return rotate(&mut t[at..], out - at, true);
+    }
+    rotate(&mut t[out..], at - out, false)
 }
 
 // r is put in at `at` for the record at `out`, which is handed back; those between move by one. Where one of the places is not
@@ -65,7 +108,7 @@ pub fn exchange(t: &mut [Request], out: usize, at: usize, r: Request) -> Request
         return r;
     }
     let gone = get(t, out);
-    shift(t, out, at);
+    move_between(t, out, at);
     put(t, at, r);
     gone
 }
@@ -87,16 +130,6 @@ pub fn clear(t: &mut [Request], n: usize)
     }
 }
 
-// A record's client where `client`, else its deadline.
-fn field(w: Request, client: bool) -> u64
-    ensures { λ r. ⌜ r ≡ fieldOf client w ⌝ }
-{
-    if client {
-        return w.client;
-    }
-    w.deadline
-}
-
 // One number written.
 fn store(xs: &mut [u64], i: usize, x: u64)
     requires { ⌜ i < length (now xs) ⌝ }
@@ -105,16 +138,15 @@ fn store(xs: &mut [u64], i: usize, x: u64)
     xs[i] = x;
 }
 
-// One field of each of the first n records, copied out; entries beyond are untouched.
-pub fn column(t: &[Request], out: &mut [u64], n: usize, client: bool)
+// The deadlines of the first n records, copied out; entries beyond are untouched.
+pub fn deadlines(t: &[Request], out: &mut [u64], n: usize)
     requires { ⌜ (n ≤ length (now t)) × (n ≤ length (now out)) ⌝ }
-    ensures { λ _. ⌜ now (out .exit) ≡ map (fieldOf client) (take n (now (t .entry))) ++ drop n (now (out .entry)) ⌝ }
+    ensures { λ _. ⌜ now (out .exit) ≡ deadlinesOf (take n (now (t .entry))) ++ drop n (now (out .entry)) ⌝ }
 {
     let mut i = 0;
     while i < n {
         let w = get(t, i);
-        let x = field(w, client);
-        store(out, i, x);
+        store(out, i, w.deadline);
         i += 1;
     }
 }

@@ -1,174 +1,183 @@
--- What a submit comes to: the new request's place, what the search finds, the candidates and the victim; and what is decided by
--- what the new request meets. Assumes nothing.
-use Prim.Native.Nat.{ℕ, zero, suc, _+_, _≤_, _<_}
-use mathlib.Core.Path.{_≡_, refl, sym, ap, fun-ext, _∙_}
-use mathlib.Core.Bool.{Bool, true, false, cond}
-use mathlib.Core.List.{List, [], _∷_, map}
+-- What an accepted submit comes to: the new request's place, what the search finds, the candidates and the victim, by each
+-- client's last candidate. Assumes nothing.
+use Prim.Native.Nat.{ℕ, suc, _+_, _%_, _≤_, _<_}
+use mathlib.Core.Path.{_≡_, refl, sym, ap, subst, _∙_}
+use mathlib.Core.Logic.{_≢_}
+use mathlib.Core.Bool.{true, false, cond}
+use mathlib.Core.List.{List, _∷_, map}
 use native.Mathlib.Nat.{zero-add}
 use native.Mathlib.Omega.{arith}
 use borrow.Author.Tests.{le-leb, leb-true}
-use lib.Dec.{leb, eqb}
-use lib.ListN.{length, getD, drop, List·getD-map}
+use lib.Dec.{leb}
+use lib.ListN.{length, getD, take, drop, replicate, List·getD-map, length-map, length-take, length-replicate, getD-replicate}
+use lib.ListN.{List·getD-eq-default}
+use lib.Seq.{getD-take, getD-at, length-take-le}
 use Rattle.slots.proofs.Laws.Sums.{all-imp}
-use Rattle.slots.proofs.Laws.Tests.{Test, holds, fails, test, Same, same-yes, same-no, same, le, gt, order}
+use Rattle.slots.proofs.Laws.Tests.{le, gt, order}
 use Rattle.spec.specs.declared.types.Head.{Head}
 use Rattle.spec.specs.declared.types.Request.{Request}
 use Rattle.spec.specs.declared.types.Counts.{Counts}
-use Rattle.spec.specs.Tables.{zeroRequest, zeroCounts, State, waiting, deadlinesOf, clientsOf}
+use Rattle.spec.specs.Tables.{mostClients, zeroRequest, zeroCounts, State, waiting, deadlinesOf, clientsOf}
 use Rattle.spec.specs.Order.{placeOf, putInOrder}
 use Rattle.spec.specs.Chart.{roomTo, dueBy, hasNoOverfull, Search}
-use Rattle.spec.specs.Victim.{isCandidate, candidatesFrom, candidates, keepIf, countsAt, betterOf, smallestOf, victimOf}
-use Rattle.spec.specs.Refusals.{firstMatch, submitRefusals}
-use Rattle.spec.specs.Calls.{newRequest, countedIn, withNew, victimPlace}
-use Rattle.spec.proofs.Laws.Order.{InOrder}
-use Rattle.spec.proofs.Laws.Feasible.{due-yes, due-no, dueBy-cons, dueBy-none, dueBy-put, Verdict, fine, over}
+use Rattle.spec.specs.Victim.{isCandidate, hasSmallerRatio}
+use Rattle.spec.specs.Calls.{change, oneMoreSubmitted, newRequest, countedIn, withNew, victimPlace}
+use Rattle.spec.proofs.Laws.Order.{InOrder, all-put}
+use Rattle.spec.proofs.Laws.Feasible.{due-yes, due-no, dueBy-put, dueBy-none, dueBy-mono, Verdict, fine, over}
 use Rattle.spec.proofs.Laws.Feasible.{verdict, feasible-facts, feasible-test}
 use Rattle.spec.proofs.Calls.Fair.{candidate-finish, finish-candidate, helps-exactly, new-ordered}
-use Rattle.spec.proofs.Laws.Sound.{Given}
+use Rattle.spec.proofs.Calls.Victim.{victim-least, victim-last, victim-place, counted-some}
+use Rattle.spec.proofs.Laws.Sound.{Given, Ahead, Owned}
 use Rattle.spec.proofs.Laws.Accepted.{SubmitReady, submit-ready}
-use Rattle.spec.proofs.Laws.Every.{value, is-true, is-false, same-test}
+use Rattle.spec.proofs.Laws.Every.{value, is-true, is-false, same-test, all-at}
 use Rattle.spec.proofs.Laws.Places.{Roomy, feasible-roomy}
-use Rattle.columns.specs.declared.search.Overfull.{Overfull}
-use Rattle.columns.specs.declared.search.Overfull.the-variants.{None, At}
-use Rattle.columns.specs.Scans.{overfullFrom, putAt, smallestFrom}
-use Rattle.columns.proofs.Fields.{column-insert}
-use Rattle.decide.specs.declared.types.Fit.{Fit}
-use Rattle.decide.specs.declared.types.Fit.the-variants.{Refused, All, Over}
+use Rattle.search.specs.Scans.{overfullFrom, latestOf, putAt, countsWith, Countable, Wins}
+use Rattle.search.proofs.Fields.{column-insert, take-put}
+use Rattle.search.proofs.Latest.{Source, before, placed, source, latest-least}
 use Rattle.decide.specs.declared.types.Decision.{Decision}
-use Rattle.decide.specs.declared.types.Decision.the-variants.{Refuse, Keep, Drop}
-use Rattle.decide.specs.Decisions.{dueByFound, acceptedFit, submitFit, submitChoice, submitDecision}
-use Rattle.decide.proofs.Choosing.Searched.{none-before, few-due, place-due, search-skip, overfullOf, search-same}
+use Rattle.decide.specs.declared.types.Decision.the-variants.{Keep, Drop}
+use Rattle.decide.specs.Decisions.{submitChoice, Found}
+use Rattle.decide.proofs.Choosing.Searched.{few-due, place-due, search-skip, overfullOf, search-same, due-early}
+use Rattle.decide.proofs.Choosing.Searched.{early-due}
 
--- ---- the candidates: the places up to the last request that is due by the smallest overfull deadline
-placesFrom : ℕ → ℕ → List ℕ
-placesFrom i zero = []
-placesFrom i (suc n) = i ∷ placesFrom (suc i) n
+-- nothing is known of any client
+abbrev unmarked : List ℕ
+unmarked = replicate mostClients 0
 
--- where a place is a candidate's just if its deadline is at most D
-from-places : (head : Head) (D : ℕ) (all : List Request) (i : ℕ) (ws : List Request) → InOrder ws
-    → ((k : ℕ) → k < length ws → isCandidate head all (i + k) ≡ leb (getD ws k zeroRequest .deadline) D)
-    → candidatesFrom head all i ws ≡ placesFrom i (dueBy D ws)
-unfolding candidatesFrom placesFrom
-from-places head D all i [] o c = ap (placesFrom i) (sym (dueBy-none D [] tt))
-from-places head D all i (w ∷ ws) o c =
-    rw (first) (go (leb (w .deadline) D) (test (w .deadline) D)
-    (from-places head D all (suc i) ws (o .1)
-    (λ k h. let e : suc i + k ≡ i + suc k = omega arith in rw e (c (suc k) (omega arith)))))
-  where
-    first : isCandidate head all i ≡ leb (w .deadline) D
-    first = let e : i + 0 ≡ i = omega arith in rw e at (c 0 (omega arith))
+unmarked-zero : (c : ℕ) → _≡_ {A = ℕ} (getD unmarked c 0) 0
+unmarked-zero c =
+    elim (order (suc c) mostClients) [
+      | le k ↦ getD-replicate {A = ℕ} mostClients c 0 0 k
+      | gt k ↦ List·getD-eq-default unmarked 0 {n = c} (omega (arith, length-replicate {A = ℕ} mostClients 0))
+    ]
 
-    go : (x : Bool) → Test (w .deadline) D x → candidatesFrom head all (suc i) ws ≡ placesFrom (suc i) (dueBy D ws)
-        → keepIf x i (candidatesFrom head all (suc i) ws) ≡ placesFrom i (dueBy D (w ∷ ws))
-    go true (holds h) e =
-        let n : dueBy D (w ∷ ws) ≡ suc (dueBy D ws) = omega (arith, dueBy-cons D w ws, due-yes D w h) in
-        rw (n, e)
-    go false (fails h) e =
-        let n : dueBy D ws ≡ 0 = none-before D w ws (omega arith) (o .0) in
-        let m : dueBy D (w ∷ ws) ≡ 0 = omega (arith, dueBy-cons D w ws, due-no D w (omega arith)) in
-        rw (m, e, n)
+-- a client's counts, the new request counted
+abbrev pub countsIn : ℕ → State → ℕ → Counts
+countsIn client s c = getD (countedIn client s) c zeroCounts
 
--- the best of them
-smallest-places : (cs : List Counts) (ws : List Request) (i more : ℕ)
-    → smallestOf cs ws (placesFrom i (suc more)) ≡ smallestFrom (countsAt cs ws) i more
-unfolding smallestOf smallestFrom placesFrom
-smallest-places cs ws i zero = refl
-smallest-places cs ws i (suc more) = ap (betterOf cs ws i) (smallest-places cs ws (suc i) more)
+-- of each client the last of the requests that are due by D, the new one among them
+abbrev pub latestBy : ℕ → ℕ → State → ℕ → List ℕ
+latestBy client deadline s D =
+    latestOf 1 (putAt (dueBy deadline (waiting s)) client (take (dueBy D (waiting s)) (clientsOf (waiting s)))) unmarked
 
--- ---- an accepted submit
--- what the search over the deadlines finds, what the new request then meets, and what is to be done
-pub data Chosen (place : ℕ) (ws : List Request) (victim : ℕ → ℕ) : Overfull → Fit → Decision → Type 0 where
-  keeps : Chosen place ws victim None (All place) (Keep place)
-  drops : (D : ℕ) → Chosen place ws victim (At D) (Over place (dueBy D ws)) (Drop place (victim (dueBy D ws)))
-
--- the counts of the client at a place k, with the new request at its own place and counted
-abbrev pub countsBy : ℕ → State → ℕ → ℕ → Counts
-countsBy client s place k = getD (countedIn client s) (getD (putAt place client (clientsOf (waiting s))) k 0) zeroCounts
-
--- the victim among the candidates up to the last one's place
-abbrev pub victimBy : ℕ → State → ℕ → ℕ → ℕ
-victimBy client s place last = smallestFrom (countsBy client s place) 0 last
+-- what the search over the deadlines finds, and what is to be done
+pub data Chosen (client deadline : ℕ) (s : State) : ℕ → Decision → Type 0 where
+  keeps : Chosen client deadline s 0 (Keep (dueBy deadline (waiting s)))
+  drops : (D : ℕ) → 0 < D → dueBy deadline (waiting s) ≤ dueBy D (waiting s)
+      → Countable (countsIn client s) (latestBy client deadline s D) (s .head .clients)
+      → 0 < getD (latestBy client deadline s D) client 0
+      → ((v : ℕ) → Wins (countsIn client s) (latestBy client deadline s D) (s .head .clients) v
+      → v ≡ victimPlace client deadline s)
+      → Chosen client deadline s D (Drop (dueBy deadline (waiting s)) (victimPlace client deadline s))
 
 module _ (client deadline : ℕ) (s : State) (r : SubmitReady client deadline s) where
   abbrev head : Head
   head = s .head
 
+  abbrev ws : List Request
+  ws = waiting s
+
   abbrev all : List Request
   all = withNew client deadline s
 
-  place : placeOf (newRequest client deadline s) (waiting s) ≡ dueBy deadline (waiting s)
+  abbrev at : ℕ
+  at = dueBy deadline (waiting s)
+
+  place : placeOf (newRequest client deadline s) ws ≡ at
   place =
-      place-due (newRequest client deadline s) (waiting s)
-      (all-imp (Given (s .head .last)) (λ (w : Request). w .number < suc (s .head .last)) (waiting s) (λ w g. omega arith)
+      place-due (newRequest client deadline s) ws
+      (all-imp (Given (s .head .last)) (λ (w : Request). w .number < suc (s .head .last)) ws (λ w g. omega arith)
       (r .ready .sound .given))
       (r .ready .sound .ordered)
 
-  -- a column with the new request's entry
-  column : (f : Request → ℕ) → map f (withNew client deadline s)
-      ≡ putAt (dueBy deadline (waiting s)) (f (newRequest client deadline s)) (map f (waiting s))
+  -- a field of all requests, with the new one's
+  column : (f : Request → ℕ) → map f all ≡ putAt at (f (newRequest client deadline s)) (map f ws)
   unfolding putInOrder
-  column f = column-insert f (placeOf new (waiting s)) new (waiting s) ∙ rw place
+  column f = column-insert f (placeOf new ws) new ws ∙ rw place
     where
       new : Request
       new = newRequest client deadline s
 
-  same-counts : (k : ℕ) → countsAt (countedIn client s) all k ≡ countsBy client s (dueBy deadline (waiting s)) k
-  same-counts k =
-      ap (λ (c : ℕ). getD (countedIn client s) c zeroCounts)
-      (sym (List·getD-map (λ (w : Request). w .client) all k zeroRequest)
-      ∙ ap (λ (l : List ℕ). getD l k 0) (column (λ (w : Request). w .client)))
-
   -- those before the new one have room as they had
-  same-search :
-      overfullFrom head (dueBy deadline (waiting s)) (deadline ∷ drop (dueBy deadline (waiting s)) (deadlinesOf (waiting s)))
-      ≡ overfullFrom head 0 (deadlinesOf all)
+  same-search : overfullFrom head at (deadline ∷ drop at (deadlinesOf ws)) ≡ overfullFrom head 0 (deadlinesOf all)
   same-search =
       rw (column (λ (w : Request). w .deadline))
-      (sym (rw zero-add at (search-skip head 0 (dueBy deadline (waiting s)) (waiting s)
-      (deadline ∷ drop (dueBy deadline (waiting s)) (deadlinesOf (waiting s))) (few-due deadline (waiting s)) roomy)))
+      (sym (rw zero-add at (search-skip head 0 at ws (deadline ∷ drop at (deadlinesOf ws)) (few-due deadline ws) roomy)))
     where
-      roomy : Roomy head 0 (waiting s)
-      roomy =
-          feasible-roomy head (waiting s) (r .ready .sound .ordered)
-          (feasible-test head (waiting s) (r .ready .sound .feasible))
+      roomy : Roomy head 0 ws
+      roomy = feasible-roomy head ws (r .ready .sound .ordered) (feasible-test head ws (r .ready .sound .feasible))
 
-  -- the new one is due by an overfull deadline, since without it there was room
-  due-new : (D : ℕ) → roomTo head D < dueBy D all → dueBy D all ≡ suc (dueBy D (waiting s))
-  due-new D h =
-      elim (order deadline D) [
-        | le k ↦ omega (
-          arith,
-          dueBy-put D (newRequest client deadline s) (waiting s),
-          due-yes D (newRequest client deadline s) k,
-        )
+  ordered : InOrder all
+  ordered = new-ordered client deadline s r
+
+  -- every deadline is past the clock
+  positive : (D : ℕ) → 0 < dueBy D all → 0 < D
+  positive D h =
+      elim (order 1 D) [
+        | le k ↦ k
         | gt k ↦ absurd (omega (
           arith,
-          dueBy-put D (newRequest client deadline s) (waiting s),
-          due-no D (newRequest client deadline s) k,
-          r .ready .sound .feasible D,
+          dueBy-none D all (all-put (λ (w : Request). D < w .deadline) (newRequest client deadline s) ws (omega (arith, r .late))
+              (all-imp (Ahead (s .head .clock)) (λ (w : Request). D < w .deadline) ws (λ w a. omega (arith, a))
+              (r .ready .sound .ahead))),
         ))
       ]
 
+  -- each client exists
+  owned : (k : ℕ) → k < length all → getD all k zeroRequest .client < head .clients
+  owned k h =
+      all-at (Owned (head .clients)) all k zeroRequest h
+      (all-put (Owned (head .clients)) (newRequest client deadline s) ws (r .exists) (r .ready .sound .owned))
+
   module _ (D : ℕ) (h : roomTo head D < dueBy D all) (g : (x : ℕ) → x < D → dueBy x all ≤ roomTo head x) where
+    abbrev last : ℕ
+    last = dueBy D ws
+
+    -- the new one is due by an overfull deadline, since without it there was room
+    new-due : deadline ≤ D
+    new-due =
+        elim (order deadline D) [
+          | le k ↦ k
+          | gt k ↦ absurd (omega (
+            arith,
+            dueBy-put D (newRequest client deadline s) ws,
+            due-no D (newRequest client deadline s) k,
+            r .ready .sound .feasible D,
+          ))
+        ]
+
+    due-all : dueBy D all ≡ suc last
+    due-all =
+        omega (
+          arith,
+          dueBy-put D (newRequest client deadline s) ws,
+          due-yes D (newRequest client deadline s) new-due,
+        )
+
+    -- the candidates stand up to the last one
     is-candidate : (k : ℕ) → k < length all → isCandidate head all k ≡ leb (getD all k zeroRequest .deadline) D
     is-candidate k i =
         same-test (isCandidate head all k) (leb (getD all k zeroRequest .deadline) D)
         (λ e. le-leb (getD all k zeroRequest .deadline) D
-        (helps-exactly client deadline s r D h g k i .0 (candidate-finish head all k (new-ordered client deadline s r) e)))
+        (helps-exactly client deadline s r D h g k i .0 (candidate-finish head all k ordered e)))
         (λ e. finish-candidate head all k
         (helps-exactly client deadline s r D h g k i .1 (leb-true (getD all k zeroRequest .deadline) D e)))
 
-    places : candidates head all ≡ placesFrom 0 (suc (dueBy D (waiting s)))
-    places =
-        from-places head D all 0 all (new-ordered client deadline s r) (λ k i. rw zero-add (is-candidate k i))
-        ∙ ap (placesFrom 0) (due-new D h)
+    inside : (k : ℕ) → k ≤ last → k < length all
+    inside k l = omega (arith, few-due D all, due-all)
 
-    victim : victimPlace client deadline s ≡ victimBy client s (dueBy deadline (waiting s)) (dueBy D (waiting s))
-    unfolding victimOf
-    victim =
-        ap (smallestOf (countedIn client s) all) places
-        ∙ smallest-places (countedIn client s) all 0 (dueBy D (waiting s))
-        ∙ ap (λ (f : ℕ → Counts). smallestFrom f 0 (dueBy D (waiting s))) (fun-ext same-counts)
+    candidate : (k : ℕ) → k ≤ last → isCandidate head all k ≡ true
+    candidate k l =
+        is-candidate k (inside k l)
+        ∙ le-leb (getD all k zeroRequest .deadline) D (due-early D k all ordered (omega (arith, due-all)))
+
+    up-to-last : (k : ℕ) → k < length all → isCandidate head all k ≡ true → k ≤ last
+    up-to-last k i e =
+        omega (
+          arith,
+          due-all,
+          early-due D k all ordered i (leb-true (getD all k zeroRequest .deadline) D (sym (is-candidate k i) ∙ e)),
+        )
 
     over-full : hasNoOverfull head all ≡ false
     over-full =
@@ -177,65 +186,197 @@ module _ (client deadline : ℕ) (s : State) (r : SubmitReady client deadline s)
           | is-false e ↦ e
         ]
 
-  pub chosen :
-      Chosen (dueBy deadline (waiting s)) (waiting s) (victimBy client s (dueBy deadline (waiting s)))
-      (overfullFrom head (dueBy deadline (waiting s))
-      (deadline ∷ drop (dueBy deadline (waiting s)) (deadlinesOf (waiting s))))
-      (acceptedFit client deadline s) (submitChoice client deadline s)
-  unfolding acceptedFit submitChoice
+    -- ---- the clients of the candidates, in chart order
+    abbrev theirs : List ℕ
+    theirs = putAt at client (take last (clientsOf ws))
+
+    first-ones : take (suc last) (clientsOf all) ≡ theirs
+    first-ones =
+        ap (take (suc last)) (column (λ (w : Request). w .client))
+        ∙ take-put at client last (clientsOf ws) (dueBy-mono deadline D ws new-due)
+        (omega (arith, few-due deadline ws, length-map ws (λ (w : Request). w .client)))
+
+    long : length theirs ≡ suc last
+    long =
+        ap length (sym first-ones)
+        ∙ omega (arith, length-take (suc last) (clientsOf all), length-map all (λ (w : Request). w .client), inside last (omega arith))
+
+    whose : (k : ℕ) → k ≤ last → getD theirs k 0 ≡ getD all k zeroRequest .client
+    whose k l =
+        ap (λ (l : List ℕ). getD l k 0) (sym first-ones)
+        ∙ getD-take (suc last) (clientsOf all) k 0 (omega arith)
+        ∙ List·getD-map (λ (w : Request). w .client) all k zeroRequest
+
+    entry : (k : ℕ) → k ≤ last → getD theirs k 0 % mostClients ≡ getD all k zeroRequest .client
+    entry k l = omega (arith, whose k l, owned k (inside k l), r .ready .sound .headed .most-clients)
+
+    abbrev latest : List ℕ
+    latest = latestOf 1 theirs unmarked
+
+    size : length unmarked ≡ mostClients
+    size = length-replicate {A = ℕ} mostClients 0
+
+    -- a candidate's client has its place or a later one
+    at-least : (k : ℕ) → k ≤ last → 1 + k ≤ getD latest (getD all k zeroRequest .client) 0
+    at-least k l =
+        subst (λ (c : ℕ). 1 + k ≤ getD latest c 0) (entry k l)
+        (latest-least 1 theirs unmarked size (λ j. omega (arith, unmarked-zero j)) k (omega (arith, long)))
+
+    -- a place that is noted of a client is that of a candidate of its own
+    data Noted (c : ℕ) : ℕ → Type 0 where
+      nothing : Noted c 0
+      noted : (k : ℕ) → k ≤ last → getD all k zeroRequest .client ≡ c → Noted c (1 + k)
+
+    noted-of : (c : ℕ) → Noted c (getD latest c 0)
+    noted-of c = go (source 1 theirs unmarked c size)
+      where
+        go : {v : ℕ} → Source 1 theirs unmarked c v → Noted c v
+        go before = subst (Noted c) (sym (unmarked-zero c)) nothing
+        go (placed k i e) =
+            let l : k ≤ last = omega (arith, long) in noted k l (sym (entry k l) ∙ e)
+
+    -- ---- the victim: the client that wins is its client, and the place the client's last
+    abbrev counts : ℕ → Counts
+    counts = countsIn client s
+
+    -- no ratio has the divisor 0
+    pub countable : Countable counts latest (head .clients)
+    countable c l some = go (noted-of c) some
+      where
+        go : {v : ℕ} → Noted c v → 0 < v → 1 ≤ counts c .submitted
+        go nothing h = absurd (omega arith)
+        go (noted k i e) h =
+            subst (λ (x : ℕ). 1 ≤ counts x .submitted) e (counted-some client deadline s r k (inside k i))
+
+    -- the new request is a candidate
+    pub new-noted : 0 < getD latest client 0
+    new-noted =
+        let l : at ≤ last = dueBy-mono deadline D ws new-due in
+        let k : at ≤ length (take last (clientsOf ws)) =
+        omega (arith, l, length-take last (clientsOf ws), length-map ws (λ (w : Request). w .client), few-due D ws) in
+        let own : getD theirs at 0 ≡ client =
+        getD-at (take at (take last (clientsOf ws))) client (drop at (take last (clientsOf ws))) 0 at
+        (length-take-le at (take last (clientsOf ws)) k) in
+        omega (arith, subst (λ (c : ℕ). 1 + at ≤ getD latest c 0) (sym (whose at l) ∙ own) (at-least at l))
+
+    pub victim-same : (v : ℕ) → Wins counts latest (head .clients) v → v ≡ victimPlace client deadline s
+    victim-same v w = omega (arith, before-victim, behind-victim)
+      where
+        p : ℕ
+        p = victimPlace client deadline s
+
+        theirs-of : ℕ → ℕ
+        theirs-of k = getD all k zeroRequest .client
+
+        victim : (p < length all) × (isCandidate head all p ≡ true)
+        victim = victim-place client deadline s r
+
+        p-last : p ≤ last
+        p-last = up-to-last p (victim .0) (victim .1)
+
+        -- the place is a candidate's of the client that wins
+        mine : (v ≤ last) × (theirs-of v ≡ w .owner)
+        mine = go (noted-of (w .owner)) (w .here)
+          where
+            go : {x : ℕ} → Noted (w .owner) x → x ≡ suc v → (v ≤ last) × (theirs-of v ≡ w .owner)
+            go nothing e = absurd (omega arith)
+            go (noted k l e) q = let z : k ≡ v = omega arith in (omega arith, ap theirs-of (sym z) ∙ e)
+
+        no-less : hasSmallerRatio (counts (theirs-of v)) (counts (theirs-of p)) ≡ false
+        no-less =
+            victim-least head (countedIn client s) all v (inside v (mine .0)) (candidate v (mine .0))
+            (counted-some client deadline s r)
+
+        behind-victim : v ≤ p
+        behind-victim =
+            victim-last head (countedIn client s) all v (inside v (mine .0)) (candidate v (mine .0))
+            (counted-some client deadline s r)
+            (ap (λ (c : ℕ). hasSmallerRatio (counts (theirs-of p)) (counts c)) (mine .1)
+            ∙ w .least (theirs-of p) (owned p (victim .0)) (omega (arith, at-least p p-last)))
+
+        before-victim : p ≤ v
+        before-victim =
+            omega (
+              arith,
+              at-least p p-last,
+              w .last (theirs-of p) (owned p (victim .0)) (omega (arith, at-least p p-last))
+                  (ap (λ (c : ℕ). hasSmallerRatio (counts c) (counts (theirs-of p))) (sym (mine .1)) ∙ no-less),
+            )
+
+  pub chosen : Chosen client deadline s (overfullFrom head at (deadline ∷ drop at (deadlinesOf ws))) (submitChoice client deadline s)
+  unfolding submitChoice
   chosen = rw (same-search, search-same head all ordered, place) (go (verdict head all ordered))
     where
-      ordered : InOrder all
-      ordered = new-ordered client deadline s r
-
       go : {f : Search} → Verdict head all f
-          → Chosen (dueBy deadline (waiting s)) (waiting s) (victimBy client s (dueBy deadline (waiting s))) (overfullOf f)
-          (cond (hasNoOverfull head all)
-          (All (dueBy deadline (waiting s)))
-          (Over (dueBy deadline (waiting s)) (dueByFound f (waiting s))))
-          (cond (hasNoOverfull head all)
-          (Keep (dueBy deadline (waiting s)))
-          (Drop (dueBy deadline (waiting s)) (victimPlace client deadline s)))
+          → Chosen client deadline s (overfullOf f)
+          (cond (hasNoOverfull head all) (Keep at) (Drop at (victimPlace client deadline s)))
       go (fine f) = rw (feasible-test head all f) keeps
-      go (over D h g) = rw (over-full D h g, victim D h g) (drops D)
+      go (over D h g) =
+          rw (over-full D h g)
+          (drops D (positive D (omega arith)) (dueBy-mono deadline D ws (new-due D h g)) (countable D h g) (new-noted D h g) (victim-same D h g))
 
--- ---- the second step
--- where one is dropped none is refused, and both places are at most as large as the count of the waiting requests
-pub record Drops (client deadline : ℕ) (s : State) (place last : ℕ) (d : Decision) : Type 0 where
-  pub ready : SubmitReady client deadline s
-  pub place-most : place ≤ length (waiting s)
-  pub last-most : last ≤ length (waiting s)
-  pub decision : Drop place (victimBy client s place last) ≡ d
-
--- what is decided, by what the new request meets
-abbrev pub Decided : ℕ → ℕ → State → Fit → Decision → Type 0
-Decided client deadline s (Refused number) d = Refuse number ≡ d
-Decided client deadline s (All place) d = Keep place ≡ d
-Decided client deadline s (Over place last) d = Drops client deadline s place last d
-
-pub decided : (client deadline : ℕ) (s : State)
-    → Decided client deadline s (submitFit client deadline s) (submitDecision client deadline s)
-unfolding submitFit submitDecision
-decided client deadline s = go (eqb number 0) (same number 0)
+-- the last candidate does not stand before the new request
+pub place-last : (client deadline : ℕ) (s : State) → SubmitReady client deadline s → {found : ℕ}
+    → found ≡ overfullFrom (s .head) (dueBy deadline (waiting s))
+    (deadline ∷ drop (dueBy deadline (waiting s)) (deadlinesOf (waiting s)))
+    → 0 < found → dueBy deadline (waiting s) ≤ dueBy found (waiting s)
+place-last client deadline s r {found} e some = go (chosen client deadline s r) e
   where
-    number : ℕ
-    number = firstMatch (submitRefusals client deadline s)
+    go : {x : ℕ} {d : Decision} → Chosen client deadline s x d → found ≡ x → dueBy deadline (waiting s) ≤ dueBy found (waiting s)
+    go keeps q = absurd (omega arith)
+    go (drops D h l c n v) q = subst (λ (x : ℕ). dueBy deadline (waiting s) ≤ dueBy x (waiting s)) (sym q) l
 
-    accepted : SubmitReady client deadline s → {o : Overfull} {f : Fit} {d : Decision}
-        → Chosen (dueBy deadline (waiting s)) (waiting s) (victimBy client s (dueBy deadline (waiting s))) o f d
-        → Decided client deadline s f d
-    accepted r keeps = refl
-    accepted r (drops D) =
-        record {
-          ready = r;
-          place-most = few-due deadline (waiting s);
-          last-most = few-due D (waiting s);
-          decision = refl;
-        }
+-- ---- by what the searches found
+module _
+    {client deadline : ℕ} {head : Head} {latest su se dr : List ℕ} {place found : ℕ} {s : State}
+    (f : Found client deadline head latest su se dr place found s) where
+  ready : SubmitReady client deadline s
+  ready = submit-ready client deadline s (f .accepted)
 
-    go : (x : Bool) → Same number 0 x
-        → Decided client deadline s (cond x (acceptedFit client deadline s) (Refused number))
-        (cond x (submitChoice client deadline s) (Refuse number))
-    go true (same-yes e) =
-        let r = submit-ready client deadline s e in accepted r (chosen client deadline s r)
-    go false (same-no e) = refl
+  what : Chosen client deadline s found (submitChoice client deadline s)
+  what = subst (λ (x : ℕ). Chosen client deadline s x (submitChoice client deadline s)) (sym e) (chosen client deadline s ready)
+    where
+      e : found ≡ overfullFrom (s .head) (dueBy deadline (waiting s))
+          (deadline ∷ drop (dueBy deadline (waiting s)) (deadlinesOf (waiting s)))
+      e =
+          f .searched
+          ∙ ap (λ (k : ℕ). overfullFrom (s .head) k (deadline ∷ drop k (deadlinesOf (waiting s)))) (f .placed)
+
+  pub choice-keeps : found ≡ 0 → Keep place ≡ submitChoice client deadline s
+  choice-keeps z = go what z
+    where
+      go : {x : ℕ} {d : Decision} → Chosen client deadline s x d → x ≡ 0 → Keep place ≡ d
+      go keeps e = ap Keep (f .placed)
+      go (drops D some l c n v) e = absurd (omega arith)
+
+  -- what the choice among the clients promises
+  abbrev Choice : (ℕ → Counts) → List ℕ → ℕ → ℕ → Type 0
+  Choice counts xs n victim =
+      Countable counts xs n → (c : ℕ) → c < n → 0 < getD xs c 0 → Wins counts xs n victim
+
+  -- it is one among the state's clients
+  of-state : (D victim : ℕ) → latest ≡ latestBy client deadline s D → Choice (countsWith client su se dr) latest (head .clients) victim
+      → Choice (countsIn client s) (latestBy client deadline s D) (s .head .clients) victim
+  of-state D victim e w =
+      subst (λ (n : ℕ). Choice (countsIn client s) (latestBy client deadline s D) n victim)
+      (ap (λ (h : Head). h .clients) (sym (f .head-same)))
+      (subst (λ (cs : List Counts). Choice (λ c. getD (change oneMoreSubmitted client cs) c zeroCounts)
+      (latestBy client deadline s D) (head .clients) victim) (sym (f .counts-same))
+      (subst (λ (xs : List ℕ). Choice (countsWith client su se dr) xs (head .clients) victim) e w))
+
+  pub choice-drops : found ≢ 0 → {victim : ℕ} → Choice (countsWith client su se dr) latest (head .clients) victim
+      → Drop place victim ≡ submitChoice client deadline s
+  choice-drops n {victim} w = go what n (f .marked)
+    where
+      go : {x : ℕ} {d : Decision} → Chosen client deadline s x d → x ≢ 0
+          → (0 < x → latest
+          ≡ latestOf 1 (putAt place client (take (dueBy x (waiting s)) (clientsOf (waiting s)))) (replicate mostClients 0))
+          → Drop place victim ≡ d
+      go keeps k m = absurd (k refl)
+      go (drops D some l countable new same) k m =
+          let e : latest ≡ latestBy client deadline s D =
+          m some
+          ∙ ap (λ (j : ℕ). latestOf 1 (putAt j client (take (dueBy D (waiting s)) (clientsOf (waiting s)))) unmarked)
+          (f .placed) in
+          let v = same victim (of-state D victim e w countable client (ready .exists) new) in
+          ap (λ (j : ℕ). Drop j victim) (f .placed) ∙ ap (Drop (dueBy deadline (waiting s))) v

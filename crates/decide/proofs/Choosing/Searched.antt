@@ -1,28 +1,25 @@
 -- The place of a new request and the smallest overfull deadline, read off the column of deadlines. Assumes nothing.
 use Prim.Native.Nat.{ℕ, zero, suc, _+_, _≤_, _<_}
-use mathlib.Core.Path.{_≡_, refl, sym, ap}
 use mathlib.Core.Bool.{Bool, true, false, cond}
 use mathlib.Core.List.{List, [], _∷_, _++_}
+use mathlib.Core.Path.{_≡_, refl, sym}
 use native.Mathlib.Omega.{arith}
-use borrow.Author.Tests.{le-ltb}
 use lib.Dec.{leb, ltb}
 use lib.ListN.{length, getD, take}
+use borrow.Author.Tests.{le-ltb}
+use Rattle.search.specs.Scans.{Sorted, overfullFrom}
 use Rattle.slots.proofs.Laws.Sums.{All, all-imp, all-each}
 use Rattle.slots.proofs.Laws.Tests.{Test, holds, fails, test, le, gt, order}
-use Rattle.spec.specs.Tables.{deadlinesOf}
+use Rattle.spec.proofs.Laws.Every.{all-two, count-most}
+use Rattle.spec.proofs.Laws.Feasible.{due-yes, due-no, dueBy-cons, dueBy-none, Verdict, fine, over, verdict, feasible-test}
+use Rattle.spec.proofs.Laws.Order.{Before, InOrder, Compared, before, after, After, later, alike-later, compared, before-deadline}
+use Rattle.spec.proofs.Laws.Places.{Roomy, feasible-roomy}
+use Rattle.spec.proofs.Laws.Room.{room-mono}
+use Rattle.spec.specs.Chart.{roomTo, dueBy, Search, nothing, found, firstOverfull}
+use Rattle.spec.specs.Order.{comesBefore, placeOf}
+use Rattle.spec.specs.Tables.{zeroRequest, deadlinesOf}
 use Rattle.spec.specs.declared.types.Head.{Head}
 use Rattle.spec.specs.declared.types.Request.{Request}
-use Rattle.spec.specs.Order.{comesBefore, placeOf}
-use Rattle.spec.specs.Chart.{roomTo, dueBy, Search, nothing, found, firstOverfull}
-use Rattle.spec.proofs.Laws.Order.{Before, InOrder, Compared, before, after, After, later, alike-later, compared}
-use Rattle.spec.proofs.Laws.Order.{before-deadline}
-use Rattle.spec.proofs.Laws.Feasible.{due-yes, due-no, dueBy-cons, dueBy-none, Verdict, fine, over, verdict, feasible-test}
-use Rattle.spec.proofs.Laws.Every.{all-two, count-most}
-use Rattle.spec.proofs.Laws.Room.{room-mono}
-use Rattle.spec.proofs.Laws.Places.{Roomy, feasible-roomy}
-use Rattle.columns.specs.declared.search.Overfull.{Overfull}
-use Rattle.columns.specs.declared.search.Overfull.the-variants.{None, At}
-use Rattle.columns.specs.Scans.{Sorted, overfullFrom}
 
 -- none of these is due before a number that is smaller than the first one's deadline
 pub none-before : (D : ℕ) (w : Request) (ws : List Request) → D < w .deadline → All (Before w) ws → dueBy D ws ≡ 0
@@ -32,6 +29,30 @@ none-before D w ws h a =
 pub few-due : (D : ℕ) (ws : List Request) → dueBy D ws ≤ length ws
 unfolding dueBy
 few-due D ws = count-most (λ w. leb (w .deadline) D) ws
+
+-- in chart order those that are due by D are the first ones
+pub due-early : (D k : ℕ) (ws : List Request) → InOrder ws → k < dueBy D ws → getD ws k zeroRequest .deadline ≤ D
+due-early D k [] o h = absurd (omega (arith, dueBy-none D [] tt))
+due-early D k (w ∷ ws) o h =
+    elim (order (w .deadline) D) [
+      | le g ↦ first k h g (λ j l. due-early D j ws (o .1) l)
+      | gt g ↦ absurd (omega (arith, dueBy-cons D w ws, due-no D w g, none-before D w ws g (o .0)))
+    ]
+  where
+    first : (k : ℕ) → k < dueBy D (w ∷ ws) → w .deadline ≤ D
+        → ((j : ℕ) → j < dueBy D ws → getD ws j zeroRequest .deadline ≤ D) → getD (w ∷ ws) k zeroRequest .deadline ≤ D
+    first zero h g f = g
+    first (suc k) h g f = f k (omega (arith, dueBy-cons D w ws, due-yes D w g))
+
+pub early-due : (D k : ℕ) (ws : List Request) → InOrder ws → k < length ws → getD ws k zeroRequest .deadline ≤ D → k < dueBy D ws
+early-due D k [] o l h = absurd (omega arith)
+early-due D zero (w ∷ ws) o l h = omega (arith, dueBy-cons D w ws, due-yes D w h)
+early-due D (suc k) (w ∷ ws) o l h =
+    let n = early-due D k ws (o .1) (omega arith) h in
+    elim (order (w .deadline) D) [
+      | le g ↦ omega (arith, n, dueBy-cons D w ws, due-yes D w g)
+      | gt g ↦ absurd (omega (arith, n, none-before D w ws g (o .0)))
+    ]
 
 -- ---- the place: behind all with deadlines up to the new one's
 pub place-due : (r : Request) (ws : List Request) → All (λ (w : Request). w .number < r .number) ws → InOrder ws
@@ -81,7 +102,7 @@ below-later head D i w ws v b f h =
     omega (arith, f h, dueBy-cons (v .deadline) w ws, due-yes (v .deadline) w (before-deadline w v b))
 
 search-over : (head : Head) (D i : ℕ) (ws : List Request) → InOrder ws → i ≤ roomTo head D → roomTo head D < i + dueBy D ws
-    → All (Below head D i ws) ws → overfullFrom head i (deadlinesOf ws) ≡ At D
+    → All (Below head D i ws) ws → overfullFrom head i (deadlinesOf ws) ≡ D
 unfolding overfullFrom
 search-over head D i [] o h f a = absurd (omega (arith, dueBy-none D [] tt))
 search-over head D i (w ∷ ws) o h f a =
@@ -109,12 +130,12 @@ search-over head D i (w ∷ ws) o h f a =
         ]
 
     go : (x : Bool) → Test (suc (roomTo head (w .deadline))) (suc i) x
-        → (suc i ≤ roomTo head D → overfullFrom head (suc i) (deadlinesOf ws) ≡ At D)
-        → cond x (At (w .deadline)) (overfullFrom head (suc i) (deadlinesOf ws)) ≡ At D
-    go true (holds g) ih = ap At (here (omega arith))
+        → (suc i ≤ roomTo head D → overfullFrom head (suc i) (deadlinesOf ws) ≡ D)
+        → cond x (w .deadline) (overfullFrom head (suc i) (deadlinesOf ws)) ≡ D
+    go true (holds g) ih = here (omega arith)
     go false (fails g) ih = ih (omega (arith, room-mono head (head .clock) (w .deadline) D early))
 
-search-none : (head : Head) (i : ℕ) (ws : List Request) → Roomy head i ws → overfullFrom head i (deadlinesOf ws) ≡ None
+search-none : (head : Head) (i : ℕ) (ws : List Request) → Roomy head i ws → overfullFrom head i (deadlinesOf ws) ≡ 0
 unfolding overfullFrom
 search-none head i [] r = refl
 search-none head i (w ∷ ws) r =
@@ -131,9 +152,9 @@ search-skip head i (suc k) (w ∷ ws) ds h r =
     rw (le-ltb (roomTo head (w .deadline)) (suc i) (r .0), e) (search-skip head (suc i) k ws ds (omega arith) (r .1))
 
 -- so it finds what the definition's search does
-abbrev pub overfullOf : Search → Overfull
-overfullOf nothing = None
-overfullOf (found D) = At D
+abbrev pub overfullOf : Search → ℕ
+overfullOf nothing = 0
+overfullOf (found D) = D
 
 pub search-same : (head : Head) (ws : List Request) → InOrder ws
     → overfullFrom head 0 (deadlinesOf ws) ≡ overfullOf (firstOverfull head ws)

@@ -1,138 +1,126 @@
--- What a submit comes to, in two steps, by the columns that show a state: what the new request meets, by the deadlines, and the
--- victim, by the clients and the counts. Assumes nothing.
-use Prim.Native.Nat.{ℕ, _≤_, _<_}
-use mathlib.Core.Path.{_≡_, refl, sym, ap, fun-ext, _∙_}
-use mathlib.Core.Logic.{_≢_}
-use mathlib.Core.Bool.{Bool, true, _&&_}
+-- What the searches over the lent records find of an accepted submit is what its decision is told. Assumes nothing.
+use Prim.Native.Nat.{ℕ, _+_, _%_, _≤_, _<_, min}
+use mathlib.Core.Path.{_≡_, refl, sym, ap, subst, _∙_}
 use mathlib.Core.List.{List, _∷_}
 use native.Mathlib.Omega.{arith}
-use borrow.Author.Tests.{leb-true, ltb-true, le-leb, lt-ltb}
-use lib.Dec.{leb, ltb}
-use lib.ListN.{length, getD, take, drop}
+use lib.Dec.{leb}
+use lib.ListN.{length, getD, take, drop, set, replicate, length-take, length-map}
+use lib.Seq.{take-take, length-take-le}
 use Rattle.spec.specs.declared.types.Head.{Head}
-use Rattle.spec.specs.declared.types.Counts.{Counts}
 use Rattle.spec.specs.declared.types.Request.{Request}
 use Rattle.spec.specs.Every.{countIf}
-use Rattle.spec.specs.Tables.{State, waiting, deadlinesOf, clientsOf}
+use Rattle.spec.specs.Tables.{mostClients, mostRecords, clockEnd, State, waiting, deadlinesOf, clientsOf}
 use Rattle.spec.specs.Chart.{dueBy}
 use Rattle.spec.specs.Refusals.{firstMatch, submitRefusals}
-use Rattle.spec.proofs.Laws.Every.{and-left, and-right}
 use Rattle.spec.proofs.Laws.Accepted.{SubmitReady, submit-ready}
-use Rattle.columns.specs.declared.search.Overfull.{Overfull}
-use Rattle.columns.specs.declared.search.Overfull.the-variants.{None, At}
-use Rattle.columns.specs.Columns.{countsOf, largest32}
-use Rattle.columns.specs.Scans.{Sorted, overfullFrom, putAt, countsWith, smallestFrom}
-use Rattle.columns.proofs.Fields.{due-column}
-use Rattle.decide.specs.declared.types.Fit.{Fit}
-use Rattle.decide.specs.declared.types.Fit.the-variants.{Refused, All, Over}
-use Rattle.decide.specs.declared.types.Decision.{Decision}
-use Rattle.decide.specs.declared.types.Decision.the-variants.{Drop}
-use Rattle.decide.specs.Decisions.{acceptedFit, submitFit, submitDecision}
+use Rattle.columns.specs.Columns.{stateOf, largest32}
+use Rattle.search.specs.Scans.{Sorted, overfullFrom, latestOf, putAt}
+use Rattle.search.proofs.Fields.{field-take, due-column}
+use Rattle.search.proofs.Latest.{latest-parts}
+use Rattle.decide.specs.Decisions.{Found}
 use Rattle.decide.proofs.Choosing.Searched.{sorted}
-use Rattle.decide.proofs.Choosing.Chosen.{Chosen, keeps, drops, countsBy, chosen, Drops, Decided, decided}
-use Rattle.decide.proofs.States.{refused, goes-on, filled, column-long, small}
+use Rattle.decide.proofs.Choosing.Chosen.{place-last}
+use Rattle.decide.proofs.States.{small}
 
--- ---- the first step
--- what was found says which it is
-none-fits : {place : ℕ} {ws : List Request} {victim : ℕ → ℕ} {o : Overfull} {f : Fit} {d : Decision}
-    → Chosen place ws victim o f d → o ≡ None → All place ≡ f
-none-fits keeps e = refl
-none-fits (drops D) e = absurd (let z : _≡_ {A = ℕ} 0 1 = cc in omega arith)
+-- what a search for a place finds
+abbrev pub Placed : ℕ → List Request → ℕ → ℕ → Type 0
+Placed n ws D r = (r ≤ n) × (Sorted (take n (deadlinesOf ws)) → r ≡ countIf (λ d. leb d D) (take n (deadlinesOf ws)))
 
-at-over : {place : ℕ} {ws : List Request} {victim : ℕ → ℕ} {o : Overfull} {f : Fit} {d : Decision} (D : ℕ)
-    → Chosen place ws victim o f d → o ≡ At D → Over place (dueBy D ws) ≡ f
-at-over D keeps e = absurd (let z : _≡_ {A = ℕ} 0 1 = cc in omega arith)
-at-over {place} {ws} D (drops E) e = let z : D ≡ E = cc in ap (λ (x : ℕ). Over place (dueBy x ws)) z
+module _ (head : Head) (ws : List Request) (su se dr : List ℕ) (client deadline : ℕ)
+    (accepted : firstMatch (submitRefusals client deadline (stateOf head ws su se dr)) ≡ 0) where
+  abbrev s : State
+  s = stateOf head ws su se dr
 
-module _
-    {head : Head} (ds : List ℕ) (client deadline : ℕ) (s : State) {t : ℕ}
-    (found : t ≡ firstMatch (submitRefusals client deadline s)) (same : s .head ≡ head)
-    (shown : t ≡ 0 → deadlinesOf (waiting s) ≡ take (head .waiting) ds) where
-  pub fit-refused : t ≢ 0 → Refused t ≡ submitFit client deadline s
-  unfolding submitFit
-  fit-refused n = sym (refused (acceptedFit client deadline s) Refused (submitRefusals client deadline s) found n)
+  abbrev n : ℕ
+  n = head .waiting
 
-  module _ (none : t ≡ 0) where
-    ready : SubmitReady client deadline s
-    ready = submit-ready client deadline s (sym found ∙ none)
+  ready : SubmitReady client deadline s
+  ready = submit-ready client deadline s accepted
 
-    fit-goes : {f : Fit} → f ≡ acceptedFit client deadline s → f ≡ submitFit client deadline s
-    unfolding submitFit
-    fit-goes e = e ∙ sym (goes-on (acceptedFit client deadline s) Refused (submitRefusals client deadline s) found none)
+  -- ---- what the searches ask
+  pub waits : n ≤ length ws
+  waits = ready .ready .shape .waits
 
-    pub deadlines-long : head .waiting ≤ length ds
-    deadlines-long = column-long ready same (λ w. w .deadline) ds (shown none)
+  pub few : n ≤ mostRecords
+  few = omega (arith, waits, ready .ready .shape .most-records)
 
-    pub column-sorted : Sorted (take (head .waiting) ds)
-    column-sorted = rw (shown none) at (sorted (waiting s) (ready .ready .sound .ordered))
+  pub clock : head .clock ≤ clockEnd
+  clock = ready .ready .sound .headed .clock
 
-    due-shown : (D : ℕ) → countIf (λ d. leb d D) (take (head .waiting) ds) ≡ dueBy D (waiting s)
-    due-shown D = rw (shown none) at (due-column D (waiting s))
+  pub clients : head .clients ≤ mostClients
+  clients = ready .ready .sound .headed .most-clients
 
-    module _ (place : ℕ) (placed : place ≡ countIf (λ d. leb d deadline) (take (head .waiting) ds)) where
-      there : dueBy deadline (waiting s) ≡ place
-      there = sym (placed ∙ due-shown deadline)
+  pub rises : getD su client 0 < largest32
+  rises = small ready refl su se dr refl
 
-      same-found :
-          overfullFrom head place (deadline ∷ drop place (take (head .waiting) ds))
-          ≡ overfullFrom (s .head) (dueBy deadline (waiting s))
-          (deadline ∷ drop (dueBy deadline (waiting s)) (deadlinesOf (waiting s)))
-      same-found = cc (there, same, shown none)
+  -- ---- what they find
+  due : (D r : ℕ) → Placed n ws D r → r ≡ dueBy D (waiting s)
+  due D r p =
+      p .1 (subst Sorted (sym (field-take (λ w. w .deadline) n ws)) (sorted (waiting s) (ready .ready .sound .ordered)))
+      ∙ ap (countIf (λ d. leb d D)) (field-take (λ w. w .deadline) n ws)
+      ∙ due-column D (waiting s)
 
-      pub fit-all : {o : Overfull} → o ≡ None → o ≡ overfullFrom head place (deadline ∷ drop place (take (head .waiting) ds))
-          → All place ≡ submitFit client deadline s
-      fit-all e h =
-          fit-goes (ap All (sym there) ∙ none-fits (chosen client deadline s ready) (sym (h ∙ same-found) ∙ e))
+  module _ (place found last before : ℕ) (placed : Placed n ws deadline place)
+      (searched : found ≡ overfullFrom head place (deadline ∷ drop place (take n (deadlinesOf ws))))
+      (ended : Placed n ws found last) (fewer : before ≡ min place last) where
+    searched-state : found ≡ overfullFrom head place (deadline ∷ drop place (deadlinesOf (waiting s)))
+    searched-state =
+        searched
+        ∙ ap (λ (l : List ℕ). overfullFrom head place (deadline ∷ drop place l)) (field-take (λ w. w .deadline) n ws)
 
-      pub fit-over : (D last : ℕ) {o : Overfull} → o ≡ At D
-          → o ≡ overfullFrom head place (deadline ∷ drop place (take (head .waiting) ds))
-          → last ≡ countIf (λ d. leb d D) (take (head .waiting) ds) → Over place last ≡ submitFit client deadline s
-      fit-over D last e h l =
-          fit-goes (cc (there, l, due-shown D) ∙ at-over D (chosen client deadline s ready) (sym (h ∙ same-found) ∙ e))
+    module _ (l₁ l₂ l₃ : List ℕ) (first : l₁ ≡ latestOf (0 + 1) (drop 0 (take before (clientsOf ws))) (replicate mostClients 0))
+        (second : l₂ ≡ set l₁ (client % mostClients) (place + 1))
+        (third : l₃ ≡ latestOf (place + 2) (drop place (take last (clientsOf ws))) l₂) where
+      marked : 0 < found
+          → l₃ ≡ latestOf 1 (putAt place client (take (dueBy found (waiting s)) (clientsOf (waiting s)))) (replicate mostClients 0)
+      marked some =
+          third
+          ∙ ap (latestOf (place + 2) (drop place (take last cs)))
+          (second ∙ ap (λ (l : List ℕ). set l (client % mostClients) (place + 1))
+          (first ∙ same-first))
+          ∙ latest-parts (take place (take last cs)) (drop place (take last cs)) client (replicate mostClients 0) place long
+          ∙ ap (λ (l : List ℕ). latestOf 1 (putAt place client l) (replicate mostClients 0)) (sym theirs)
+        where
+          cs : List ℕ
+          cs = clientsOf ws
 
--- ---- the second step
--- what the new request meets says what is decided
-pub fit-decides : (client deadline : ℕ) (s : State) {f g : Fit} → f ≡ g → f ≡ submitFit client deadline s
-    → Decided client deadline s g (submitDecision client deadline s)
-fit-decides client deadline s e h = rw (sym e ∙ h) (decided client deadline s)
+          behind : place ≤ last
+          behind =
+              omega (
+                arith,
+                due deadline place placed,
+                due found last ended,
+                place-last client deadline s ready
+                    (searched-state
+                    ∙ ap (λ (k : ℕ). overfullFrom head k (deadline ∷ drop k (deadlinesOf (waiting s)))) (due deadline place placed))
+                    some,
+              )
 
--- what the run-time tests say that passed
-pub tests-tell : (n entries place last count : ℕ) {rises : Bool} → rises ≡ ltb count largest32
-    → (leb place n && leb last n && leb n entries) && rises ≡ true
-    → (n ≤ entries) × (place ≤ n) × (last ≤ n) × (count < largest32)
-tests-tell n entries place last count {rises} e t =
-    let p = and-left (leb place n && leb last n && leb n entries) rises t in
-    let q = and-left (leb place n && leb last n) (leb n entries) p in (
-      leb-true n entries (and-right (leb place n && leb last n) (leb n entries) p),
-      leb-true place n (and-left (leb place n) (leb last n) q),
-      leb-true last n (and-right (leb place n) (leb last n) q),
-      ltb-true count largest32 (sym e ∙ and-right (leb place n && leb last n && leb n entries) rises t),
-    )
+          theirs : take (dueBy found (waiting s)) (clientsOf (waiting s)) ≡ take last cs
+          theirs =
+              ap (λ (k : ℕ). take k (clientsOf (waiting s))) (sym (due found last ended))
+              ∙ ap (take last) (sym (field-take (λ w. w .client) n ws))
+              ∙ take-take last n cs (ended .0)
 
-module _
-    {head : Head} (cs su se dr : List ℕ) {s : State} {client deadline place last : ℕ}
-    (over : Drops client deadline s place last (submitDecision client deadline s)) (same : s .head ≡ head)
-    (counts : s .clientTable ≡ countsOf su se dr) (shown : clientsOf (waiting s) ≡ take (head .waiting) cs) where
-  -- where the columns show the state, the tests pass
-  pub tests-pass : (rises : Bool) → rises ≡ ltb (getD su client 0) largest32
-      → (leb place (head .waiting) && leb last (head .waiting) && leb (head .waiting) (length cs)) && rises ≡ true
-  tests-pass rises e =
-      let f = filled (over .ready) same in
-      rw (
-        e,
-        le-leb place (head .waiting) (omega (arith, over .place-most, f)),
-        le-leb last (head .waiting) (omega (arith, over .last-most, f)),
-        le-leb (head .waiting) (length cs) (column-long (over .ready) same (λ w. w .client) cs shown),
-        lt-ltb (getD su client 0) largest32 (small (over .ready) same su se dr counts),
-      )
+          same-first : latestOf (0 + 1) (drop 0 (take before cs)) (replicate mostClients 0)
+              ≡ latestOf 1 (take place (take last cs)) (replicate mostClients 0)
+          same-first =
+              let e : before ≡ place = omega (arith, behind) in
+              ap (λ (l : List ℕ). latestOf 1 l (replicate mostClients 0))
+              (ap (λ (k : ℕ). take k cs) e ∙ sym (take-take place last cs behind))
 
-  same-counts : (k : ℕ)
-      → countsWith client su se dr (getD (putAt place client (take (head .waiting) cs)) k 0) ≡ countsBy client s place k
-  same-counts k = cc (shown, counts)
+          long : length (take place (take last cs)) ≡ place
+          long =
+              length-take-le place (take last cs)
+              (omega (arith, behind, ended .0, waits, length-take last cs, length-map ws (λ (w : Request). w .client)))
 
-  pub decision-drops : (victim : ℕ)
-      → victim ≡ smallestFrom
-      (λ k. countsWith client su se dr (getD (putAt place client (take (head .waiting) cs)) k 0)) 0 last
-      → Drop place victim ≡ submitDecision client deadline s
-  decision-drops victim v =
-      ap (Drop place) (v ∙ ap (λ (f : ℕ → Counts). smallestFrom f 0 last) (fun-ext same-counts)) ∙ over .decision
+      pub found-all : Found client deadline head l₃ su se dr place found s
+      found-all =
+          record {
+            accepted = accepted;
+            head-same = refl;
+            counts-same = refl;
+            placed = due deadline place placed;
+            searched = searched-state;
+            marked = marked;
+          }

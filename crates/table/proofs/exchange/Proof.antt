@@ -1,4 +1,4 @@
--- `table::exchange` meets its contract: a walk with an early return and three calls, `get`, `shift` and `put`. Two laws on
+-- `table::exchange` meets its contract: a walk with an early return and three calls, `get`, `move_between` and `put`. Two laws on
 -- lists say what is left (`Laws.antt`'s `untouched` and `replaced`).
 -- Assumes nothing.
 use mathlib.Core.Path.{_≡_, refl, sym, _∙_, subst}
@@ -15,7 +15,7 @@ use prog.Memory.{Memory}
 use prog.Routine.{Routine}
 use prog.Wp.{Heap, Calls, Loops, WpFn, Tables}
 use ghost.Atoms.{Atoms}
-use contract.Monad.{Fun, fact, factI}
+use contract.Monad.{Fun}
 use contract.Running.{givenOf, tables, tablesOf}
 use types.Kit.{Given, ‵, _⊛_, ⋆, _$_, _∵_, !, qed, by, move, drop, split, join, fsplit, fjoin, suffices, frame, done}
 use types.Part.{agg, whole, sub, look-in}
@@ -23,7 +23,7 @@ use types.Run.{look, init, store, forget, stop, hop, fld, from, load, addr, of-o
 use sound.WpLaws.{FmC, fmOf, WpFn-mono}
 use denote.RattleType.{owns}
 use denote.Laws.{Is}
-use denote.Plain.{Nothing, uint-vals, uint-tells, uint-makes}
+use denote.Plain.{uint-vals, uint-tells, uint-makes}
 use denote.Builtin.{usize}
 use denote.Ref.{RefT}
 use denote.Slice.{sliceVal, MutSlice, Room, slice-vals, mut-slice-tells}
@@ -39,17 +39,17 @@ use Rattle.spec.specs.declared.types.Request.{Request}
 use Rattle.spec.specs.Tables.{zeroRequest}
 use Rattle.table.specs.Records.{areIn, takenOut, exchanged, Shifted}
 use Rattle.table.proofs.Walk.Rows.{R, mach, vals, tells, makes, lawful}
-use Rattle.table.proofs.Walk.Steps.{branches-then, into-assign, skips-then, lands-unit}
+use Rattle.table.proofs.Walk.Steps.{branches-then, into-assign, skips-then}
 use Rattle.table.proofs.Walk.Lent.{own-at, of-slice, seen}
-use Rattle.table.proofs.Walk.Loans.{Param, loan, number, bound, relent, calls-with}
-use Rattle.table.proofs.Calls.{Get, Shift, Put, calls-get, calls-put}
+use Rattle.table.proofs.Walk.Loans.{Loan, Param, loan, number, bound, relent, calls-on}
+use Rattle.table.proofs.Calls.{Get, MoveBetween, Put, calls-get, calls-put}
 use Rattle.table.proofs.Laws.{not-not, untouched, both-in, replaced}
 use Rattle.table.proofs.get.Symbol as get-def
 use Rattle.table.proofs.get.Symbol.{name as #table·get}
 use Rattle.table.proofs.get.Met as get-thm
-use Rattle.table.proofs.shift.Symbol as shift-def
-use Rattle.table.proofs.shift.Symbol.{name as #table·shift}
-use Rattle.table.proofs.shift.Met as shift-thm
+use Rattle.table.proofs.move_between.Symbol as move-between-def
+use Rattle.table.proofs.move_between.Symbol.{name as #table·move-between}
+use Rattle.table.proofs.move_between.Met as move-between-thm
 use Rattle.table.proofs.put.Symbol as put-def
 use Rattle.table.proofs.put.Symbol.{name as #table·put}
 use Rattle.table.proofs.put.Met as put-thm
@@ -82,7 +82,7 @@ module _ {M : Type 1} (𝓤 : URA M) (H : Heap 𝓤) (A : Atoms 𝓤) (W : Given
       nothing ! $ owned ! R (Is R) (makes 𝓤 H A W) r _ r-is $ fjoin ! $ owned ! usize (Is usize) (uint-makes 𝓤 H A W w64) at _ (refl, at-fits) $ fjoin ! $ owned ! usize (Is usize) (uint-makes 𝓤 H A W w64) out _ (refl, out-fits) $ fjoin ! $ move ! (1 ∷ 0 ∷ []) $ fjoin ! $ frame ! $
       owned ! R (Is R) (makes 𝓤 H A W) g _ is $ done !
 
-  module _ (C : Calls 𝓤 H) (Λ : Loops 𝓤 H) (fm : FmC 𝓤 H (W .laws) C) (known-get : Triple 𝓤 (C #table·get) (Get 𝓤 H A mem run)) (known-shift : Triple 𝓤 (C #table·shift) (Shift 𝓤 H A mem run)) (known-put : Triple 𝓤 (C #table·put) (Put 𝓤 H A mem run)) where
+  module _ (C : Calls 𝓤 H) (Λ : Loops 𝓤 H) (fm : FmC 𝓤 H (W .laws) C) (known-get : Triple 𝓤 (C #table·get) (Get 𝓤 H A mem run)) (known-move : Triple 𝓤 (C #table·move-between) (MoveBetween 𝓤 H A mem run)) (known-put : Triple 𝓤 (C #table·put) (Put 𝓤 H A mem run)) where
     walk : Room R n → ent 𝓤 (onEntry 𝓤 H A f.signature (κ, tt) (q, tt) x vss) (WpFn 𝓤 H C Λ code.function (sliceVal (b, o) n ∷ vint w64 out ∷ vint w64 at ∷ mach r ∷ []) Post)
     walk room =
         qed W ((‵ (flft κ q) ⊛ ‵ ftrue) ∷ ‵ (owns (MutSlice (named 0) κ R ∷ usize ∷ usize ∷ R ∷ []) x vss) ∷ []) ∵ enter ! C Λ code.function (sliceVal (b, o) n ∷ vint w64 out ∷ vint w64 at ∷ mach r ∷ []) _ $
@@ -110,15 +110,12 @@ module _ {M : Type 1} (𝓤 : URA M) (H : Heap 𝓤) (A : Atoms 𝓤) (W : Given
         assigns ! (agg ! (and-then ! (load ! (from ! (stop !)) (look ! 14 refl)) (and-then ! (load ! (from ! (fld ! refl (stop !))) (look-in ! 32 (sub ! 1 refl (whole !)))) (no-more !)))) (from ! (stop !)) (init ! 12 refl (tt, (tt, (record { fits = room .0 }, tt)))) $
         fjoin ! $ calls-get ! mem run fm known-get (seen W (of-slice W R (named 0) κ q γ b o ys n room refl)) out out-fits (within .0) (λ c. (and-then ! (load ! (from ! (stop !)) (look ! 12 refl)) (and-then ! (load ! (from ! (stop !)) (look ! 30 refl)) (no-more !)))) (λ is. fsplit ! $
         land ! (from ! (stop !)) (init ! 20 refl (lawful 𝓤 H A W .typed (getD ys out zeroRequest) _ is .0)) $
-        -- shift(t, out, at);
+        -- move_between(t, out, at);
         assigns ! (addr ! (from ! (fld ! refl (hop ! (look-in ! 32 (sub ! 0 refl (whole !))) (stop !))))) (from ! (stop !)) (init ! 8 refl (tt, tt)) $
         assigns ! (agg ! (and-then ! (load ! (from ! (stop !)) (look ! 8 refl)) (and-then ! (load ! (from ! (fld ! refl (stop !))) (look-in ! 32 (sub ! 1 refl (whole !)))) (no-more !)))) (from ! (stop !)) (init ! 6 refl (tt, (tt, (record { fits = room .0 }, tt)))) $
-        let ps : List (Param 𝓤 H A) = loan (relent W R (named 0) κ q γ b o ys n room refl) ∷ number W out out-fits ∷ number W at at-fits ∷ [] in
-        fjoin ! $ nothing ! $ move ! (1 ∷ 0 ∷ []) $ fjoin ! $ calls-with ! fm ps (fact 𝓤 ((out < n) × (at < n))) (factI 𝓤 _ (emp 𝓤) within) Nothing (λ u last. Shifted out at ys (last .0))
-        (λ c. known-shift (bound W ps c)) (λ c. (and-then ! (load ! (from ! (stop !)) (look ! 6 refl)) (and-then ! (load ! (from ! (stop !)) (look ! 30 refl)) (and-then ! (load ! (from ! (stop !)) (look ! 28 refl)) (no-more !))))) (λ w u last moved kept.
-        fsplit ! $ move ! (1 ∷ []) $ drop ! $ fsplit ! $ move ! (2 ∷ []) $ lands-unit ! w u (
-        let zs : List Request = last .0 in
-        let len : length zs ≡ n = kept .0 in
+        let table : Loan 𝓤 H A = relent W R (named 0) κ q γ b o ys n room refl in
+        let ps : List (Param 𝓤 H A) = number W out out-fits ∷ number W at at-fits ∷ [] in
+        fjoin ! $ calls-on ! fm table ps refl ((out < n) × (at < n)) within (Shifted out at ys) (λ c. known-move (bound W (loan table ∷ ps) c)) (λ c. (and-then ! (load ! (from ! (stop !)) (look ! 6 refl)) (and-then ! (load ! (from ! (stop !)) (look ! 30 refl)) (and-then ! (load ! (from ! (stop !)) (look ! 28 refl)) (no-more !))))) (λ zs moved len. fsplit ! $
         land ! (from ! (stop !)) (init ! 10 refl (tt, tt)) $
         -- put(t, at, r);
         assigns ! (addr ! (from ! (fld ! refl (hop ! (look-in ! 32 (sub ! 0 refl (whole !))) (stop !))))) (from ! (stop !)) (init ! 4 refl (tt, tt)) $
@@ -128,14 +125,14 @@ module _ {M : Type 1} (𝓤 : URA M) (H : Heap 𝓤) (A : Atoms 𝓤) (W : Given
         assigns ! (of-opd ! (load ! (from ! (stop !)) (look ! 20 refl))) (from ! (stop !)) (init ! 34 refl (lawful 𝓤 H A W .typed (getD ys out zeroRequest) _ is .0)) $
         returns ! (look ! 34 refl) $ forget ! 34 refl $ forget ! 32 refl $ forget ! 30 refl $ forget ! 28 refl $ forget ! 26 refl $ forget ! 24 refl $ forget ! 22 refl $ forget ! 20 refl $ forget ! 18 refl $ forget ! 16 refl $ forget ! 14 refl $ forget ! 12 refl $ forget ! 10 refl $ forget ! 8 refl $ forget ! 6 refl $ forget ! 4 refl $ forget ! 2 refl $
         move ! (34 ∷ 35 ∷ []) $ free1 ! $ move ! (32 ∷ 33 ∷ []) $ free1 ! $ move ! (30 ∷ 31 ∷ []) $ free1 ! $ move ! (28 ∷ 29 ∷ []) $ free1 ! $ move ! (26 ∷ 27 ∷ []) $ free1 ! $ move ! (24 ∷ 25 ∷ []) $ free1 ! $ move ! (22 ∷ 23 ∷ []) $ free1 ! $ move ! (20 ∷ 21 ∷ []) $ free1 ! $ move ! (18 ∷ 19 ∷ []) $ free1 ! $ move ! (16 ∷ 17 ∷ []) $ free1 ! $ move ! (14 ∷ 15 ∷ []) $ free1 ! $ move ! (12 ∷ 13 ∷ []) $ free1 ! $ move ! (10 ∷ 11 ∷ []) $ free1 ! $ move ! (8 ∷ 9 ∷ []) $ free1 ! $ move ! (6 ∷ 7 ∷ []) $ free1 ! $ move ! (4 ∷ 5 ∷ []) $ free1 ! $ move ! (2 ∷ 3 ∷ []) $ free1 ! $ free0 ! $
-        by ! (exits (getD ys out zeroRequest) (set zs at r) (replaced out at r ys zs both moved len) (length-set zs at r ∙ len) is))))))
+        by ! (exits (getD ys out zeroRequest) (set zs at r) (replaced out at r ys zs both moved len) (length-set zs at r ∙ len) is)))))
         )))))))))))))))))
 
-module _ {M : Type 1} (𝓤 : URA M) (H : Heap 𝓤) (A : Atoms 𝓤) (W : Given 𝓤 H A) (mem : Memory → SProp 𝓤) (run : Routine → Fun 𝓤) (𝓣 : Tables 𝓤 H) (known-get : Triple 𝓤 (𝓣 .C #table·get) (Get 𝓤 H A mem run)) (known-shift : Triple 𝓤 (𝓣 .C #table·shift) (Shift 𝓤 H A mem run)) (known-put : Triple 𝓤 (𝓣 .C #table·put) (Put 𝓤 H A mem run)) where
+module _ {M : Type 1} (𝓤 : URA M) (H : Heap 𝓤) (A : Atoms 𝓤) (W : Given 𝓤 H A) (mem : Memory → SProp 𝓤) (run : Routine → Fun 𝓤) (𝓣 : Tables 𝓤 H) (known-get : Triple 𝓤 (𝓣 .C #table·get) (Get 𝓤 H A mem run)) (known-move : Triple 𝓤 (𝓣 .C #table·move-between) (MoveBetween 𝓤 H A mem run)) (known-put : Triple 𝓤 (𝓣 .C #table·put) (Put 𝓤 H A mem run)) where
   walks : Walks 𝓤 H A f.ended stayed (WpFn 𝓤 H (𝓣 .C) (𝓣 .Λ) code.function) (f.clauses 𝓤 H A mem run)
   walks = walked 𝓤 H A f.ended stayed (f.clauses 𝓤 H A mem run) (WpFn 𝓤 H (𝓣 .C) (𝓣 .Λ) code.function) (λ κs. (slice-vals, (uint-vals w64, (uint-vals w64, (vals, tt))))) (λ κs. (mut-slice-tells (named 0) (κs .0) R, (uint-tells w64, (uint-tells w64, (tells, tt)))))
       (λ κs qs bounds a g are. via 𝓤 _ (fst∗ 𝓤 _ (emp 𝓤))
-      (walk 𝓤 H A W mem run (κs .0) (qs .0) (a .0 .ptr .0) (a .0 .ptr .1) (a .0 .name) (a .0 .now) (a .1 .0) (a .1 .1 .0) (a .1 .1 .1 .0) (are .1 .0 .1) (are .1 .1 .0 .1) (are .1 .1 .1 .0) (𝓣 .C) (𝓣 .Λ) (fmOf 𝓤 H (W .laws) 𝓣) known-get known-shift known-put (are .0 .0 .1)))
+      (walk 𝓤 H A W mem run (κs .0) (qs .0) (a .0 .ptr .0) (a .0 .ptr .1) (a .0 .name) (a .0 .now) (a .1 .0) (a .1 .1 .0) (a .1 .1 .1 .0) (are .1 .0 .1) (are .1 .1 .0 .1) (are .1 .1 .1 .0) (𝓣 .C) (𝓣 .Λ) (fmOf 𝓤 H (W .laws) 𝓣) known-get known-move known-put (are .0 .0 .1)))
 
   meets : Meets 𝓤 H A f.signature (WpFn 𝓤 H (𝓣 .C) (𝓣 .Λ) code.function) (f.spec 𝓤 H A mem run)
   meets = walk-meets 𝓤 H A f.ended stayed W (goes-slice 𝓤 H A W 1 0 tt (plain (λ _. R)), (goes-none 𝓤 H A W 1 (λ _. usize) yes (λ κs x f. refl), (goes-none 𝓤 H A W 1 (λ _. usize) yes (λ κs x f. refl), (goes-none 𝓤 H A W 1 (λ _. R) yes (λ κs x f. refl), tt)))) (f.clauses 𝓤 H A mem run)
@@ -148,5 +145,5 @@ exchange-spec 𝓤 H 𝓜 𝓖 𝓡 =
     (tables 𝓤 H 𝓜 𝓡 code.env .C) (tables 𝓤 H 𝓜 𝓡 code.env .Λ) #table·exchange code.function (code.unfolded 𝓤 H 𝓜 𝓡)
     (meets 𝓤 H (𝓖 .A) (givenOf 𝓤 H 𝓜 𝓖) (𝓜 .mem) (𝓡 .run) (tablesOf 𝓤 H 𝓜 (tables 𝓤 H 𝓜 𝓡 code.env))
     (cited 𝓤 H (Get 𝓤 H (𝓖 .A) (𝓜 .mem) (𝓡 .run)) 𝓜 𝓡 code.env #table·get get-def.routine code.calls-table·get (get-thm.met 𝓤 H 𝓜 𝓖 𝓡))
-    (cited 𝓤 H (Shift 𝓤 H (𝓖 .A) (𝓜 .mem) (𝓡 .run)) 𝓜 𝓡 code.env #table·shift shift-def.routine code.calls-table·shift (shift-thm.met 𝓤 H 𝓜 𝓖 𝓡))
+    (cited 𝓤 H (MoveBetween 𝓤 H (𝓖 .A) (𝓜 .mem) (𝓡 .run)) 𝓜 𝓡 code.env #table·move-between move-between-def.routine code.calls-table·move-between (move-between-thm.met 𝓤 H 𝓜 𝓖 𝓡))
     (cited 𝓤 H (Put 𝓤 H (𝓖 .A) (𝓜 .mem) (𝓡 .run)) 𝓜 𝓡 code.env #table·put put-def.routine code.calls-table·put (put-thm.met 𝓤 H 𝓜 𝓖 𝓡)))

@@ -43,7 +43,8 @@ use Rattle.table.proofs.Walk.Heads.{HeadT, the-head, head-val, head-vals, head-
 use Rattle.table.proofs.Walk.Steps.{lands-told, branches-then, into-assign, skips-then}
 use Rattle.table.proofs.Walk.Lent.{shr-at}
 use Rattle.table.proofs.Walk.Loans.{Param, number, loan, bound, passed, calls-with}
-use Rattle.sound.proofs.Contents.{Headed, refused, not-zero, is-zero}
+use Rattle.sound.proofs.Laws.{not-zero, is-zero}
+use Rattle.sound.proofs.Contents.{Headed, refused}
 use Rattle.columns.proofs.rows.shortest as shortest
 use Rattle.columns.proofs.rows.shortest.Symbol as shortest-def
 use Rattle.columns.proofs.rows.shortest.Symbol.{name as #shortest}

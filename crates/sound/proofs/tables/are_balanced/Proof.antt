@@ -1,6 +1,6 @@
 -- `sound::tables::are_balanced` meets its contract. Assumes nothing.
 use Prim.Native.Nat.{ℕ, _-_}
-use mathlib.Core.Path.{_≡_, refl, ap}
+use mathlib.Core.Path.{_≡_, refl, ap, _∙_}
 use mathlib.Core.Bool.{Bool, _&&_}
 use mathlib.Core.List.{List}
 use native.Mathlib.Omega.{arith}
@@ -13,6 +13,7 @@ use Rattle.columns.specs.Columns.{countOf, countsOf}
 use Rattle.columns.proofs.Laws.{rest-none}
 use Rattle.sound.specs.Checks.{talliedOf, doesBalance}
 use Rattle.sound.proofs.Laws.{left-cons, verdict-end, from-turn}
+use Rattle.sound.proofs.Tally.{four-parts}
 use Rattle.sound.proofs.tables.are_balanced.Statement.{statement}
 use Rattle.sound.proofs.tables.are_balanced.Tie as tie
 
@@ -40,11 +41,26 @@ mul-t10 c = search needs
 shared-slice-read-t12 : tie.Need-shared-slice-read-t12 Inv-loop μ-loop
 shared-slice-read-t12 c = search needs
 
+mul-t13 : tie.Need-mul-t13 Inv-loop μ-loop
+mul-t13 c = search needs
+
+shared-slice-read-t15 : tie.Need-shared-slice-read-t15 Inv-loop μ-loop
+shared-slice-read-t15 c = search needs
+
+mul-t16 : tie.Need-mul-t16 Inv-loop μ-loop
+mul-t16 c = search needs
+
+shared-slice-read-t18 : tie.Need-shared-slice-read-t18 Inv-loop μ-loop
+shared-slice-read-t18 c = search needs
+
 mul-does-balance : tie.Need-mul-does-balance Inv-loop μ-loop
 mul-does-balance c = search needs
 
 shared-slice-read-does-balance : tie.Need-shared-slice-read-does-balance Inv-loop μ-loop
 shared-slice-read-does-balance c = search needs
+
+add-does-balance : tie.Need-add-does-balance Inv-loop μ-loop
+add-does-balance c = search needs
 
 mul-does-balance-2 : tie.Need-mul-does-balance-2 Inv-loop μ-loop
 mul-does-balance-2 c = search needs
@@ -55,14 +71,23 @@ shared-slice-read-does-balance-2 c = search needs
 mul-does-balance-3 : tie.Need-mul-does-balance-3 Inv-loop μ-loop
 mul-does-balance-3 c = search needs
 
-shared-slice-read-does-balance-3 : tie.Need-shared-slice-read-does-balance-3 Inv-loop μ-loop
-shared-slice-read-does-balance-3 c = search needs
-
-add-does-balance : tie.Need-add-does-balance Inv-loop μ-loop
-add-does-balance c = search needs
+add-does-balance-2 : tie.Need-add-does-balance-2 Inv-loop μ-loop
+add-does-balance-2 c = search needs
 
 mul-does-balance-4 : tie.Need-mul-does-balance-4 Inv-loop μ-loop
 mul-does-balance-4 c = search needs
+
+shared-slice-read-does-balance-3 : tie.Need-shared-slice-read-does-balance-3 Inv-loop μ-loop
+shared-slice-read-does-balance-3 c = search needs
+
+mul-does-balance-5 : tie.Need-mul-does-balance-5 Inv-loop μ-loop
+mul-does-balance-5 c = search needs
+
+add-does-balance-3 : tie.Need-add-does-balance-3 Inv-loop μ-loop
+add-does-balance-3 c = search needs
+
+mul-does-balance-6 : tie.Need-mul-does-balance-6 Inv-loop μ-loop
+mul-does-balance-6 c = search needs
 
 shared-slice-read-does-balance-4 : tie.Need-shared-slice-read-does-balance-4 Inv-loop μ-loop
 shared-slice-read-does-balance-4 c = search needs
@@ -78,9 +103,9 @@ loop-less c = search needs
 
 loop-again : tie.Need-loop-again Inv-loop μ-loop
 loop-again c =
-    let a = c .before .before .before .before .before .before .before .before .before .before .before .before .args in
-    let l = c .before .before .before .before .before .before .before .loop in
-    rw (c .does-balance .ensures)
+    let a = c .before .before .before .before .before .before .before .before .before .before .before .before .before .before .args in
+    let l = c .before .before .before .before .before .before .before .before .before .loop in
+    rw (c .does-balance .ensures ∙ ap (doesBalance _) (four-parts (now (a .tally)) (l .i)))
     (from-turn (l .balanced) _ _ _ _
     (left-cons countOf (now (a .submitted)) (now (a .served)) (now (a .dropped)) (a .n) (l .i)
     (omega arith) (omega arith) (omega arith) (omega arith))
@@ -91,7 +116,7 @@ unfolding everyFrom
 returns c =
     let a = c .before .before .before .before .before .before .args in
     verdict-end _ _ _
-    (ap (everyFrom (test (now (a .tally))) (c .before .loop .i))
+    (λ _. ap (everyFrom (test (now (a .tally))) (c .before .loop .i))
     (rest-none (countsOf (now (a .submitted)) (now (a .served)) (now (a .dropped))) (a .n) (c .before .loop .i)
     (c .loop-test .left)))
     (c .before .loop .inv)
@@ -105,14 +130,22 @@ are-balanced-spec =
     loop-holds
     mul-t10
     shared-slice-read-t12
+    mul-t13
+    shared-slice-read-t15
+    mul-t16
+    shared-slice-read-t18
     mul-does-balance
     shared-slice-read-does-balance
+    add-does-balance
     mul-does-balance-2
     shared-slice-read-does-balance-2
     mul-does-balance-3
-    shared-slice-read-does-balance-3
-    add-does-balance
+    add-does-balance-2
     mul-does-balance-4
+    shared-slice-read-does-balance-3
+    mul-does-balance-5
+    add-does-balance-3
+    mul-does-balance-6
     shared-slice-read-does-balance-4
     does-balance-requires
     add-i

@@ -1,24 +1,36 @@
 -- `sound::tables::step` meets its contract. Assumes nothing.
-use Prim.Native.Nat.{_<_}
-use mathlib.Core.Path.{refl, sym, _∙_}
+use Prim.Native.Nat.{_<_, _%_}
+use mathlib.Core.Path.{sym, _∙_}
 use native.Mathlib.Omega.{arith}
 use borrow.Author.Needs.{needs}
 use borrow.Author.Tests.{not-true, not-false}
 use denote.Ref.{now}
+use lib.ListN.{getD}
 use Rattle.spec.specs.Tables.{mostClients}
-use Rattle.sound.proofs.Laws.{next-client, place-most}
+use Rattle.sound.specs.Checks.{parts, tallyPlace, turn}
+use Rattle.sound.proofs.Laws.{next-client}
+use Rattle.sound.proofs.Tally.{sum-most}
 use Rattle.sound.proofs.tables.step.Statement.{statement}
 use Rattle.sound.proofs.tables.step.Tie as tie
 
 -- a record that passes has a client that exists
-owned : (c : tie.Else1) → c .before .before .before .args .w .client < mostClients
-owned c = omega (arith, next-client _ _ _ _ (sym (c .before .is-next .ensures) ∙ not-false _ (c .if1 .left)))
+owned : (c : tie.Else2) → c .before .before .before .before .args .w .client < mostClients
+owned c = omega (arith, next-client _ _ _ _ (sym (c .before .is-next .ensures) ∙ not-false _ (c .if2 .left)))
+
+returns : tie.Need-returns
+unfolding turn
+returns c = rw (not-true (c .before .before .args .ok) (c .if1 .taken))
 
 is-next-requires : tie.Need-is-next-requires
 is-next-requires c κs = search needs
 
-returns : tie.Need-returns
-returns c = record { verdict = sym (not-true _ (c .if1 .taken)) ∙ c .before .is-next .ensures; counted = refl }
+returns-2 : tie.Need-returns-2
+unfolding turn
+returns-2 c =
+    rw (
+      not-false (c .before .before .before .before .args .ok) (c .before .before .if1 .left),
+      sym (c .before .is-next .ensures) ∙ not-true _ (c .if2 .taken),
+    )
 
 mul-at : tie.Need-mul-at
 mul-at c = search needs
@@ -34,9 +46,13 @@ slice-read-tally c = omega (arith, owned (c .before))
 
 add-tally : tie.Need-add-tally
 add-tally c =
-    let start = c .before .before .before .before in
+    let start = c .before .before .before .before .before in
     let a = start .args in
-    omega (arith, place-most (now (a .tally)) (a .i) (a .w .client), start .pre .3 (owned (c .before)))
+    omega (
+      arith,
+      sum-most parts (λ p. getD (now (a .tally)) (tallyPlace p (a .w .client)) 0) (a .i % parts) (omega arith),
+      start .pre .1 .most (a .w .client) (owned (c .before)),
+    )
 
 mul-tally-2 : tie.Need-mul-tally-2
 mul-tally-2 c = omega (arith, owned (c .before))
@@ -47,19 +63,21 @@ slice-write-tally c = omega (arith, owned (c .before))
 same-length : tie.Need-same-length
 same-length c = search needs
 
-returns-2 : tie.Need-returns-2
-returns-2 c =
-    record {
-      verdict = sym (not-false _ (c .before .if1 .left)) ∙ c .before .before .is-next .ensures;
-      counted = refl;
-    }
+returns-3 : tie.Need-returns-3
+unfolding turn
+returns-3 c =
+    rw (
+      not-false (c .before .before .before .before .before .args .ok) (c .before .before .before .if1 .left),
+      sym (c .before .before .is-next .ensures) ∙ not-false _ (c .before .if2 .left),
+    )
 
 pub step-spec : {M : Type 1} → statement M
 step-spec =
     tie.close
     (tie.spec
-    is-next-requires
     returns
+    is-next-requires
+    returns-2
     mul-at
     add-at
     mul-tally
@@ -68,4 +86,4 @@ step-spec =
     mul-tally-2
     slice-write-tally
     same-length
-    returns-2)
+    returns-3)

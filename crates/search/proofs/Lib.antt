@@ -1,0 +1,5 @@
+pub mod Choosing
+pub mod Counted
+pub mod Fields
+pub mod Latest
+pub mod Scanning

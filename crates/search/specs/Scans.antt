@@ -1,0 +1,65 @@
+-- What the searches find: the first overfull deadline, each client's last request, the victim. Assumes nothing.
+use Prim.Native.Nat.{ℕ, suc, _%_, _≤_, _<_}
+use mathlib.Core.Path.{_≡_}
+use mathlib.Core.Bool.{false, cond}
+use mathlib.Core.List.{List, [], _∷_, _++_}
+use lib.Dec.{ltb, eqb}
+use lib.ListN.{length, getD, take, drop, set}
+use Rattle.spec.specs.declared.types.Head.{Head}
+use Rattle.spec.specs.declared.types.Counts.{Counts}
+use Rattle.spec.specs.Tables.{mostClients, zeroCounts}
+use Rattle.spec.specs.Chart.{roomTo}
+use Rattle.spec.specs.Victim.{hasSmallerRatio}
+use Rattle.spec.specs.Calls.{change, oneMoreSubmitted}
+use Rattle.columns.specs.Columns.{countsOf}
+use Rattle.search.specs.declared.victim.Latest.{Latest}
+
+-- no entry is larger than a later one
+abbrev pub Sorted : List ℕ → Type 0
+Sorted xs = (j k : ℕ) → j ≤ k → k < length xs → getD xs j 0 ≤ getD xs k 0
+
+-- "The search for an overfull deadline ends at the first one found and yields it.": the first of these deadlines with fewer slots
+-- up to it than requests up to its place, 0 where there is none; the first stands at the place i
+unfoldable pub overfullFrom : Head → ℕ → List ℕ → ℕ
+overfullFrom head i [] = 0
+overfullFrom head i (d ∷ ds) = cond (ltb (roomTo head d) (suc i)) d (overfullFrom head (suc i) ds)
+
+-- the largest number of 16 bits
+abbrev pub largest16 : ℕ
+largest16 = 65535
+
+-- of each client the place of its last one among requests of these clients, 1 added: the first of them is p, and what is known of
+-- those before stays where none follows. An entry is found by the remainder, which is the client itself where it exists
+unfoldable pub latestOf : ℕ → List ℕ → List ℕ → List ℕ
+latestOf p [] known = known
+latestOf p (c ∷ cs) known = latestOf (suc p) cs (set known (c % mostClients) p)
+
+-- a list with x at a place, those from there on one place further
+abbrev pub putAt : ℕ → ℕ → List ℕ → List ℕ
+putAt k x xs = take k xs ++ x ∷ drop k xs
+
+-- the counts of the client c, a new request of `client` counted in submitted already
+abbrev pub countsWith : ℕ → List ℕ → List ℕ → List ℕ → ℕ → Counts
+countsWith client submitted served dropped c =
+    getD (change oneMoreSubmitted client (countsOf submitted served dropped)) c zeroCounts
+
+-- the better of two clients' last candidates: a smaller miss ratio, among equals the later place; 0 is the place of none
+unfoldable pub betterOf : Latest → Latest → Latest
+betterOf best next =
+    cond (eqb (next .at) 0) best
+    (cond (hasSmallerRatio (best .counts) (next .counts)) best
+    (cond (hasSmallerRatio (next .counts) (best .counts)) next
+    (cond (ltb (next .at) (best .at)) best next)))
+
+-- of n clients those that have a candidate, with the place of the last one, 1 added: no ratio of theirs has the divisor 0
+abbrev pub Countable : (ℕ → Counts) → List ℕ → ℕ → Type 0
+Countable counts latest n = (c : ℕ) → c < n → 0 < getD latest c 0 → 1 ≤ counts c .submitted
+
+-- "The smallest wins; among equals, the last in chart order.": r is the victim's place
+pub record Wins (counts : ℕ → Counts) (latest : List ℕ) (n r : ℕ) : Type 0 where
+  pub owner : ℕ
+  pub exists : owner < n
+  pub here : getD latest owner 0 ≡ suc r
+  pub least : (c : ℕ) → c < n → 0 < getD latest c 0 → hasSmallerRatio (counts c) (counts owner) ≡ false
+  pub last : (c : ℕ) → c < n → 0 < getD latest c 0 → hasSmallerRatio (counts owner) (counts c) ≡ false
+      → getD latest c 0 ≤ suc r

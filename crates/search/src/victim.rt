@@ -1,0 +1,104 @@
+// The victim: of the clients that have a candidate, the one with the smallest miss ratio; among equals, the one whose last candidate
+// stands last.
+use columns::rows;
+use spec::types::Counts;
+ghost use mathlib.Core.Path.{_≡_};
+ghost use Prim.Native.Nat.{ℕ, _≤_, _<_};
+ghost use lib.ListN.{length, getD};
+ghost use Rattle.spec.specs.Victim.{hasSmallerRatio};
+ghost use Rattle.columns.specs.Columns.{largest32};
+ghost use Rattle.search.specs.Scans.{countsWith, betterOf, Countable, Wins};
+
+// A client's last candidate: its place and 1, or 0 where it has none. Beside it the client's counts.
+struct Latest {
+    at: u16,
+    counts: Counts,
+}
+
+// The counts of client c, a new request of `client` counted in submitted already.
+fn counts_with(submitted: &[u32], served: &[u32], dropped: &[u32], client: u64, c: u64) -> Counts
+    requires { ⌜ getD (now submitted) client 0 < largest32 ⌝ }
+    ensures { λ r. ⌜ r ≡ countsWith client (now (submitted .entry)) (now (served .entry)) (now (dropped .entry)) c ⌝ }
+{
+    let counts = rows::counts_at(submitted, served, dropped, c);
+    if c != client {
+        return counts;
+    }
+    if rows::shortest(submitted.len(), served.len(), dropped.len()) <= c as usize {
+        return counts;
+    }
+    Counts {
+        submitted: counts.submitted + 1,
+        served: counts.served,
+        dropped: counts.dropped,
+    }
+}
+
+// Whether a's miss ratio, dropped divided by submitted, is smaller than b's. Multiplied out, so nothing is rounded.
+fn has_smaller_ratio(a: Counts, b: Counts) -> bool
+    ensures { λ r. ⌜ r ≡ hasSmallerRatio a b ⌝ }
+{
+    (a.dropped as u64) * (b.submitted as u64) < (b.dropped as u64) * (a.submitted as u64)
+}
+
+// The better of two as a victim.
+fn better(best: Latest, next: Latest) -> Latest
+    ensures { λ r. ⌜ r ≡ betterOf best next ⌝ }
+{
+    let a = best.counts;
+    let b = next.counts;
+    if next.at == 0 {
+        return best;
+    }
+    if has_smaller_ratio(a, b) {
+        return best;
+    }
+    if has_smaller_ratio(b, a) {
+        return next;
+    }
+    if next.at < best.at {
+        return best;
+    }
+    next
+}
+
+// The victim's place, from each of the n clients' last candidate; 0 where none has one.
+pub fn smallest_ratio_place(
+    latest: &[u16],
+    submitted: &[u32],
+    served: &[u32],
+    dropped: &[u32],
+    client: u64,
+    n: usize,
+) -> usize
+    requires { ⌜ (n ≤ length (now latest)) × (getD (now submitted) client 0 < largest32) ⌝ }
+    ensures { λ r. ⌜
+        (Countable (countsWith client (now (submitted .entry)) (now (served .entry)) (now (dropped .entry))) (now (latest .entry)) n
+        → (c : ℕ) → c < n → 0 < getD (now (latest .entry)) c 0
+        → Wins (countsWith client (now (submitted .entry)) (now (served .entry)) (now (dropped .entry)))
+        (now (latest .entry)) n r) ⌝ }
+{
+    let none = Counts {
+        submitted: 0,
+        served: 0,
+        dropped: 0,
+    };
+    let mut best = Latest {
+        at: 0,
+        counts: none,
+    };
+    let mut c: usize = 0;
+    while c < n {
+        let counts = counts_with(submitted, served, dropped, client, c as u64);
+        let next = Latest {
+            at: latest[c],
+            counts,
+        };
+        best = better(best, next);
+        c += 1;
+    }
+    if best.at == 0 {
+        return 0;
+    }
+    (best.at as usize) - 1
+}
