@@ -1,15 +1,11 @@
 // Holds the exported calls to document 01, case by case. After each call the answer, its values, the head, every record of both
 // tables and the output are held to what the case expects, which is written out or comes by simple arithmetic.
-#[macro_use]
-mod common;
-
-use common::*;
 use std::fmt::Debug;
+use std::iter::repeat;
 use std::process::exit;
-
-const OPENED: u64 = 0x81;
-const REPORT: u64 = 0x86;
-const CHART: u64 = 0x88;
+use std::thread;
+use tests::calls::*;
+use tests::lend;
 
 // A waiting record: deadline, number, client.
 type Row = (u64, u64, u64);
@@ -22,27 +18,12 @@ const FRESH: Counts = (0, 0, 0);
 // No value of an answer.
 const UNWRITTEN: u64 = u64::MAX;
 
-fn open(t: &mut Tables, clients: u64, period: u64, values: &mut Values) -> u64 {
-    // SAFETY: each pointer is to as many entries as the length behind it says, and all are lent for this call alone.
-    unsafe { lend!(queue_open, t, values, clients => u64, period => u64) }
-}
-
-fn report(t: &mut Tables, client: u64, values: &mut Values) -> u64 {
-    // SAFETY: as for open.
-    unsafe { lend!(queue_report, t, values, client => u64) }
-}
-
-fn chart(t: &mut Tables, output: &mut [u64], values: &mut Values) -> u64 {
-    // SAFETY: as for open; the output is a table apart from the queue's.
-    unsafe { lend!(queue_chart, t, values, output.as_mut_ptr() => *mut u64, output.len() => usize) }
-}
-
 // Writes the head, the records with zeros behind them, and the counts; entries of a column beyond the counts stay.
 fn write(t: &mut Tables, head: [u64; 5], rows: &[Row], counts: &[Counts]) {
     t.head = head;
     t.waiting.fill(Request::default());
     for (record, &(deadline, number, client)) in t.waiting.iter_mut().zip(rows) {
-        *record = Request::new(deadline, number, client);
+        *record = request(deadline, number, client);
     }
     for (c, &(submitted, served, dropped)) in counts.iter().enumerate() {
         (t.submitted[c], t.served[c], t.dropped[c]) = (submitted, served, dropped);
@@ -218,12 +199,12 @@ fn idle_ticks(l: &mut Library) {
 
 fn deadlines(l: &mut Library) {
     l.lend(opened(4, 1));
-    for deadline in [0, 65_536, 1 << 32, u64::MAX] {
+    for deadline in [0, MOST_AHEAD + 1, 1 << 32, u64::MAX] {
         l.submit(0, deadline).refused(7);
     }
     l.submit(0, 1).kept(1, 0, &[(1, 1, 0)], &[(1, 0, 0)]);
     l.lend(opened(4, 1));
-    l.submit(0, 65_535).kept(1, 0, &[(65_535, 1, 0)], &[(1, 0, 0)]);
+    l.submit(0, MOST_AHEAD).kept(1, 0, &[(MOST_AHEAD, 1, 0)], &[(1, 0, 0)]);
     l.lend(tables(4, [1, 9, 5, 0, 0], &[], &[FRESH]));
     l.submit(0, 5).refused(7);
     l.submit(0, 65_541).refused(7);
@@ -528,7 +509,8 @@ fn later_ones_are_no_candidates(l: &mut Library) {
 
 fn opens(l: &mut Library) {
     let anything = [(u64::MAX, 5, 300); MOST_RECORDS];
-    for (clients, records) in [(1, 1), (2, 3), (256, 2_048)] {
+    let most = MOST_CLIENTS as u64;
+    for (clients, records) in [(1, 1), (2, 3), (most, MOST_RECORDS)] {
         for period in [1, 100, MOST_PERIOD] {
             let counts = vec![(u32::MAX, 1, 2); clients as usize];
             l.lend(tables(records, [u64::MAX, 0, END + 1, 7, u64::MAX], &anything, &counts));
@@ -536,7 +518,7 @@ fn opens(l: &mut Library) {
         }
     }
     l.lend(good());
-    for clients in [0, 257, 1 << 32, (1 << 32) + 2, u64::MAX] {
+    for clients in [0, most + 1, 1 << 32, (1 << 32) + 2, u64::MAX] {
         l.open(clients, 100).refused(2);
     }
     for period in [0, MOST_PERIOD + 1, MOST_PERIOD + 2, u64::MAX] {
@@ -612,7 +594,7 @@ const DAMAGES: [Edit; 42] = [
     ("no such client", |t| (t.waiting[2].client, t.submitted[0]) = (2, 4)),
     ("client 0 but for 8 bits", |t| t.waiting[2].client = 256),
     ("client 0 but for 32 bits", |t| t.waiting[2].client = 1 << 32),
-    ("overfull", |t| t.waiting[2] = Request::new(12, 8, 0)),
+    ("overfull", |t| t.waiting[2] = request(12, 8, 0)),
     ("overfull at last", |t| {
         (t.waiting[2].deadline, t.waiting[3].deadline) = (13, 13)
     }),
@@ -764,9 +746,65 @@ fn longer_columns(l: &mut Library) {
     }
 }
 
+// So many numbers: these, and others behind them.
+fn cut(length: usize, numbers: &[u64], other: u64) -> Vec<u64> {
+    numbers.iter().copied().chain(repeat(other)).take(length).collect()
+}
+
+// Head and values of other lengths than five: a number that the head does not have is 0, and what does not fit is left out.
+fn other_lengths(l: &mut Library) {
+    for length in 0..8 {
+        l.call = format!("with {length} numbers");
+        let (mut t, mut head, mut values) = (opened(4, 2), vec![9; length], vec![UNWRITTEN; length]);
+        let kind = lend!(queue_open, head, t, values, 2, 100);
+        l.same("kind of open", &[OPENED], &[kind]);
+        l.same("head after open", &cut(length, &[2, 100, 0, 0, 0], 9), &head);
+        l.same("values of open", &cut(length, &[], UNWRITTEN), &values);
+        // the clients are none, which is not the table's length; then the period is 0
+        let (ticked, value, clock) = match length {
+            0 => (REFUSED, 4, 0),
+            1 => (REFUSED, 5, 0),
+            _ => (IDLE, 0, 1),
+        };
+        let kind = lend!(queue_tick, head, t, values);
+        l.same("kind of tick", &[ticked], &[kind]);
+        l.same("head after tick", &cut(length, &[2, 100, clock, 0, 0], 9), &head);
+        l.same("values of tick", &cut(length, &[value], UNWRITTEN), &values);
+        t = good();
+        let kind = lend!(queue_report, t.head, t, values, 1);
+        l.same("kind of report", &[REPORT], &[kind]);
+        l.same("values of report", &cut(length, &[1, 5, 3, 0, 2], UNWRITTEN), &values);
+        l.calls += 3;
+    }
+}
+
+// The most that a call copies, in a thread with a stack of 32 KiB.
+fn little_stack(l: &mut Library) {
+    thread::scope(|scope| {
+        let small = thread::Builder::new().stack_size(32 << 10);
+        small.spawn_scoped(scope, || victims_in_a_large_table(l)).expect("a thread");
+    });
+}
+
+// The C header has the bounds that the calls are held to here.
+fn header_bounds(l: &mut Library) {
+    let header = include_str!("../../../include/welsbell.h");
+    for (name, bound) in [
+        ("MOST_CLIENTS", MOST_CLIENTS as u64),
+        ("MOST_RECORDS", MOST_RECORDS as u64),
+        ("MOST_COUNTED", MOST_COUNTED.into()),
+        ("MOST_PERIOD", MOST_PERIOD),
+        ("MOST_AHEAD", MOST_AHEAD),
+        ("END", END),
+    ] {
+        let line = format!("#define QUEUE_{name} {bound}");
+        l.same(&line, &[true], &[header.lines().any(|each| each == line)]);
+    }
+}
+
 type Case = (&'static str, fn(&mut Library));
 
-const CASES: [Case; 32] = [
+const CASES: [Case; 35] = [
     ("document 01's session", session),
     ("idle ticks", idle_ticks),
     ("deadlines at their bounds", deadlines),
@@ -799,6 +837,9 @@ const CASES: [Case; 32] = [
     ("first match wins: open and submit", first_match_of_open_and_submit),
     ("first match wins: report, tick and chart", first_match_of_the_others),
     ("columns longer than the shortest", longer_columns),
+    ("head and values of other lengths", other_lengths),
+    ("a stack of 32 KiB", little_stack),
+    ("the C header's bounds", header_bounds),
 ];
 
 fn main() {

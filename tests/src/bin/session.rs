@@ -4,9 +4,6 @@
 // Refusals 1 to 4, 6, 7 and 10 are shown. Five cannot be: a session's tables are always sound (5) and its chart has room for
 // every waiting record (12); a client has submitted its most (8) only after 2 to the 28th calls, and the last number is given
 // (9) and the clock at its end (11) only after 2 to the 48th.
-#[path = "common/frames.rs"]
-mod frames;
-
 use std::env::{args, current_exe};
 use std::fs::{write, File};
 use std::io::{self, Read, Write};
@@ -17,6 +14,7 @@ use std::path::PathBuf;
 use std::process::{exit, Child, Command, ExitStatus, Stdio};
 use std::thread::{sleep, spawn, JoinHandle};
 use std::time::{Duration, Instant};
+use tests::frames;
 
 const MOST_PERIOD: u32 = 4_294_967_295;
 

@@ -1,31 +1,14 @@
-// Document 01's bounds, the tables, and the numbers of the answers: what programs with and without the exported calls share.
+// Document 01's bounds, the tables, and the numbers of the answers: what programs with and without the exported calls share. Bounds
+// and numbers are the wrapper's, so that cases which hold the library to them hold the wrapper too.
 
-pub const MOST_RECORDS: usize = 2_048;
-pub const MOST_PERIOD: u64 = 4_294_967_295;
-pub const MOST_COUNTED: u32 = 268_435_455;
-pub const END: u64 = 281_474_976_710_655;
+pub use welsbell::raw::{CHARTED as CHART, DROPPED, IDLE, KEPT, OPENED, REFUSED, REPORTED as REPORT, SERVED};
+pub use welsbell::{Request, END, MOST_AHEAD, MOST_CLIENTS, MOST_COUNTED, MOST_PERIOD, MOST_RECORDS};
 
-pub const KEPT: u64 = 0x82;
-pub const DROPPED: u64 = 0x83;
-pub const SERVED: u64 = 0x84;
-pub const IDLE: u64 = 0x85;
-pub const REFUSED: u64 = 0xFF;
-
-#[repr(C)]
-#[derive(Clone, Copy, Debug, Default, PartialEq)]
-pub struct Request {
-    pub deadline: u64,
-    pub number: u64,
-    pub client: u64,
-}
-
-impl Request {
-    pub fn new(deadline: u64, number: u64, client: u64) -> Request {
-        Request {
-            deadline,
-            number,
-            client,
-        }
+pub fn request(deadline: u64, number: u64, client: u64) -> Request {
+    Request {
+        deadline,
+        number,
+        client,
     }
 }
 

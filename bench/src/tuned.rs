@@ -1,0 +1,101 @@
+//! The calls by hand with the same checks as the proved ones, in one pass that checks and counts.
+use crate::calls::Calls;
+use crate::lent::{refused_if, Lent};
+use tests::tables::*;
+
+pub struct Tuned;
+
+// With so many clients or fewer, less has to be zeroed for the tallies.
+const FEW_CLIENTS: usize = 16;
+
+impl Calls for Tuned {
+    #[inline(always)]
+    fn check(t: &Lent) -> Result<(), u64> {
+        let (clients, n) = shape(t)?;
+        let is_sound = if clients <= FEW_CLIENTS {
+            is_sound::<FEW_CLIENTS>(t, clients, n)
+        } else {
+            is_sound::<MOST_CLIENTS>(t, clients, n)
+        };
+        refused_if(!is_sound, 5)
+    }
+}
+
+// Refusal 4, and the head's part of refusal 5. Ok is the number of clients and the waiting count.
+#[inline(always)]
+fn shape(t: &Lent) -> Result<(usize, usize), u64> {
+    let [clients, period, clock, last, waiting] = *t.head;
+    if !t.has_lengths_for(clients) || (t.waiting.len() as u64) < waiting {
+        return Err(4);
+    }
+    let is_head_within = (1..=MOST_CLIENTS as u64).contains(&clients) && (1..=MOST_PERIOD).contains(&period);
+    refused_if(!is_head_within || END < clock || END < last, 5)?;
+    Ok((clients as usize, waiting as usize))
+}
+
+// Of each client, its records so far. Four, for records in turn: with one, records of one client would wait for each other's
+// count to be stored.
+type Tallies<const MOST: usize> = [[u16; MOST]; 4];
+
+// The tables, of at most so many clients. Not inlined, so that it is compiled alike for every call.
+#[inline(never)]
+fn is_sound<const MOST: usize>(t: &Lent, clients: usize, n: usize) -> bool {
+    let (waiting, behind) = t.waiting.split_at(n);
+    let mut tallies = [[0; MOST]; 4];
+    are_next(t.head, waiting, &mut tallies) && are_zero(behind) && are_balanced(t, clients, &tallies)
+}
+
+// Deadlines are in order, so that the last of them shows that none is too far.
+#[inline(always)]
+fn are_next<const MOST: usize>(head: &[u64; 5], waiting: &[Request], tallies: &mut Tallies<MOST>) -> bool {
+    let [clients, _, clock, last, _] = *head;
+    // as one number, for one comparison
+    let key = |w: &Request| (w.deadline as u128) << 64 | w.number as u128;
+    // a slot is left for it, its number is given, its client exists, and it comes behind the one before it
+    let is_next = |slot: u64, before: &Request, w: &Request| {
+        slot < w.deadline && w.number.wrapping_sub(1) < last && w.client < clients && key(before) < key(w)
+    };
+    let (mut slot, mut before) = (clock, &Request::default());
+    let (fours, odd) = waiting.as_chunks::<4>();
+    for four in fours {
+        for (i, w) in four.iter().enumerate() {
+            if !is_next(slot + i as u64, before, w) {
+                return false;
+            }
+            tallies[i][w.client as usize % MOST] += 1;
+            before = w;
+        }
+        slot += 4;
+    }
+    for (w, slot) in odd.iter().zip(slot..) {
+        if !is_next(slot, before, w) {
+            return false;
+        }
+        tallies[0][w.client as usize % MOST] += 1;
+        before = w;
+    }
+    before.deadline <= clock + MOST_AHEAD
+}
+
+// An exit every sixteenth record, so that the sixteen vectorise.
+#[inline(always)]
+fn are_zero(behind: &[Request]) -> bool {
+    let bits = |records: &[Request]| records.iter().fold(0, |bits, w| bits | w.deadline | w.number | w.client);
+    let (sixteens, odd) = behind.as_chunks::<16>();
+    sixteens.iter().all(|sixteen| bits(sixteen) == 0) && bits(odd) == 0
+}
+
+// Where the three counts are within bounds their sum cannot wrap, so that 32 bits do.
+#[inline(always)]
+fn are_balanced<const MOST: usize>(t: &Lent, clients: usize, tallies: &Tallies<MOST>) -> bool {
+    let k = clients.min(MOST);
+    let (submitted, served, dropped) = (&t.submitted[..k], &t.served[..k], &t.dropped[..k]);
+    let mut wrong = 0;
+    for c in 0..k {
+        let (s, v, r) = (submitted[c], served[c], dropped[c]);
+        let waiting: u32 = tallies.iter().map(|tally| tally[c] as u32).sum();
+        wrong |= (s | v | r) & !MOST_COUNTED;
+        wrong |= s ^ v.wrapping_add(r).wrapping_add(waiting);
+    }
+    wrong == 0
+}

@@ -1,0 +1,182 @@
+// Holds the session program to the model of document 01 on random sessions, byte by byte, and to demand 3 on the lists of calls
+// in them. The arguments are the program's path, then, if wanted, a seed, and the name of a fault that the model is to have:
+// the comparison has to find it.
+use std::env::args;
+use std::io::{Error, ErrorKind, Read, Result as IoResult, Write};
+use std::process::{Command, Output, Stdio};
+use std::sync::mpsc::channel;
+use std::thread::spawn;
+use std::time::Duration;
+use tests::demand_3::Lists;
+use tests::model::session::{read, session, widths_out, Answered, SEGMENT};
+use tests::model::{Fault, KINDS};
+use tests::program::{end, fail, seed};
+use tests::random::Random;
+use tests::random_session;
+use tests::tally::Tally;
+
+const SESSIONS: u64 = 3_000;
+
+// One session of so many has a large table that becomes full.
+const LARGE_ONE_OF: u64 = 375;
+
+// So many there have to be: answers, lists held to demand 3, and such lists with drops, idle ticks and refused calls.
+const ANSWERS: usize = 200_000;
+const LISTS: u64 = 5_000;
+const LISTS_OF_A_KIND: u64 = 2_000;
+
+// A session takes much less.
+const LIMIT: Duration = Duration::from_secs(60);
+
+// The others cannot occur in a session this short.
+const REFUSALS: [u64; 7] = [1, 2, 3, 4, 6, 7, 10];
+
+// The first characters up to a line feed, readable.
+fn shown(bytes: &[u8]) -> String {
+    let line = bytes.split(|&byte| byte == b'\n').next().unwrap_or_default();
+    line[..line.len().min(200)].escape_ascii().to_string()
+}
+
+// Random pieces of the input, in which a pipe hands it on.
+fn pieces(mut input: &[u8], random: &mut Random) -> Vec<Vec<u8>> {
+    let most = if input.len() < 10_000 {
+        random.one_of(&[3, 50, 5_000])
+    } else {
+        30_000
+    };
+    let mut pieces = vec![];
+    while !input.is_empty() {
+        let (piece, rest) = input.split_at(input.len().min(1 + random.below(most)));
+        pieces.push(piece.to_vec());
+        input = rest;
+    }
+    pieces
+}
+
+// Feeds and reads aside, so that neither side waits for the other. What a program that has ended does not take shows in what it
+// printed.
+fn run(program: &str, pieces: Vec<Vec<u8>>) -> IoResult<Output> {
+    let mut command = Command::new(program);
+    command.stdin(Stdio::piped()).stdout(Stdio::piped()).stderr(Stdio::piped());
+    let mut child = command.spawn()?;
+    let (Some(mut input), Some(mut output)) = (child.stdin.take(), child.stdout.take()) else {
+        return Err(Error::other("no pipes"));
+    };
+    spawn(move || pieces.iter().try_for_each(|piece| input.write_all(piece)));
+    let (sender, printed) = channel();
+    spawn(move || {
+        let mut all = vec![];
+        sender.send(output.read_to_end(&mut all).map(|_| all))
+    });
+    let Ok(stdout) = printed.recv_timeout(LIMIT) else {
+        child.kill()?;
+        return Err(Error::new(ErrorKind::TimedOut, format!("no end within {LIMIT:?}")));
+    };
+    let ended = child.wait_with_output()?;
+    Ok(Output {
+        stdout: stdout?,
+        ..ended
+    })
+}
+
+// What the program printed for each line, if it is what the model says of all of them.
+fn compare<'a>(answered: &[Answered], mut printed: &'a [u8]) -> Result<Vec<&'a [u8]>, String> {
+    let mut answers = vec![];
+    for (i, expected) in answered.iter().enumerate() {
+        let text = expected.printed.as_bytes();
+        if !printed.starts_with(text) {
+            let is_same = |&at: &usize| text.get(at) == printed.get(at);
+            let same = (0..text.len()).take_while(is_same).count();
+            let from = text[..same]
+                .iter()
+                .rposition(|&byte| byte == b'\n')
+                .map_or(0, |feed| feed + 1);
+            let [line, expected, came] = [expected.line, &text[from..], &printed[from..]].map(shown);
+            return Err(format!("line {}: {line}\nexpected {expected}\n    came {came}", i + 1));
+        }
+        let (answer, rest) = printed.split_at(text.len());
+        answers.push(answer);
+        printed = rest;
+    }
+    if printed.is_empty() {
+        Ok(answers)
+    } else {
+        Err(format!("more came behind the last answer: {}", shown(printed)))
+    }
+}
+
+// The program under test, and what all sessions together gave.
+struct Test {
+    program: String,
+    seed: u64,
+    fault: Fault,
+    answers: usize,
+    tally: Tally,
+    lists: Lists,
+}
+
+impl Test {
+    fn session(&mut self, number: u64) -> Result<(), String> {
+        let input = random_session::session(Random::of_part(self.seed, number), number.is_multiple_of(LARGE_ONE_OF));
+        let pieces = pieces(&input, &mut Random::of_part(self.seed, SESSIONS + number));
+        let ended = run(&self.program, pieces).map_err(|e| format!("{}: {e}", self.program))?;
+        let answered = session(&input, self.fault);
+        let answers = compare(&answered, &ended.stdout)?;
+        if !ended.status.success() || !ended.stderr.is_empty() {
+            return Err(format!("{}, {}", ended.status, shown(&ended.stderr)));
+        }
+        for (i, (answered, printed)) in answered.iter().zip(answers).enumerate() {
+            let lines = printed.split(|&byte| byte == b'\n');
+            lines
+                .filter_map(|line| read(line, widths_out))
+                .for_each(|answer| self.tally.count(&answer));
+            let followed = self.lists.follow(answered.line, printed);
+            followed.map_err(|e| format!("line {}: {}\n{e}", i + 1, shown(answered.line)))?;
+        }
+        self.answers += answered.len();
+        self.lists.end()
+    }
+
+    // What has to have occurred and has not.
+    fn missing(&self) -> Vec<String> {
+        let mut missing = self.tally.missing(&[&KINDS[..], &[SEGMENT]].concat(), &REFUSALS);
+        if self.answers < ANSWERS {
+            missing.push(format!("fewer than {ANSWERS} answers"));
+        }
+        if self.lists.lists < LISTS {
+            missing.push(format!("fewer than {LISTS} lists"));
+        }
+        if self.lists.fewest_of_a_kind() < LISTS_OF_A_KIND {
+            missing.push(format!("fewer than {LISTS_OF_A_KIND} lists of some kind"));
+        }
+        missing
+    }
+
+    fn print(&self) {
+        println!("{}", self.tally);
+        println!("{SESSIONS} sessions, {} answers: all as the model says", self.answers);
+        println!("{}", self.lists);
+    }
+}
+
+fn main() {
+    let arguments: Vec<String> = args().collect();
+    let fault = arguments.get(3).map_or(Some(Fault::None), |name| Fault::named(name));
+    let (Some(program), Some(fault)) = (arguments.get(1), fault) else {
+        fail("random PROGRAM [SEED [wrong-tie | lost-shift | forgetful-period]]");
+    };
+    let mut test = Test {
+        program: program.clone(),
+        seed: seed(arguments.get(2)),
+        fault,
+        answers: 0,
+        tally: Tally::default(),
+        lists: Lists::default(),
+    };
+    for number in 0..SESSIONS {
+        let held = test.session(number);
+        held.unwrap_or_else(|difference| fail(format!("seed {}, session {number}, {difference}", test.seed)));
+    }
+    test.print();
+    end(test.missing());
+}

@@ -1,0 +1,290 @@
+//! Damages to sound tables: for each clause of "sound" several edits that break it, most of them without breaking another, and
+//! edits of the lengths, which meet refusal 4. Edits may come one behind the other, so that each takes tables with anything in
+//! them; where they have no place for it, it does nothing.
+use crate::model::sound::CLAUSES;
+use crate::random::Random;
+use crate::tables::{Request, Tables, END, MOST_AHEAD, MOST_COUNTED, MOST_PERIOD, MOST_RECORDS};
+
+pub type Damage = fn(&mut Tables, &mut Random);
+
+const CLIENTS: usize = 0;
+const PERIOD: usize = 1;
+const CLOCK: usize = 2;
+const LAST: usize = 3;
+const WAITING: usize = 4;
+
+// In the order of the clauses.
+pub const DAMAGES: [&[Damage]; CLAUSES.len()] = [
+    &[no_clients, too_many_clients],
+    &[
+        |t, _| t.head[PERIOD] = 0,
+        |t, _| t.head[PERIOD] = MOST_PERIOD + 1,
+        |t, _| t.head[PERIOD] = u64::MAX,
+    ],
+    &[
+        |t, _| move_clock(t, END + 1),
+        |t, random| move_clock(t, END + random.between(2, 99)),
+        |t, _| move_clock(t, 1 << 63),
+        last_clock_of_64_bits,
+    ],
+    &[
+        |t, _| t.head[LAST] = END + 1,
+        |t, random| t.head[LAST] = END + random.between(2, 99),
+        |t, _| t.head[LAST] = u64::MAX,
+    ],
+    &[swap_neighbours, swap_any, equal_in_both, larger_number_first],
+    &[
+        |t, _| first_deadline(t, t.head[CLOCK]),
+        |t, random| first_deadline(t, t.head[CLOCK].saturating_sub(random.between(1, 9))),
+        |t, _| first_deadline(t, 0),
+        |t, _| last_deadline(t, t.head[CLOCK].saturating_add(MOST_AHEAD + 1)),
+        |t, random| last_deadline(t, t.head[CLOCK].saturating_add(MOST_AHEAD + random.between(2, 99))),
+        |t, _| last_deadline(t, u64::MAX),
+        |t, random| edit_waiting(t, random, |request| request.deadline = 0),
+    ],
+    &[
+        |t, random| edit_waiting(t, random, |request| request.number = 0),
+        |t, random| edit_waiting(t, random, |request| request.number = u64::MAX),
+        number_not_given,
+        count_a_free_record,
+    ],
+    &[
+        |t, random| move_to_client(t, random, |clients| clients),
+        |t, random| move_to_client(t, random, |clients| clients.saturating_add(9)),
+        |t, random| move_to_client(t, random, |_| 1 << 32),
+        |t, random| move_to_client(t, random, |_| u64::MAX),
+    ],
+    &[overfill_anywhere, overfill_at_last],
+    &[
+        |t, random| edit_free(t, random, |record, any| record.deadline = any),
+        |t, random| edit_free(t, random, |record, any| record.number = any),
+        |t, random| edit_free(t, random, |record, any| record.client = any),
+        leave_one_uncounted,
+    ],
+    &[
+        |t, random| edit_count(t, random, |[submitted, _, _]| *submitted = submitted.wrapping_add(1)),
+        |t, random| edit_count(t, random, |[submitted, _, _]| *submitted = submitted.wrapping_sub(1)),
+        |t, random| edit_count(t, random, |[_, served, _]| *served = served.wrapping_add(1)),
+        |t, random| edit_count(t, random, |[_, served, _]| *served = served.wrapping_sub(1)),
+        |t, random| edit_count(t, random, |[_, _, dropped]| *dropped = dropped.wrapping_add(1)),
+        |t, random| edit_count(t, random, |[_, _, dropped]| *dropped = dropped.wrapping_sub(1)),
+        // right but for 32 bits
+        |t, random| {
+            edit_count(t, random, |[_, served, dropped]| {
+                (*served, *dropped) = (*served ^ 1 << 31, *dropped ^ 1 << 31)
+            })
+        },
+    ],
+    &[
+        |t, random| submit_past_the_bound(t, random, MOST_COUNTED + 1),
+        |t, random| submit_past_the_bound(t, random, MOST_COUNTED + 9),
+        |t, random| submit_past_the_bound(t, random, u32::MAX),
+    ],
+];
+
+// Each leaves another length, or a waiting count above the length.
+pub const LENGTHS: [Damage; 10] = [
+    |t, _| t.waiting.clear(),
+    |t, random| t.waiting.resize(MOST_RECORDS + 1 + random.below(3), Request::default()),
+    shorten_a_column,
+    lengthen_the_columns,
+    |t, _| t.head[CLIENTS] = t.head[CLIENTS].wrapping_add(1),
+    |t, _| t.head[CLIENTS] = t.head[CLIENTS].wrapping_sub(1),
+    |t, _| t.head[CLIENTS] = u64::MAX,
+    |t, _| t.head[WAITING] = t.waiting.len() as u64 + 1,
+    |t, _| t.head[WAITING] = u64::MAX,
+    |t, _| t.head[WAITING] = 1 << 32,
+];
+
+fn columns(t: &mut Tables) -> [&mut Vec<u32>; 3] {
+    [&mut t.submitted, &mut t.served, &mut t.dropped]
+}
+
+fn waiting_count(t: &Tables) -> usize {
+    t.waiting.len().min(t.head[WAITING] as usize)
+}
+
+fn uncount(t: &mut Tables, client: u64) {
+    if let Some(submitted) = t.submitted.get_mut(client as usize) {
+        *submitted = submitted.wrapping_sub(1);
+    }
+}
+
+// None waits.
+fn take_out_all(t: &mut Tables) {
+    for place in 0..waiting_count(t) {
+        uncount(t, t.waiting[place].client);
+    }
+    t.waiting.fill(Request::default());
+    t.head[WAITING] = 0;
+}
+
+fn no_clients(t: &mut Tables, random: &mut Random) {
+    take_out_all(t);
+    t.head[CLIENTS] = 0;
+    columns(t)[random.below(3)].clear();
+}
+
+fn too_many_clients(t: &mut Tables, random: &mut Random) {
+    let (clients, more) = (t.head[CLIENTS] as usize, random.between(257, 400));
+    t.head[CLIENTS] = more;
+    for column in columns(t) {
+        column.truncate(clients);
+        column.resize(more as usize, 0);
+    }
+}
+
+// The deadlines move with it.
+fn move_clock(t: &mut Tables, to: u64) {
+    let by = to.wrapping_sub(t.head[CLOCK]);
+    t.head[CLOCK] = to;
+    for place in 0..waiting_count(t) {
+        let deadline = &mut t.waiting[place].deadline;
+        *deadline = deadline.wrapping_add(by);
+    }
+}
+
+fn last_clock_of_64_bits(t: &mut Tables, _: &mut Random) {
+    take_out_all(t);
+    t.head[CLOCK] = u64::MAX;
+}
+
+fn swap_neighbours(t: &mut Tables, random: &mut Random) {
+    if let Some(place) = before_another(t, random) {
+        t.waiting.swap(place, place + 1);
+    }
+}
+
+// A place among the waiting with another behind it.
+fn before_another(t: &Tables, random: &mut Random) -> Option<usize> {
+    let places = waiting_count(t).saturating_sub(1);
+    (places > 0).then(|| random.below(places))
+}
+
+fn swap_any(t: &mut Tables, random: &mut Random) {
+    if let Some(place) = before_another(t, random) {
+        t.waiting.swap(place, random.below(place + 1) + 1);
+    }
+}
+
+fn equal_in_both(t: &mut Tables, random: &mut Random) {
+    if let Some(place) = before_another(t, random) {
+        (t.waiting[place].deadline, t.waiting[place].number) = (t.waiting[place + 1].deadline, t.waiting[place + 1].number);
+    }
+}
+
+fn larger_number_first(t: &mut Tables, random: &mut Random) {
+    let Some(place) = before_another(t, random) else { return };
+    t.waiting[place].deadline = t.waiting[place + 1].deadline;
+    let (one, other) = (t.waiting[place].number, t.waiting[place + 1].number);
+    (t.waiting[place].number, t.waiting[place + 1].number) = (one.max(other), one.min(other));
+}
+
+fn first_deadline(t: &mut Tables, deadline: u64) {
+    if waiting_count(t) > 0 {
+        t.waiting[0].deadline = deadline;
+    }
+}
+
+fn last_deadline(t: &mut Tables, deadline: u64) {
+    if let Some(last) = waiting_count(t).checked_sub(1) {
+        t.waiting[last].deadline = deadline;
+    }
+}
+
+fn edit_waiting(t: &mut Tables, random: &mut Random, edit: impl Fn(&mut Request)) {
+    let count = waiting_count(t);
+    if count > 0 {
+        edit(&mut t.waiting[random.below(count)]);
+    }
+}
+
+fn number_not_given(t: &mut Tables, random: &mut Random) {
+    let number = t.head[LAST].saturating_add(random.between(1, 3));
+    edit_waiting(t, random, |request| request.number = number);
+}
+
+// It has number 0.
+fn count_a_free_record(t: &mut Tables, _: &mut Random) {
+    if waiting_count(t) < t.waiting.len() {
+        t.head[WAITING] += 1;
+    }
+}
+
+// Its client before has submitted one less.
+fn move_to_client(t: &mut Tables, random: &mut Random, client: impl Fn(u64) -> u64) {
+    let (count, client) = (waiting_count(t), client(t.head[CLIENTS]));
+    if count > 0 {
+        let place = random.below(count);
+        uncount(t, t.waiting[place].client);
+        t.waiting[place].client = client;
+    }
+}
+
+// The records up to this place have to end before there is room for the last of them.
+fn overfill(t: &mut Tables, place: usize) {
+    let full = t.head[CLOCK].saturating_add(place as u64);
+    let records = &mut t.waiting[..=place];
+    for record in records.iter_mut() {
+        record.deadline = record.deadline.min(full);
+    }
+    records.sort_by_key(|record| (record.deadline, record.number));
+}
+
+fn overfill_anywhere(t: &mut Tables, random: &mut Random) {
+    if let Some(place) = before_another(t, random) {
+        overfill(t, place + 1);
+    }
+}
+
+fn overfill_at_last(t: &mut Tables, _: &mut Random) {
+    if waiting_count(t) > 1 {
+        overfill(t, waiting_count(t) - 1);
+    }
+}
+
+fn edit_free(t: &mut Tables, random: &mut Random, edit: impl Fn(&mut Request, u64)) {
+    let free = t.waiting.len() - waiting_count(t);
+    let value = random.one_of(&[1, 1 << 31, 1 << 32, 1 << 63, u64::MAX]);
+    if free > 0 {
+        let place = t.waiting.len() - 1 - random.below(free);
+        edit(&mut t.waiting[place], value);
+    }
+}
+
+// The last of the waiting; its client has submitted one less.
+fn leave_one_uncounted(t: &mut Tables, _: &mut Random) {
+    if let Some(last) = waiting_count(t).checked_sub(1) {
+        uncount(t, t.waiting[last].client);
+        t.head[WAITING] = last as u64;
+    }
+}
+
+// Submitted, served and dropped of a client.
+fn edit_count(t: &mut Tables, random: &mut Random, edit: impl Fn([&mut u32; 3])) {
+    let clients = columns(t).map(|column| column.len()).into_iter().min().unwrap_or_default();
+    if clients > 0 {
+        let client = random.below(clients);
+        edit(columns(t).map(|column| &mut column[client]));
+    }
+}
+
+// The sum stays right.
+fn submit_past_the_bound(t: &mut Tables, random: &mut Random, count: u32) {
+    edit_count(t, random, |[submitted, served, _]| {
+        *served = served.wrapping_add(count.wrapping_sub(*submitted));
+        *submitted = count;
+    });
+}
+
+fn shorten_a_column(t: &mut Tables, random: &mut Random) {
+    let shorter = t.head[CLIENTS].saturating_sub(1) as usize;
+    columns(t)[random.below(3)].truncate(shorter);
+}
+
+fn lengthen_the_columns(t: &mut Tables, random: &mut Random) {
+    let longer = columns(t).map(|column| column.len()).into_iter().max().unwrap_or_default() + 1;
+    for column in columns(t) {
+        column.resize(longer + random.below(2), 0);
+    }
+}

@@ -1,0 +1,77 @@
+//! "Tables and bounds".
+use super::Fault;
+use std::ops::RangeInclusive;
+// "A record has a deadline, a request number and a client." "The head, passed and handed back: clients, period, clock, last
+// request number, waiting count." The same as they are lent.
+pub use welsbell::{Head, Request};
+
+// "Clients: 1 to 256, numbered from 0."
+pub const CLIENTS: RangeInclusive<u64> = 1..=256;
+
+// "The waiting requests are records in a lent table of 1 to 2,048 records."
+pub const RECORDS: RangeInclusive<usize> = 1..=2_048;
+
+// "submitted, served, dropped, each at most 268,435,455"
+pub const COUNTED: RangeInclusive<u64> = 0..=268_435_455;
+
+// "Clock and request numbers end at 281,474,976,710,655."
+pub const TO_THE_END: RangeInclusive<u64> = 0..=281_474_976_710_655;
+
+// "Period: 1 to 4,294,967,295 slots."
+pub const PERIODS: RangeInclusive<u64> = 1..=4_294_967_295;
+
+// "past the clock by 1 to 65,535, all slots counted"
+pub const AHEAD: RangeInclusive<i128> = 1..=65_535;
+
+// "The client table has one record a client: submitted, served, dropped"
+#[derive(Clone, Copy, Debug, Default, PartialEq)]
+pub struct Counts {
+    pub submitted: u64,
+    pub served: u64,
+    pub dropped: u64,
+}
+
+// The head and both lent tables, of any lengths and with anything in them.
+#[derive(Clone, Debug, Default, PartialEq)]
+pub struct Queue {
+    pub head: Head,
+    pub records: Vec<Request>,
+    pub clients: Vec<Counts>,
+    pub fault: Fault,
+}
+
+impl Queue {
+    // Tables of so many records, all zero, with a head that is zero too.
+    pub fn zero(records: usize, clients: usize, fault: Fault) -> Queue {
+        Queue {
+            head: Head::default(),
+            records: vec![Request::default(); records],
+            clients: vec![Counts::default(); clients],
+            fault,
+        }
+    }
+
+    // The waiting records, which stand first in their table.
+    pub fn waiting(&self) -> &[Request] {
+        let count = (self.head.waiting as usize).min(self.records.len());
+        &self.records[..count]
+    }
+
+    pub fn behind_the_waiting(&self) -> &[Request] {
+        &self.records[self.waiting().len()..]
+    }
+
+    pub fn waiting_of(&self, client: u64) -> u64 {
+        self.waiting().iter().filter(|request| request.client == client).count() as u64
+    }
+
+    // A deadline, or anything that stands in its place, less the clock.
+    pub fn past_the_clock(&self, deadline: u64) -> i128 {
+        i128::from(deadline) - i128::from(self.head.clock)
+    }
+}
+
+// "chart order (earlier deadline first, equal deadlines by smaller number, no two equal in both)"
+pub fn stands_before(one: &Request, other: &Request) -> bool {
+    one.deadline < other.deadline || (one.deadline == other.deadline && one.number < other.number)
+}
