@@ -5,8 +5,8 @@ use crate::queues::{Queue, QUEUES};
 use tests::calls::answer;
 use tests::damages::{Damage, DAMAGES, LENGTHS};
 use tests::model::Call;
+use tests::random::tables::sound;
 use tests::random::Random;
-use tests::random_tables::sound;
 use tests::tables::*;
 use tests::tally::Tally;
 

@@ -1,5 +1,5 @@
-//! What the test programs and the benchmark share: document 01's bounds, tables that are lent, the exported calls over them,
-//! session frames, and random numbers.
+//! What the test programs and the benchmark share: the slow model of document 01; tables that are lent and the exported calls over
+//! them, alone (`calls`) and beside the model (`held`); session frames; damages; random sessions and tables.
 pub mod calls;
 pub mod damages;
 pub mod demand_3;
@@ -8,7 +8,5 @@ pub mod held;
 pub mod model;
 pub mod program;
 pub mod random;
-pub mod random_session;
-pub mod random_tables;
 pub mod tables;
 pub mod tally;

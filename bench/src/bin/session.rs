@@ -14,8 +14,7 @@ use std::fs::{read, write, File};
 use std::path::PathBuf;
 use std::process::Command;
 use std::time::{Duration, Instant};
-use tests::random::Random;
-use tests::random_session;
+use tests::random::{self, Random};
 use tests::tables::*;
 use tests::tally::Tally;
 
@@ -142,9 +141,9 @@ fn count(tally: &mut Tally, answers: &[u8]) {
 
 fn agree(programs: &Programs) {
     let busy = BUSY.map(|(records, clients)| session(records, clients, SHORT));
-    let random = (0..RANDOM).map(|i| random_session::session(Random::of_part(SEED, i), i == 0));
+    let others = (0..RANDOM).map(|i| random::session::session(Random::of_part(SEED, i), i == 0));
     let mut tally = Tally::default();
-    for input in busy.into_iter().chain(random) {
+    for input in busy.into_iter().chain(others) {
         count(&mut tally, &agreed(programs, &input));
     }
     println!(

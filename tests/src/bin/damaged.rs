@@ -7,8 +7,8 @@ use tests::held::{queue_of, Held};
 use tests::model::sound::{is_sound, CLAUSES};
 use tests::model::{Call, KINDS, REFUSED};
 use tests::program::{end, fail, seed};
+use tests::random::tables::{call, sound};
 use tests::random::Random;
-use tests::random_tables::{call, sound};
 use tests::tables::{Tables, MOST_AHEAD, MOST_PERIOD, MOST_RECORDS};
 
 // So many small tables for each way to break a clause, for each pair of clauses, and for each clause with each wrong length.

@@ -5,8 +5,8 @@ use std::env::args;
 use tests::held::Held;
 use tests::model::{Call, KINDS};
 use tests::program::{end, fail, seed};
+use tests::random::tables::call;
 use tests::random::Random;
-use tests::random_tables::call;
 use tests::tables::{Tables, END, MOST_COUNTED, MOST_PERIOD, MOST_RECORDS};
 
 // At least so many calls, all phases together.

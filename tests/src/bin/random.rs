@@ -11,8 +11,7 @@ use tests::demand_3::Lists;
 use tests::model::session::{read, session, widths_out, Answered, SEGMENT};
 use tests::model::{Fault, KINDS};
 use tests::program::{end, fail, seed};
-use tests::random::Random;
-use tests::random_session;
+use tests::random::{self, Random};
 use tests::tally::Tally;
 
 const SESSIONS: u64 = 3_000;
@@ -117,7 +116,7 @@ struct Test {
 
 impl Test {
     fn session(&mut self, number: u64) -> Result<(), String> {
-        let input = random_session::session(Random::of_part(self.seed, number), number.is_multiple_of(LARGE_ONE_OF));
+        let input = random::session::session(Random::of_part(self.seed, number), number.is_multiple_of(LARGE_ONE_OF));
         let pieces = pieces(&input, &mut Random::of_part(self.seed, SESSIONS + number));
         let ended = run(&self.program, pieces).map_err(|e| format!("{}: {e}", self.program))?;
         let answered = session(&input, self.fault);

@@ -1,4 +1,6 @@
-// Numbers that look random and are the same in every run.
+//! Numbers that look random and are the same in every run with one seed; sessions and tables made of them.
+pub mod session;
+pub mod tables;
 
 pub struct Random(pub u64);
 
