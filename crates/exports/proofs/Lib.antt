@@ -1,1 +1,4 @@
+pub mod Calls
 pub mod Exporting
+pub mod Lending
+pub mod Pair

@@ -1,17 +1,18 @@
 -- Laws of the passes: the tests of one record and of one client's counts, what one turn of a pass leaves to do, the clients with
 -- the count of the records, and the shape of the tables. Assumes nothing.
-use Prim.Native.Nat.{ℕ, zero, suc, _+_, _%_, _≤_, _<_}
+use Prim.Native.Nat.{ℕ, zero, suc, _+_, _-_, _%_, _≤_, _<_}
 use mathlib.Core.Path.{_≡_, refl, sym, ap, subst, _∙_}
 use mathlib.Core.Bool.{Bool, true, false, not, _&&_, _||_, and-eq-true-iff, and-false, and-assoc}
 use mathlib.Core.List.{List, [], _∷_}
 use mathlib.Core.Logic.{_≢_}
 use native.Mathlib.Numerals.{add-one}
 use native.Mathlib.Omega.{arith}
-use borrow.Author.Tests.{leb-true, leb-false, ltb-true, eqb-true, lt-ltb, le-ltb, ne-eqb}
+use borrow.Author.Tests.{leb-true, leb-false, ltb-true, eqb-true, le-leb, lt-leb, lt-ltb, le-ltb, ne-eqb}
 use lib.Bits.{bitOr, or-add-and, and-le-r}
 use lib.Dec.{T, T-not, leb, ltb, eqb, eqb→eq, eqb-refl}
 use lib.ListN.{length, getD, take, drop, replicate}
 use lib.Seq.{take-all}
+use mir.Val.{boolByte}
 use Rattle.slots.proofs.Laws.Tests.{le, gt, order, Test, holds, fails, test}
 use Rattle.spec.specs.declared.types.Head.{Head}
 use Rattle.spec.specs.declared.types.Request.{Request}
@@ -23,6 +24,7 @@ use Rattle.spec.specs.Chart.{roomTo}
 use Rattle.spec.specs.Sound.{waitingOf, isZeroRequest, isBalanced}
 use Rattle.spec.specs.Refusals.{refusal4}
 use Rattle.spec.proofs.Laws.Every.{Value, is-true, is-false, value}
+use Rattle.spec.proofs.Laws.Order.{Compared, compared, before as ordered, after as unordered, earlier, alike, later, alike-later}
 use Rattle.spec.proofs.Laws.Room.{room-back}
 use Rattle.spec.proofs.Laws.Sound.{within-test, Shaped}
 use Rattle.table.proofs.Laws.{not-not}
@@ -41,6 +43,28 @@ room-past head i deadline h =
 
 pub room-some : (head : Head) (i deadline : ℕ) → i < roomTo head deadline → 1 ≤ deadline
 room-some head i deadline h = omega (arith, room-past head i deadline h)
+
+-- ---- chart order as one comparison: a deadline may follow itself only where the number is larger
+-- what a deadline is lowered by
+pub one-at-most : (x : Bool) (n : ℕ) → 1 ≤ n → boolByte x ≤ n
+one-at-most true n some = some
+one-at-most false n some = omega arith
+
+module _ (a b : Request) where
+  pub one-comparison : 1 ≤ b .deadline
+      → leb (a .deadline) (b .deadline - boolByte (leb (b .number) (a .number))) ≡ comesBefore a b
+  one-comparison some =
+      go (leb (b .number) (a .number)) (comesBefore a b) (test (b .number) (a .number)) (compared a b)
+    where
+      go : (x y : Bool) → Test (b .number) (a .number) x → Compared a b y → leb (a .deadline) (b .deadline - boolByte x) ≡ y
+      go true true (holds n) (ordered (earlier g)) = le-leb (a .deadline) (b .deadline - 1) (omega arith)
+      go true true (holds n) (ordered (alike e m)) = absurd (omega arith)
+      go true false (holds n) (unordered (later g)) = lt-leb (a .deadline) (b .deadline - 1) (omega arith)
+      go true false (holds n) (unordered (alike-later e m)) = lt-leb (a .deadline) (b .deadline - 1) (omega arith)
+      go false true (fails n) (ordered (earlier g)) = le-leb (a .deadline) (b .deadline - 0) (omega arith)
+      go false true (fails n) (ordered (alike e m)) = le-leb (a .deadline) (b .deadline - 0) (omega arith)
+      go false false (fails n) (unordered (later g)) = lt-leb (a .deadline) (b .deadline - 0) (omega arith)
+      go false false (fails n) (unordered (alike-later e m)) = absurd (omega arith)
 
 -- ---- of a record that passes the other tests, only the order is left to ask
 pub next-order : (head : Head) (i : ℕ) (before w : Request)
@@ -108,9 +132,18 @@ or-zero (suc a) b =
       ne-eqb (bitOr (suc a) b) 0 (λ e. omega (arith, or-add-and (suc a) b, and-le-r (suc a) b)),
     )
 
-pub bits-zero : (w : Request) → eqb (bitOr (bitOr (w .deadline) (w .number)) (w .client)) 0 ≡ isZeroRequest w
+abbrev bits : Request → ℕ
+bits w = bitOr (bitOr (w .deadline) (w .number)) (w .client)
+
+pub bits-zero : (w : Request) → eqb (bits w) 0 ≡ isZeroRequest w
 unfolding isZeroRequest
 bits-zero w = simp or-zero
+
+pub bits-zero-four : (a b c d : Request)
+    → eqb (bitOr (bitOr (bits a) (bits b)) (bitOr (bits c) (bits d))) 0
+    ≡ isZeroRequest a && isZeroRequest b && (isZeroRequest c && isZeroRequest d)
+unfolding isZeroRequest
+bits-zero-four a b c d = simp or-zero
 
 -- ---- counts cut to their bound: where one is beyond it, they do not balance
 abbrev cut : ℕ → ℕ

@@ -1,7 +1,7 @@
 pub mod Tally
 pub mod Laws
-pub mod Order
 pub mod Turns
+pub mod Zeros
 pub mod Calls
 pub mod Pass
 pub mod Found

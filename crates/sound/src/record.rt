@@ -5,6 +5,7 @@ use spec::types::Head;
 use spec::types::Request;
 ghost use Prim.Native.Nat.{_+_, _≤_};
 ghost use mathlib.Core.Path.{_≡_};
+ghost use mathlib.Core.Bool.{_&&_};
 ghost use Rattle.spec.specs.Tables.{mostRecords, clockEnd};
 ghost use Rattle.spec.specs.Order.{comesBefore};
 ghost use Rattle.spec.specs.Sound.{isHeadWithin, isZeroRequest};
@@ -55,6 +56,15 @@ pub(crate) fn is_zero(w: Request) -> bool
     ensures { λ r. ⌜ r ≡ isZeroRequest w ⌝ }
 {
     (w.deadline | w.number | w.client) == 0
+}
+
+// Whether four records are zero, by one test of the bits of all their fields.
+pub(crate) fn are_zero_four(a: Request, b: Request, c: Request, d: Request) -> bool
+    ensures { λ r. ⌜ r ≡ isZeroRequest a && isZeroRequest b && (isZeroRequest c && isZeroRequest d) ⌝ }
+{
+    let ab = (a.deadline | a.number | a.client) | (b.deadline | b.number | b.client);
+    let cd = (c.deadline | c.number | c.client) | (d.deadline | d.number | d.client);
+    (ab | cd) == 0
 }
 
 // Whether a client's counts balance with those waiting, counted in four parts. The sum is of 32 bits, so that several clients can

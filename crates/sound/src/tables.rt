@@ -5,7 +5,7 @@ use spec::types::Head;
 use spec::types::Request;
 ghost use Prim.Native.Nat.{_+_, _-_, _%_, _≤_};
 ghost use mathlib.Core.Path.{_≡_};
-ghost use mathlib.Core.Bool.{true};
+ghost use mathlib.Core.Bool.{true, _&&_};
 ghost use lib.ListN.{length, take, drop};
 ghost use Rattle.spec.specs.Every.{every, everyFrom};
 ghost use Rattle.spec.specs.Tables.{mostClients};
@@ -120,12 +120,30 @@ pub(crate) fn are_next(t: &[Request], tally: &mut [u16], head: Head, n: usize) -
     rest(t, tally, head, m, n, p)
 }
 
-// Whether the records from one index on are zero; the first that is not ends the search.
-pub(crate) fn are_zero(t: &[Request], from: usize) -> bool
-    ensures { λ r. ⌜ r ≡ every isZeroRequest (drop from (now (t .entry))) ⌝ }
+// Whether the records from one index to another are zero, four at a time; the first four of which one is not end the search.
+fn zero_fours(t: &[Request], from: usize, to: usize) -> bool
+    requires { ⌜ (to ≤ length (now t)) × ((to - from) % 4 ≡ 0) ⌝ }
+    ensures { λ r. ⌜ r ≡ every isZeroRequest (drop from (take to (now (t .entry)))) ⌝ }
+{
+    let mut zero = true;
+    let mut i = from;
+    while (i < to) & zero {
+        let a = table::get(t, i);
+        let b = table::get(t, i + 1);
+        let c = table::get(t, i + 2);
+        let d = table::get(t, i + 3);
+        zero = crate::record::are_zero_four(a, b, c, d);
+        i += 4;
+    }
+    zero
+}
+
+// Whether the records from one index on are zero, one at a time, if those before it are; the first that is not ends the search.
+fn zero_rest(t: &[Request], from: usize, ok: bool) -> bool
+    ensures { λ r. ⌜ r ≡ ok && every isZeroRequest (drop from (now (t .entry))) ⌝ }
 {
     let n = t.len();
-    let mut zero = true;
+    let mut zero = ok;
     let mut i = from;
     while (i < n) & zero {
         let w = table::get(t, i);
@@ -133,6 +151,17 @@ pub(crate) fn are_zero(t: &[Request], from: usize) -> bool
         i += 1;
     }
     zero
+}
+
+// Whether the records from one index on are zero.
+pub(crate) fn are_zero(t: &[Request], from: usize) -> bool
+    requires { ⌜ from ≤ length (now t) ⌝ }
+    ensures { λ r. ⌜ r ≡ every isZeroRequest (drop from (now (t .entry))) ⌝ }
+{
+    let n = t.len();
+    let m = from + (n - from) / 4 * 4;
+    let p = zero_fours(t, from, m);
+    zero_rest(t, m, p)
 }
 
 // Whether the counts of the first n clients balance with the four parts of the tally.

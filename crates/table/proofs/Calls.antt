@@ -32,13 +32,13 @@ use Rattle.table.proofs.get as get
 use Rattle.table.proofs.get.Symbol.{name as #table·get}
 use Rattle.table.proofs.put as put
 use Rattle.table.proofs.put.Symbol.{name as #table·put}
-use Rattle.table.proofs.next as next
+use Rattle.table.proofs.moves.next as next
 use Rattle.table.proofs.store as store
-use Rattle.table.proofs.shift as shift
-use Rattle.table.proofs.to_front as to-front
-use Rattle.table.proofs.to_back as to-back
-use Rattle.table.proofs.rotate as rotate
-use Rattle.table.proofs.move_between as move-between
+use Rattle.table.proofs.moves.shift as shift
+use Rattle.table.proofs.moves.to_front as to-front
+use Rattle.table.proofs.moves.to_back as to-back
+use Rattle.table.proofs.moves.rotate as rotate
+use Rattle.table.proofs.moves.move_between as move-between
 
 module _ {M : Type 1} (𝓤 : URA M) (H : Heap 𝓤) (A : Atoms 𝓤) (mem : Memory → SProp 𝓤) (run : Routine → Fun 𝓤) where
   abbrev pub Get : Contract 𝓤

@@ -1,4 +1,4 @@
--- `table::to_back` and `table::to_front` as one: the function `thin` calls `shift` with constants, which `up` chooses, and meets
+-- `table::moves::to_back` and `table::moves::to_front` as one: the function `thin` calls `shift` with constants, which `up` chooses, and meets
 -- the contract that each of the two has at its `up`. D is the type of a request, as the code of each spells it.
 -- Assumes `Given`, and that `shift` meets its contract.
 use mathlib.Core.Path.{_≡_, refl}
@@ -43,8 +43,8 @@ use Rattle.table.proofs.Walk.Lent.{own-at}
 use Rattle.table.proofs.Walk.Loans.{Param, loan, number, flag, bound, relent, calls-on}
 use Rattle.table.proofs.Calls.{Shift}
 use Rattle.table.proofs.Laws.{Asked, asks}
-use Rattle.table.proofs.shift.Symbol.{name as #table·shift}
-use Rattle.table.proofs.to_front as f
+use Rattle.table.proofs.moves.shift.Symbol.{name as #table·shift}
+use Rattle.table.proofs.moves.to_front as f
 
 abbrev stayed : Stays (f.ended .signature .params) (f.ended .kept)
 stayed = (stay-slice (0 ∷ []) tt (plain (λ _. R)), (stay-none (λ _. usize) yes, tt))

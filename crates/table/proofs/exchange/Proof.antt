@@ -47,9 +47,9 @@ use Rattle.table.proofs.Laws.{not-not, untouched, both-in, replaced}
 use Rattle.table.proofs.get.Symbol as get-def
 use Rattle.table.proofs.get.Symbol.{name as #table·get}
 use Rattle.table.proofs.get.Met as get-thm
-use Rattle.table.proofs.move_between.Symbol as move-between-def
-use Rattle.table.proofs.move_between.Symbol.{name as #table·move-between}
-use Rattle.table.proofs.move_between.Met as move-between-thm
+use Rattle.table.proofs.moves.move_between.Symbol as move-between-def
+use Rattle.table.proofs.moves.move_between.Symbol.{name as #table·move-between}
+use Rattle.table.proofs.moves.move_between.Met as move-between-thm
 use Rattle.table.proofs.put.Symbol as put-def
 use Rattle.table.proofs.put.Symbol.{name as #table·put}
 use Rattle.table.proofs.put.Met as put-thm
@@ -145,5 +145,5 @@ exchange-spec 𝓤 H 𝓜 𝓖 𝓡 =
     (tables 𝓤 H 𝓜 𝓡 code.env .C) (tables 𝓤 H 𝓜 𝓡 code.env .Λ) #table·exchange code.function (code.unfolded 𝓤 H 𝓜 𝓡)
     (meets 𝓤 H (𝓖 .A) (givenOf 𝓤 H 𝓜 𝓖) (𝓜 .mem) (𝓡 .run) (tablesOf 𝓤 H 𝓜 (tables 𝓤 H 𝓜 𝓡 code.env))
     (cited 𝓤 H (Get 𝓤 H (𝓖 .A) (𝓜 .mem) (𝓡 .run)) 𝓜 𝓡 code.env #table·get get-def.routine code.calls-table·get (get-thm.met 𝓤 H 𝓜 𝓖 𝓡))
-    (cited 𝓤 H (MoveBetween 𝓤 H (𝓖 .A) (𝓜 .mem) (𝓡 .run)) 𝓜 𝓡 code.env #table·move-between move-between-def.routine code.calls-table·move-between (move-between-thm.met 𝓤 H 𝓜 𝓖 𝓡))
+    (cited 𝓤 H (MoveBetween 𝓤 H (𝓖 .A) (𝓜 .mem) (𝓡 .run)) 𝓜 𝓡 code.env #table·move-between move-between-def.routine code.calls-table·moves·move-between (move-between-thm.met 𝓤 H 𝓜 𝓖 𝓡))
     (cited 𝓤 H (Put 𝓤 H (𝓖 .A) (𝓜 .mem) (𝓡 .run)) 𝓜 𝓡 code.env #table·put put-def.routine code.calls-table·put (put-thm.met 𝓤 H 𝓜 𝓖 𝓡)))

@@ -132,7 +132,7 @@ module _ {M : Type 1} (𝓤 : URA M) (H : Heap 𝓤) (A : Atoms 𝓤) (W : Given
         let size : length tally ≡ 1024 = kept₁ .1 .0 ∙ zeros-long in
         -- let zero = tables::are_zero(waiting, n);
         let ps₂ : List (Param 𝓤 H A) = loan (passed W R (named 0) κ₀ q₀ γ₀ b₀ o₀ ws n₀) ∷ number W (head .waiting) (waiting-fits head head-is) ∷ [] in
-        move ! (1 ∷ []) $ nothing ! $ move ! (1 ∷ 0 ∷ []) $ fjoin ! $ calls-with ! fm ps₂ (emp 𝓤) (id⊢ 𝓤 (emp 𝓤)) bool (λ r last. r ≡ every isZeroRequest (drop-list (head .waiting) ws))
+        move ! (1 ∷ []) $ nothing ! $ move ! (1 ∷ 0 ∷ []) $ fjoin ! $ calls-with ! fm ps₂ (fact 𝓤 (head .waiting ≤ n₀)) (factI 𝓤 _ (emp 𝓤) (next-asked head ws su se dr asked .1)) bool (λ r last. r ≡ every isZeroRequest (drop-list (head .waiting) ws))
         (λ c. known-are-zero (bound W ps₂ c)) (λ c. (and-then ! (load ! (from ! (stop !)) (look ! 33 refl)) (and-then ! (load ! (from ! (stop !)) (look ! 22 refl)) (no-more !)))) (λ w₂ zero last₂ told-zero kept₂.
         fsplit ! $ move ! (1 ∷ []) $ drop ! $ move ! (1 ∷ []) $ lands-told ! bool vbool bool-tells w₂ zero (λ zero-is.
         land ! (from ! (stop !)) (init ! 17 refl ((tt, tt))) $

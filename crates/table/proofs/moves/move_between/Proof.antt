@@ -1,4 +1,4 @@
--- `table::move_between` meets its contract: a walk with a branch, in each arm of which the records from the nearer place on are
+-- `table::moves::move_between` meets its contract: a walk with a branch, in each arm of which the records from the nearer place on are
 -- lent to `rotate` (`Walk/Parts.antt`). A shift of that part is one of the whole (`Laws.antt`'s `moved`).
 -- Assumes nothing.
 use mathlib.Core.Path.{_≡_, refl}
@@ -47,13 +47,13 @@ use Rattle.table.proofs.Walk.Loans.{Loan, Param, loan, number, flag, bo
 use Rattle.table.proofs.Walk.Parts.{rest-from, whole-long, room-less, rest-lent}
 use Rattle.table.proofs.Calls.{Rotate}
 use Rattle.table.proofs.Laws.{far-within, moved}
-use Rattle.table.proofs.rotate.Symbol as rotate-def
-use Rattle.table.proofs.rotate.Symbol.{name as #table·rotate}
-use Rattle.table.proofs.rotate.Met as rotate-thm
-use Rattle.table.proofs.move_between.Key.{name as #table·move-between}
-use Rattle.table.proofs.move_between as f
-use Rattle.table.proofs.move_between.Statement as stated
-use Rattle.table.proofs.move_between.Code as code
+use Rattle.table.proofs.moves.rotate.Symbol as rotate-def
+use Rattle.table.proofs.moves.rotate.Symbol.{name as #table·rotate}
+use Rattle.table.proofs.moves.rotate.Met as rotate-thm
+use Rattle.table.proofs.moves.move_between.Key.{name as #table·move-between}
+use Rattle.table.proofs.moves.move_between as f
+use Rattle.table.proofs.moves.move_between.Statement as stated
+use Rattle.table.proofs.moves.move_between.Code as code
 
 abbrev stayed : Stays (f.ended .signature .params) (f.ended .kept)
 stayed = (stay-slice (0 ∷ []) tt (plain (λ _. R)), (stay-none (λ _. usize) yes, (stay-none (λ _. usize) yes, tt)))
@@ -173,4 +173,4 @@ move-between-spec 𝓤 H 𝓜 𝓖 𝓡 =
     entered 𝓤 H (tripleOf 𝓤 H (𝓖 .A) f.signature (f.spec 𝓤 H (𝓖 .A) (𝓜 .mem) (𝓡 .run)))
     (tables 𝓤 H 𝓜 𝓡 code.env .C) (tables 𝓤 H 𝓜 𝓡 code.env .Λ) #table·move-between code.function (code.unfolded 𝓤 H 𝓜 𝓡)
     (meets 𝓤 H (𝓖 .A) (givenOf 𝓤 H 𝓜 𝓖) (𝓜 .mem) (𝓡 .run) (tablesOf 𝓤 H 𝓜 (tables 𝓤 H 𝓜 𝓡 code.env))
-    (cited 𝓤 H (Rotate 𝓤 H (𝓖 .A) (𝓜 .mem) (𝓡 .run)) 𝓜 𝓡 code.env #table·rotate rotate-def.routine code.calls-table·rotate (rotate-thm.met 𝓤 H 𝓜 𝓖 𝓡)))
+    (cited 𝓤 H (Rotate 𝓤 H (𝓖 .A) (𝓜 .mem) (𝓡 .run)) 𝓜 𝓡 code.env #table·rotate rotate-def.routine code.calls-table·moves·rotate (rotate-thm.met 𝓤 H 𝓜 𝓖 𝓡)))

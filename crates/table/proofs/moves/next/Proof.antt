@@ -1,7 +1,7 @@
--- `table::next` meets its contract: each branch's test says which bound is asked. Assumes nothing.
+-- `table::moves::next` meets its contract: each branch's test says which bound is asked. Assumes nothing.
 use native.Mathlib.Omega.{arith}
-use Rattle.table.proofs.next.Statement.{statement}
-use Rattle.table.proofs.next.Tie as tie
+use Rattle.table.proofs.moves.next.Statement.{statement}
+use Rattle.table.proofs.moves.next.Tie as tie
 
 sub-result : tie.Need-sub-result
 sub-result c = omega (arith, c .before .pre .0 (c .if1 .taken))

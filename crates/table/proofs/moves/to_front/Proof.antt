@@ -1,4 +1,4 @@
--- `table::to_front` meets its contract: `Ends.antt`'s walk, where `up` is false. Assumes nothing.
+-- `table::moves::to_front` meets its contract: `Ends.antt`'s walk, where `up` is false. Assumes nothing.
 use mathlib.Core.Bool.{false}
 use contract.Running.{givenOf, tables, tablesOf}
 use denote.Memory.{pointee}
@@ -8,14 +8,14 @@ use package.mir.Table.{spell}
 use Rattle.table.proofs.Walk.Rows.{R}
 use Rattle.table.proofs.Calls.{Shift}
 use Rattle.table.proofs.Ends.{meets}
-use Rattle.table.proofs.shift.Symbol as shift-def
-use Rattle.table.proofs.shift.Symbol.{name as #table·shift}
-use Rattle.table.proofs.shift.Met as shift-thm
-use Rattle.table.proofs.to_front.Key.{name as #table·to-front}
-use Rattle.table.proofs.to_front as f
-use Rattle.table.proofs.to_front.Statement as stated
-use Rattle.table.proofs.to_front.Code as code
-use Rattle.table.proofs.to_front.Code.Mir as mir
+use Rattle.table.proofs.moves.shift.Symbol as shift-def
+use Rattle.table.proofs.moves.shift.Symbol.{name as #table·shift}
+use Rattle.table.proofs.moves.shift.Met as shift-thm
+use Rattle.table.proofs.moves.to_front.Key.{name as #table·to-front}
+use Rattle.table.proofs.moves.to_front as f
+use Rattle.table.proofs.moves.to_front.Statement as stated
+use Rattle.table.proofs.moves.to_front.Code as code
+use Rattle.table.proofs.moves.to_front.Code.Mir as mir
 
 pub to-front-spec : {M : Type 1} → stated.statement M
 unfolding code.routine tablesOf
@@ -23,4 +23,4 @@ to-front-spec 𝓤 H 𝓜 𝓖 𝓡 =
     entered 𝓤 H (tripleOf 𝓤 H (𝓖 .A) f.signature (f.spec 𝓤 H (𝓖 .A) (𝓜 .mem) (𝓡 .run)))
     (tables 𝓤 H 𝓜 𝓡 code.env .C) (tables 𝓤 H 𝓜 𝓡 code.env .Λ) #table·to-front code.function (code.unfolded 𝓤 H 𝓜 𝓡)
     (meets false (spell mir.table (pointee (R .written))) 𝓤 H (𝓖 .A) (givenOf 𝓤 H 𝓜 𝓖) (𝓜 .mem) (𝓡 .run) (tablesOf 𝓤 H 𝓜 (tables 𝓤 H 𝓜 𝓡 code.env))
-    (cited 𝓤 H (Shift 𝓤 H (𝓖 .A) (𝓜 .mem) (𝓡 .run)) 𝓜 𝓡 code.env #table·shift shift-def.routine code.calls-table·shift (shift-thm.met 𝓤 H 𝓜 𝓖 𝓡)))
+    (cited 𝓤 H (Shift 𝓤 H (𝓖 .A) (𝓜 .mem) (𝓡 .run)) 𝓜 𝓡 code.env #table·shift shift-def.routine code.calls-table·moves·shift (shift-thm.met 𝓤 H 𝓜 𝓖 𝓡)))

@@ -1,4 +1,4 @@
--- `table::rotate` meets its contract: a walk with a branch, in each arm of which one function is called. What it leaves is what
+-- `table::moves::rotate` meets its contract: a walk with a branch, in each arm of which one function is called. What it leaves is what
 -- the test says (`Laws.antt`'s `turned`). Assumes nothing.
 use mathlib.Core.Path.{_≡_, refl}
 use Prim.Native.Nat.{ℕ, _<_, _^_}
@@ -42,16 +42,16 @@ use Rattle.table.proofs.Walk.Lent.{own-at}
 use Rattle.table.proofs.Walk.Loans.{Loan, Param, loan, number, bound, relent, calls-on}
 use Rattle.table.proofs.Calls.{ToFront, ToBack}
 use Rattle.table.proofs.Laws.{turned}
-use Rattle.table.proofs.to_front.Symbol as to-front-def
-use Rattle.table.proofs.to_front.Symbol.{name as #table·to-front}
-use Rattle.table.proofs.to_front.Met as to-front-thm
-use Rattle.table.proofs.to_back.Symbol as to-back-def
-use Rattle.table.proofs.to_back.Symbol.{name as #table·to-back}
-use Rattle.table.proofs.to_back.Met as to-back-thm
-use Rattle.table.proofs.rotate.Key.{name as #table·rotate}
-use Rattle.table.proofs.rotate as f
-use Rattle.table.proofs.rotate.Statement as stated
-use Rattle.table.proofs.rotate.Code as code
+use Rattle.table.proofs.moves.to_front.Symbol as to-front-def
+use Rattle.table.proofs.moves.to_front.Symbol.{name as #table·to-front}
+use Rattle.table.proofs.moves.to_front.Met as to-front-thm
+use Rattle.table.proofs.moves.to_back.Symbol as to-back-def
+use Rattle.table.proofs.moves.to_back.Symbol.{name as #table·to-back}
+use Rattle.table.proofs.moves.to_back.Met as to-back-thm
+use Rattle.table.proofs.moves.rotate.Key.{name as #table·rotate}
+use Rattle.table.proofs.moves.rotate as f
+use Rattle.table.proofs.moves.rotate.Statement as stated
+use Rattle.table.proofs.moves.rotate.Code as code
 
 abbrev stayed : Stays (f.ended .signature .params) (f.ended .kept)
 stayed = (stay-slice (0 ∷ []) tt (plain (λ _. R)), (stay-none (λ _. usize) yes, (stay-none (λ _. bool) yes, tt)))
@@ -126,5 +126,5 @@ rotate-spec 𝓤 H 𝓜 𝓖 𝓡 =
     entered 𝓤 H (tripleOf 𝓤 H (𝓖 .A) f.signature (f.spec 𝓤 H (𝓖 .A) (𝓜 .mem) (𝓡 .run)))
     (tables 𝓤 H 𝓜 𝓡 code.env .C) (tables 𝓤 H 𝓜 𝓡 code.env .Λ) #table·rotate code.function (code.unfolded 𝓤 H 𝓜 𝓡)
     (meets 𝓤 H (𝓖 .A) (givenOf 𝓤 H 𝓜 𝓖) (𝓜 .mem) (𝓡 .run) (tablesOf 𝓤 H 𝓜 (tables 𝓤 H 𝓜 𝓡 code.env))
-    (cited 𝓤 H (ToFront 𝓤 H (𝓖 .A) (𝓜 .mem) (𝓡 .run)) 𝓜 𝓡 code.env #table·to-front to-front-def.routine code.calls-table·to-front (to-front-thm.met 𝓤 H 𝓜 𝓖 𝓡))
-    (cited 𝓤 H (ToBack 𝓤 H (𝓖 .A) (𝓜 .mem) (𝓡 .run)) 𝓜 𝓡 code.env #table·to-back to-back-def.routine code.calls-table·to-back (to-back-thm.met 𝓤 H 𝓜 𝓖 𝓡)))
+    (cited 𝓤 H (ToFront 𝓤 H (𝓖 .A) (𝓜 .mem) (𝓡 .run)) 𝓜 𝓡 code.env #table·to-front to-front-def.routine code.calls-table·moves·to-front (to-front-thm.met 𝓤 H 𝓜 𝓖 𝓡))
+    (cited 𝓤 H (ToBack 𝓤 H (𝓖 .A) (𝓜 .mem) (𝓡 .run)) 𝓜 𝓡 code.env #table·to-back to-back-def.routine code.calls-table·moves·to-back (to-back-thm.met 𝓤 H 𝓜 𝓖 𝓡)))

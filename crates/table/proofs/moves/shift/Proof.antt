@@ -1,4 +1,4 @@
--- `table::shift` meets its contract: a walk with a loop. The loop's variant is the place i and the list zs with what is known
+-- `table::moves::shift` meets its contract: a walk with a loop. The loop's variant is the place i and the list zs with what is known
 -- of them (`Laws.antt`'s `Going`), ordered by the distance to `to`. A turn calls `next`, `get` and `put`, and one law on lists
 -- (`goes-on`) takes both on. The parameters `from` and `to` are a and z here.
 -- Assumes nothing.
@@ -51,20 +51,20 @@ use Rattle.table.proofs.Walk.Lent.{own-at, Elements, of-slice, seen}
 use Rattle.table.proofs.Walk.Loans.{Param, number, flag, bound, calls-told}
 use Rattle.table.proofs.Calls.{Next, Get, Put, calls-get, calls-put}
 use Rattle.table.proofs.Laws.{Step, Going, Asked, sets-out, steps, goes-on, arrives}
-use Rattle.table.proofs.next.Symbol as next-def
-use Rattle.table.proofs.next.Symbol.{name as #table·next}
-use Rattle.table.proofs.next.Met as next-thm
+use Rattle.table.proofs.moves.next.Symbol as next-def
+use Rattle.table.proofs.moves.next.Symbol.{name as #table·next}
+use Rattle.table.proofs.moves.next.Met as next-thm
 use Rattle.table.proofs.get.Symbol as get-def
 use Rattle.table.proofs.get.Symbol.{name as #table·get}
 use Rattle.table.proofs.get.Met as get-thm
 use Rattle.table.proofs.put.Symbol as put-def
 use Rattle.table.proofs.put.Symbol.{name as #table·put}
 use Rattle.table.proofs.put.Met as put-thm
-use Rattle.table.proofs.shift.Key.{name as #table·shift}
-use Rattle.table.proofs.shift as f
-use Rattle.table.proofs.shift.Statement as stated
-use Rattle.table.proofs.shift.Code as code
-use Rattle.table.proofs.shift.Code.Mir as mir
+use Rattle.table.proofs.moves.shift.Key.{name as #table·shift}
+use Rattle.table.proofs.moves.shift as f
+use Rattle.table.proofs.moves.shift.Statement as stated
+use Rattle.table.proofs.moves.shift.Code as code
+use Rattle.table.proofs.moves.shift.Code.Mir as mir
 
 abbrev stayed : Stays (f.ended .signature .params) (f.ended .kept)
 stayed = (stay-slice (0 ∷ []) tt (plain (λ _. R)), (stay-none (λ _. usize) yes, (stay-none (λ _. usize) yes, (stay-none (λ _. bool) yes, tt))))
@@ -203,6 +203,6 @@ shift-spec 𝓤 H 𝓜 𝓖 𝓡 =
     entered 𝓤 H (tripleOf 𝓤 H (𝓖 .A) f.signature (f.spec 𝓤 H (𝓖 .A) (𝓜 .mem) (𝓡 .run)))
     (tables 𝓤 H 𝓜 𝓡 code.env .C) (tables 𝓤 H 𝓜 𝓡 code.env .Λ) #table·shift code.function (code.unfolded 𝓤 H 𝓜 𝓡)
     (meets 𝓤 H (𝓖 .A) (givenOf 𝓤 H 𝓜 𝓖) (𝓜 .mem) (𝓡 .run) (tablesOf 𝓤 H 𝓜 (tables 𝓤 H 𝓜 𝓡 code.env))
-    (cited 𝓤 H (Next 𝓤 H (𝓖 .A) (𝓜 .mem) (𝓡 .run)) 𝓜 𝓡 code.env #table·next next-def.routine code.calls-table·next (next-thm.met 𝓤 H 𝓜 𝓖 𝓡))
+    (cited 𝓤 H (Next 𝓤 H (𝓖 .A) (𝓜 .mem) (𝓡 .run)) 𝓜 𝓡 code.env #table·next next-def.routine code.calls-table·moves·next (next-thm.met 𝓤 H 𝓜 𝓖 𝓡))
     (cited 𝓤 H (Get 𝓤 H (𝓖 .A) (𝓜 .mem) (𝓡 .run)) 𝓜 𝓡 code.env #table·get get-def.routine code.calls-table·get (get-thm.met 𝓤 H 𝓜 𝓖 𝓡))
     (cited 𝓤 H (Put 𝓤 H (𝓖 .A) (𝓜 .mem) (𝓡 .run)) 𝓜 𝓡 code.env #table·put put-def.routine code.calls-table·put (put-thm.met 𝓤 H 𝓜 𝓖 𝓡)))
