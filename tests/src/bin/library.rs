@@ -778,7 +778,7 @@ fn other_lengths(l: &mut Library) {
     }
 }
 
-// The most that a call copies, in a thread with a stack of 32 KiB.
+// The call that takes most of the stack, a submit that looks for a victim, in a thread with 32 KiB of it.
 fn little_stack(l: &mut Library) {
     thread::scope(|scope| {
         let small = thread::Builder::new().stack_size(32 << 10);
