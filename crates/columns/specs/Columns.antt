@@ -37,7 +37,10 @@ pub record Holds (cs : List Counts) (submitted₀ served₀ dropped₀ submitted
   pub served-same : served ≡ over (λ k. k .served) cs served₀
   pub dropped-same : dropped ≡ over (λ k. k .dropped) cs dropped₀
 
--- the largest numbers of 32 and of 64 bits
+-- the largest numbers of 16, of 32 and of 64 bits
+abbrev pub largest16 : ℕ
+largest16 = 65535
+
 abbrev pub largest32 : ℕ
 largest32 = 4294967295
 

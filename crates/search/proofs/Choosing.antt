@@ -14,7 +14,7 @@ use Rattle.spec.specs.Tables.{zeroCounts}
 use Rattle.spec.specs.Victim.{hasSmallerRatio}
 use Rattle.spec.proofs.Calls.Victim.{AtMost, at-most-trans, at-most-facts, at-most-test, Rated, smaller, not-smaller, rated}
 use Rattle.search.specs.declared.victim.Latest.{Latest}
-use Rattle.search.specs.Scans.{betterOf, Countable, Wins}
+use Rattle.search.specs.Scans.{betterOf, HaveRatios, Wins}
 
 -- which of the two is the better, and why
 pub data Better (best next : Latest) : Latest → Type 0 where
@@ -100,7 +100,7 @@ pub data Held (counts : ℕ → Counts) (latest : List ℕ) (m : ℕ) (best : La
   owned : (owner : ℕ) → owner < m → 0 < best .at → best .at ≡ getD latest owner 0 → best .counts ≡ counts owner
       → ((j : ℕ) → j < m → Beaten counts latest best j) → Held counts latest m best
 
-module _ (counts : ℕ → Counts) (latest : List ℕ) (n : ℕ) (pos : Countable counts latest n) where
+module _ (counts : ℕ → Counts) (latest : List ℕ) (n : ℕ) (pos : HaveRatios counts latest n) where
   -- one client more
   module _ (m : ℕ) (inside : m < n) (best next : Latest) (at : next .at ≡ getD latest m 0) (own : next .counts ≡ counts m) where
     -- a client that is the best beats itself
@@ -172,7 +172,7 @@ module _ (counts : ℕ → Counts) (latest : List ℕ) (n : ℕ) (pos : Countabl
     },
   )
 
-  pub held-wins : (m : ℕ) (best : Latest) → n ≤ m → (m ≤ n) × (Countable counts latest n → Held counts latest m best)
+  pub held-wins : (m : ℕ) (best : Latest) → n ≤ m → (m ≤ n) × (HaveRatios counts latest n → Held counts latest m best)
       → (c : ℕ) → c < n → 0 < getD latest c 0 → (0 < best .at) × Wins counts latest n (best .at - 1)
   held-wins m best past (within, h) =
       let e : m ≡ n = omega arith in all-wins best (subst (λ (k : ℕ). Held counts latest k best) e (h pos))

@@ -24,10 +24,6 @@ unfoldable pub overfullFrom : Head → ℕ → List ℕ → ℕ
 overfullFrom head i [] = 0
 overfullFrom head i (d ∷ ds) = cond (ltb (roomTo head d) (suc i)) d (overfullFrom head (suc i) ds)
 
--- the largest number of 16 bits
-abbrev pub largest16 : ℕ
-largest16 = 65535
-
 -- of each client the place of its last one among requests of these clients, 1 added: the first of them is p, and what is known of
 -- those before stays where none follows. An entry is found by the remainder, which is the client itself where it exists
 unfoldable pub latestOf : ℕ → List ℕ → List ℕ → List ℕ
@@ -52,8 +48,8 @@ betterOf best next =
     (cond (ltb (next .at) (best .at)) best next)))
 
 -- of n clients those that have a candidate, with the place of the last one, 1 added: no ratio of theirs has the divisor 0
-abbrev pub Countable : (ℕ → Counts) → List ℕ → ℕ → Type 0
-Countable counts latest n = (c : ℕ) → c < n → 0 < getD latest c 0 → 1 ≤ counts c .submitted
+abbrev pub HaveRatios : (ℕ → Counts) → List ℕ → ℕ → Type 0
+HaveRatios counts latest n = (c : ℕ) → c < n → 0 < getD latest c 0 → 1 ≤ counts c .submitted
 
 -- "The smallest wins; among equals, the last in chart order.": r is the victim's place
 pub record Wins (counts : ℕ → Counts) (latest : List ℕ) (n r : ℕ) : Type 0 where

@@ -9,7 +9,8 @@ ghost use lib.Dec.{leb};
 ghost use lib.ListN.{length, set, take, drop};
 ghost use Rattle.spec.specs.Every.{countIf};
 ghost use Rattle.spec.specs.Tables.{mostClients, mostRecords, clockEnd, deadlinesOf, clientsOf};
-ghost use Rattle.search.specs.Scans.{Sorted, overfullFrom, latestOf, largest16};
+ghost use Rattle.columns.specs.Columns.{largest16};
+ghost use Rattle.search.specs.Scans.{Sorted, overfullFrom, latestOf};
 
 // How many of the first n records, whose deadlines ascend, have a deadline of at most this one.
 pub fn due_by(t: &[Request], n: usize, deadline: u64) -> usize

@@ -13,7 +13,8 @@ use Rattle.spec.specs.declared.types.Request.{Request}
 use Rattle.spec.specs.Tables.{mostClients}
 use Rattle.spec.proofs.Laws.Every.{number-most}
 use Rattle.spec.proofs.Laws.Clients.{of, of-yes, of-no}
-use Rattle.sound.specs.Checks.{parts, tallySize, tallyPlace, sumBelow, talliedOf, oneMore, largest16, Countable}
+use Rattle.columns.specs.Columns.{largest16}
+use Rattle.sound.specs.Checks.{parts, tallySize, tallyPlace, sumBelow, talliedOf, oneMore, Countable}
 
 -- ---- f of each number below n, added up
 sum-same : (n : ℕ) (f g : ℕ → ℕ) → ((p : ℕ) → p < n → g p ≡ f p) → sumBelow n g ≡ sumBelow n f

@@ -14,6 +14,7 @@ use Rattle.spec.specs.Order.{comesBefore}
 use Rattle.spec.specs.Chart.{roomTo}
 use Rattle.spec.specs.Refusals.{firstMatch, refusal4, refusal5}
 use Rattle.spec.specs.Sound.{isGiven, isClient, isHeadWithin, waitingOf}
+use Rattle.columns.specs.Columns.{largest16}
 
 -- where refusal 4 does not hold: tables of these lengths fit the head
 unfoldable pub hasShape : Head → ℕ → ℕ → Bool
@@ -53,10 +54,6 @@ oneMore place tally = set tally place (getD tally place 0 + 1)
 -- the count with one more request counted, the one with the index i, if it passed
 abbrev pub countedIf : Bool → ℕ → Request → List ℕ → List ℕ
 countedIf passed i w tally = cond passed (oneMore (tallyPlace (i % parts) (w .client)) tally) tally
-
--- the largest number of 16 bits
-abbrev pub largest16 : ℕ
-largest16 = 65535
 
 -- a count per client to which so many more can be added
 pub record Countable (more : ℕ) (tally : List ℕ) : Type 0 where

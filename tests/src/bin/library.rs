@@ -508,7 +508,7 @@ fn later_ones_are_no_candidates(l: &mut Library) {
 }
 
 fn opens(l: &mut Library) {
-    let anything = [(u64::MAX, 5, 300); MOST_RECORDS];
+    let anything = vec![(u64::MAX, 5, 300); MOST_RECORDS];
     let most = MOST_CLIENTS as u64;
     for (clients, records) in [(1, 1), (2, 3), (most, MOST_RECORDS)] {
         for period in [1, 100, MOST_PERIOD] {
@@ -778,11 +778,17 @@ fn other_lengths(l: &mut Library) {
     }
 }
 
-// The call that takes most of the stack, a submit that looks for a victim, in a thread with 32 KiB of it.
+// Every call, in a thread with a stack of 32 KiB.
 fn little_stack(l: &mut Library) {
     thread::scope(|scope| {
         let small = thread::Builder::new().stack_size(32 << 10);
-        small.spawn_scoped(scope, || victims_in_a_large_table(l)).expect("a thread");
+        let calls = || {
+            opens(l);
+            full_of_many_clients(l);
+            victims_in_a_large_table(l);
+            charts(l);
+        };
+        small.spawn_scoped(scope, calls).expect("a thread");
     });
 }
 

@@ -31,7 +31,7 @@ use Rattle.spec.proofs.Laws.Sound.{Given, Ahead, Owned}
 use Rattle.spec.proofs.Laws.Accepted.{SubmitReady, submit-ready}
 use Rattle.spec.proofs.Laws.Every.{value, is-true, is-false, same-test, all-at}
 use Rattle.spec.proofs.Laws.Places.{Roomy, feasible-roomy}
-use Rattle.search.specs.Scans.{overfullFrom, latestOf, putAt, countsWith, Countable, Wins}
+use Rattle.search.specs.Scans.{overfullFrom, latestOf, putAt, countsWith, HaveRatios, Wins}
 use Rattle.search.proofs.Fields.{column-insert, take-put}
 use Rattle.search.proofs.Latest.{Source, before, placed, source, latest-least}
 use Rattle.decide.specs.declared.types.Decision.{Decision}
@@ -64,7 +64,7 @@ latestBy client deadline s D =
 pub data Chosen (client deadline : ℕ) (s : State) : ℕ → Decision → Type 0 where
   keeps : Chosen client deadline s 0 (Keep (dueBy deadline (waiting s)))
   drops : (D : ℕ) → 0 < D → dueBy deadline (waiting s) ≤ dueBy D (waiting s)
-      → Countable (countsIn client s) (latestBy client deadline s D) (s .head .clients)
+      → HaveRatios (countsIn client s) (latestBy client deadline s D) (s .head .clients)
       → 0 < getD (latestBy client deadline s D) client 0
       → ((v : ℕ) → Wins (countsIn client s) (latestBy client deadline s D) (s .head .clients) v
       → v ≡ victimPlace client deadline s)
@@ -240,7 +240,7 @@ module _ (client deadline : ℕ) (s : State) (r : SubmitReady client deadline s)
     counts = countsIn client s
 
     -- no ratio has the divisor 0
-    pub countable : Countable counts latest (head .clients)
+    pub countable : HaveRatios counts latest (head .clients)
     countable c l some = go (noted-of c) some
       where
         go : {v : ℕ} → Noted c v → 0 < v → 1 ≤ counts c .submitted
@@ -352,7 +352,7 @@ module _
   -- what the choice among the clients promises
   abbrev Choice : (ℕ → Counts) → List ℕ → ℕ → ℕ → Type 0
   Choice counts xs n victim =
-      Countable counts xs n → (c : ℕ) → c < n → 0 < getD xs c 0 → Wins counts xs n victim
+      HaveRatios counts xs n → (c : ℕ) → c < n → 0 < getD xs c 0 → Wins counts xs n victim
 
   -- it is one among the state's clients
   of-state : (D victim : ℕ) → latest ≡ latestBy client deadline s D → Choice (countsWith client su se dr) latest (head .clients) victim

@@ -36,8 +36,8 @@ use denote.Triple.Spec.{Meets, tripleOf}
 use denote.Triple.Table.{entered, cited}
 use denote.Triple.Walked.{says, needs, Stays, stay-dropped, walkOf, goes-dropped, Walks, ends-at, walked, walk-meets}
 use denote.Exit.{yes}
-use Rattle.columns.specs.Columns.{stateOf, largest32}
-use Rattle.search.specs.Scans.{overfullFrom, latestOf, largest16}
+use Rattle.columns.specs.Columns.{stateOf, largest16, largest32}
+use Rattle.search.specs.Scans.{overfullFrom, latestOf}
 use Rattle.decide.specs.Decisions.{submitChoice, Found}
 use Rattle.decide.specs.declared.types.Decision.{Decision}
 use Rattle.decide.proofs.Choosing.Shown.{Placed, waits, few, clock, clients, rises, found-all}

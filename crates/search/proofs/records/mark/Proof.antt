@@ -54,7 +54,8 @@ use Rattle.table.proofs.Calls.{Get, calls-get}
 use Rattle.table.proofs.get.Symbol as get-def
 use Rattle.table.proofs.get.Symbol.{name as #table·get}
 use Rattle.table.proofs.get.Met as get-thm
-use Rattle.search.specs.Scans.{latestOf, largest16}
+use Rattle.columns.specs.Columns.{largest16}
+use Rattle.search.specs.Scans.{latestOf}
 use Rattle.search.proofs.Scanning.{latest-next, latest-all}
 use Rattle.search.proofs.records.note as note
 use Rattle.search.proofs.records.note.Symbol as note-def

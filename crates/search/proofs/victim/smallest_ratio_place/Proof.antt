@@ -3,14 +3,14 @@ use Prim.Native.Nat.{_-_, _≤_}
 use mathlib.Core.Path.{refl}
 use native.Mathlib.Omega.{arith}
 use borrow.Author.Needs.{needs}
-use Rattle.search.specs.Scans.{countsWith, Countable}
+use Rattle.search.specs.Scans.{countsWith, HaveRatios}
 use Rattle.search.proofs.Choosing.{Held, nobody, held-next, held-wins}
 use Rattle.search.proofs.victim.smallest_ratio_place.Statement.{statement}
 use Rattle.search.proofs.victim.smallest_ratio_place.Tie as tie
 
 abbrev Inv-loop : tie.InvT-loop
 Inv-loop latest submitted served dropped client n best₀ c₀ best c =
-    (c ≤ n) × (Countable (countsWith client submitted served dropped) latest n
+    (c ≤ n) × (HaveRatios (countsWith client submitted served dropped) latest n
     → Held (countsWith client submitted served dropped) latest c best)
 
 abbrev μ-loop : tie.MeasureT-loop
