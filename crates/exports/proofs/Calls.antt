@@ -3,7 +3,7 @@
 --     reads-head       from [what is looked at; Γ]: the same, and the call lands the head that the numbers are
 --     writes-head      from [the elements; Γ]: they are written with the reply's head, and the call lands ()
 --     writes-values    from [the elements; Γ]: they are written with the answer's values, and the call lands its kind
--- The operands are read with two entries in front of Γ (`table`'s `Walk/Loans.antt`).
+-- The operands are read with two entries in front of Γ (`walk`'s `Slices/Loans.antt`).
 -- Assumes `Given`, and that the callee meets its contract.
 use Prim.Native.Nat.{ℕ, _<_, _^_}
 use mathlib.Core.Path.{_≡_}
@@ -32,10 +32,10 @@ use denote.Triple.Table.{cited}
 use Rattle.spec.specs.Frames.{kindOf}
 use Rattle.decide.specs.declared.types.Reply.{Reply}
 use Rattle.exports.specs.Numbers.{headOf, headNumbers, valueNumbers, written}
-use Rattle.table.proofs.Walk.Heads.{HeadT, head-val, head-vals, head-tells}
-use Rattle.table.proofs.Walk.Steps.{lands-unit, lands-told}
-use Rattle.table.proofs.Walk.Lent.{Elements, Look}
-use Rattle.table.proofs.Walk.Loans.{Param, value, loan, bound, lent, looked, Operands, calls-with, calls-told}
+use Rattle.table.proofs.Heads.{HeadT, head-val, head-vals, head-tells}
+use Rattle.walk.proofs.Steps.{lands-unit, lands-told}
+use Rattle.walk.proofs.Slices.Lent.{Elements, Look}
+use Rattle.walk.proofs.Slices.Loans.{Param, value, loan, bound, lent, looked, Operands, calls-with, calls-told}
 use Rattle.queue.proofs.Values.{ReplyT, reply-makes}
 use Rattle.exports.proofs.numbers.head_of as head-of
 use Rattle.exports.proofs.numbers.head_of.Symbol as head-of-def

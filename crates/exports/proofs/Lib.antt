@@ -1,4 +1,3 @@
 pub mod Calls
 pub mod Exporting
-pub mod Lending
 pub mod Pair

@@ -15,7 +15,7 @@ use denote.Enum.Laws as LE
 use Rattle.spec.specs.declared.types.Frame.{Frame}
 use Rattle.spec.proofs.types.Frame as TF
 use Rattle.spec.proofs.types.Frame.Laws as TF′
-use Rattle.table.proofs.Walk.Heads.{head-val}
+use Rattle.table.proofs.Heads.{head-val}
 use Rattle.session.specs.declared.types.Session.{Session}
 use Rattle.session.specs.declared.types.Fed.{Fed}
 use Rattle.session.specs.declared.types.Turn.{Turn}

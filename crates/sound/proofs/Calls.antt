@@ -33,11 +33,11 @@ use denote.Triple.Statement.{Contract, Triple}
 use denote.Triple.Spec.{tripleOf}
 use Rattle.spec.specs.declared.types.Head.{Head}
 use Rattle.spec.specs.declared.types.Request.{Request}
-use Rattle.table.proofs.Walk.Rows.{R, vals, request}
-use Rattle.table.proofs.Walk.Heads.{HeadT, head-vals, the-head}
-use Rattle.table.proofs.Walk.Steps.{lands-told}
-use Rattle.table.proofs.Walk.Lent.{Elements}
-use Rattle.table.proofs.Walk.Loans.{Param, loan, bound, number, flag, lent, Operands, calls-with}
+use Rattle.table.proofs.Rows.{R, vals, request}
+use Rattle.table.proofs.Heads.{HeadT, head-vals, the-head}
+use Rattle.walk.proofs.Steps.{lands-told}
+use Rattle.walk.proofs.Slices.Lent.{Elements}
+use Rattle.walk.proofs.Slices.Loans.{Param, loan, bound, number, flag, lent, Operands, calls-with}
 use Rattle.sound.specs.Checks.{Bounded, Countable, Standing, recordBefore, turn}
 use Rattle.sound.proofs.Turns.{Reached}
 use Rattle.sound.proofs.tables.step as step

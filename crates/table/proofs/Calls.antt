@@ -25,9 +25,9 @@ use denote.Triple.Statement.{Contract, Triple}
 use denote.Triple.Spec.{tripleOf}
 use Rattle.spec.specs.declared.types.Request.{Request}
 use Rattle.spec.specs.Tables.{zeroRequest}
-use Rattle.table.proofs.Walk.Rows.{R, mach, vals, tells, request}
-use Rattle.table.proofs.Walk.Lent.{Elements, Look}
-use Rattle.table.proofs.Walk.Loans.{Param, loan, bound, number, lent, looked, Operands, calls-on, calls-told}
+use Rattle.table.proofs.Rows.{R, mach, vals, tells, request}
+use Rattle.walk.proofs.Slices.Lent.{Elements, Look}
+use Rattle.walk.proofs.Slices.Loans.{Param, loan, bound, number, lent, looked, Operands, calls-on, calls-told}
 use Rattle.table.proofs.get as get
 use Rattle.table.proofs.get.Symbol.{name as #table·get}
 use Rattle.table.proofs.put as put

@@ -1,4 +1,5 @@
 pub mod Calls
 pub mod Ends
+pub mod Heads
 pub mod Laws
-pub mod Walk
+pub mod Rows

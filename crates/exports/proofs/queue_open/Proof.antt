@@ -5,7 +5,7 @@ use denote.Triple.Spec.{tripleOf}
 use denote.Triple.Table.{entered}
 use package.mir.Table.{spell}
 use Rattle.spec.specs.Calls.{openOf}
-use Rattle.table.proofs.Walk.Rows.{R}
+use Rattle.table.proofs.Rows.{R}
 use Rattle.queue.proofs.open.Symbol as open-def
 use Rattle.queue.proofs.open.Symbol.{name as #queue·open}
 use Rattle.queue.proofs.open.Met as open-thm

@@ -5,7 +5,7 @@ use denote.Triple.Spec.{tripleOf}
 use denote.Triple.Table.{entered}
 use package.mir.Table.{spell}
 use Rattle.spec.specs.Calls.{submitOf}
-use Rattle.table.proofs.Walk.Rows.{R}
+use Rattle.table.proofs.Rows.{R}
 use Rattle.queue.proofs.submit.Symbol as submit-def
 use Rattle.queue.proofs.submit.Symbol.{name as #queue·submit}
 use Rattle.queue.proofs.submit.Met as submit-thm

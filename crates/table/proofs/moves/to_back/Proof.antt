@@ -5,7 +5,7 @@ use denote.Memory.{pointee}
 use denote.Triple.Spec.{tripleOf}
 use denote.Triple.Table.{entered, cited}
 use package.mir.Table.{spell}
-use Rattle.table.proofs.Walk.Rows.{R}
+use Rattle.table.proofs.Rows.{R}
 use Rattle.table.proofs.Calls.{Shift}
 use Rattle.table.proofs.Ends.{meets}
 use Rattle.table.proofs.moves.shift.Symbol as shift-def

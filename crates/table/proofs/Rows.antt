@@ -19,7 +19,8 @@ use Rattle.spec.specs.declared.types.Request.{Request}
 use Rattle.spec.specs.Tables.{zeroRequest}
 use Rattle.spec.proofs.types.Request as T
 use Rattle.spec.proofs.types.Request.Laws as T′
-use Rattle.table.proofs.Walk.Loans.{Param, value}
+use Rattle.walk.proofs.Enter.{Kind, value as by-value}
+use Rattle.walk.proofs.Slices.Loans.{Param, value}
 
 abbrev pub R : RattleType
 R = T.the-row
@@ -43,6 +44,10 @@ module _ {M : Type 1} (𝓤 : URA M) (H : Heap 𝓤) (A : Atoms 𝓤) (W : Given
 
   pub makes : Makes 𝓤 H A R (Is R)
   makes = LL.makes T.the-type T′.the-plain 𝓤 H A
+
+-- a request as a parameter of a function
+abbrev pub a-request : {M : Type 1} {𝓤 : URA M} {H : Heap 𝓤} {A : Atoms 𝓤} (W : Given 𝓤 H A) → Kind 𝓤 H A
+a-request {𝓤 = 𝓤} {H} {A} W = by-value R record { vals = vals; tells = tells; lawful = lawful 𝓤 H A W; last = λ x. tt; silent = λ x w. refl }
 
 -- a request as a parameter of a call
 abbrev pub request : {M : Type 1} {𝓤 : URA M} {H : Heap 𝓤} {A : Atoms 𝓤} (W : Given 𝓤 H A) (r : Request) → Is R r (vals r) → Param 𝓤 H A

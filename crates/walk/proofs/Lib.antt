@@ -1,0 +1,9 @@
+pub mod At
+pub mod Enter
+pub mod Frees
+pub mod Inside
+pub mod Locals
+pub mod Prelude
+pub mod Proves
+pub mod Slices
+pub mod Steps

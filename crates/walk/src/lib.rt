@@ -1,0 +1,1 @@
+// The kit for proofs by hand, in proofs/. No code.
