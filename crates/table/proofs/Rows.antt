@@ -20,6 +20,7 @@ use Rattle.spec.specs.Tables.{zeroRequest}
 use Rattle.spec.proofs.types.Request as T
 use Rattle.spec.proofs.types.Request.Laws as T′
 use Rattle.walk.proofs.Enter.{Kind, value as by-value}
+use Rattle.walk.proofs.Results.{Result}
 use Rattle.walk.proofs.Slices.Loans.{Param, value}
 
 abbrev pub R : RattleType
@@ -48,6 +49,10 @@ module _ {M : Type 1} (𝓤 : URA M) (H : Heap 𝓤) (A : Atoms 𝓤) (W : Given
 -- a request as a parameter of a function
 abbrev pub a-request : {M : Type 1} {𝓤 : URA M} {H : Heap 𝓤} {A : Atoms 𝓤} (W : Given 𝓤 H A) → Kind 𝓤 H A
 a-request {𝓤 = 𝓤} {H} {A} W = by-value R record { vals = vals; tells = tells; lawful = lawful 𝓤 H A W; last = λ x. tt; silent = λ x w. refl }
+
+-- a request as the result of a call
+abbrev pub of-request : {M : Type 1} {𝓤 : URA M} {H : Heap 𝓤} {A : Atoms 𝓤} (W : Given 𝓤 H A) → Result W R
+of-request {𝓤 = 𝓤} {H} {A} W = record { val = mach; tells = tells; lawful = lawful 𝓤 H A W }
 
 -- a request as a parameter of a call
 abbrev pub request : {M : Type 1} {𝓤 : URA M} {H : Heap 𝓤} {A : Atoms 𝓤} (W : Given 𝓤 H A) (r : Request) → Is R r (vals r) → Param 𝓤 H A

@@ -3,7 +3,9 @@ pub mod Enter
 pub mod Frees
 pub mod Inside
 pub mod Locals
+pub mod Loops
 pub mod Prelude
 pub mod Proves
+pub mod Results
 pub mod Slices
 pub mod Steps
