@@ -52,7 +52,7 @@ a-request {𝓤 = 𝓤} {H} {A} W = by-value R record { vals = vals; tells = tel
 
 -- a request as the result of a call
 abbrev pub of-request : {M : Type 1} {𝓤 : URA M} {H : Heap 𝓤} {A : Atoms 𝓤} (W : Given 𝓤 H A) → Result W R
-of-request {𝓤 = 𝓤} {H} {A} W = record { val = mach; tells = tells; lawful = lawful 𝓤 H A W }
+of-request {𝓤 = 𝓤} {H} {A} W = record { val = mach; tells = tells; lawful = lawful 𝓤 H A W; makes = makes 𝓤 H A W }
 
 -- a request as a parameter of a call
 abbrev pub request : {M : Type 1} {𝓤 : URA M} {H : Heap 𝓤} {A : Atoms 𝓤} (W : Given 𝓤 H A) (r : Request) → Is R r (vals r) → Param 𝓤 H A

@@ -1,15 +1,14 @@
 -- `table::deadlines` meets its contract: a walk with a loop over two slices at two lifetimes, `get` on a `&[Request]` and
 -- `store` on a `&mut [u64]`.
 -- Assumes nothing.
-use Rattle.walk.proofs.Prelude.{_≡_, refl, sym, _∙_, subst, ℕ, _+_, _-_, _<_, _≤_, _^_, zero-le, le-antisymm, lt-of-le-of-lt, lt-of-lt-of-le, add-one-le, add-one-dec, List, [], _∷_, length, getD, take, ltb→lt, nltb→le, lit<, URA, w64, vunit, vint, SProp, Memory, Routine, Heap, Tables, Atoms, Fun, givenOf, Given, ‵, _$_, !, rewrite, FmC, fmOf, lit, of-opd, bin, unit-lit, and-then, no-more, u64, Nothing, tripleOf}
-use denote.Plain.{nothing-makes}
+use Rattle.walk.proofs.Prelude.{_≡_, refl, sym, _∙_, subst, ℕ, _+_, _-_, _<_, _≤_, _^_, zero-le, le-antisymm, lt-of-le-of-lt, lt-of-lt-of-le, add-one-le, add-one-dec, List, [], _∷_, length, getD, take, ltb→lt, nltb→le, lit<, URA, w64, vunit, vint, SProp, Memory, Routine, Heap, Tables, Atoms, Fun, Given, ‵, _$_, !, rewrite, lit, of-opd, bin, unit-lit, and-then, no-more, u64, Nothing, tripleOf}
 use denote.Steps.{heard}
 use Rattle.walk.proofs.Enter.{lent, shown, uint, so}
-use Rattle.walk.proofs.Proves.{Shape, Walk, proves}
+use Rattle.walk.proofs.Proves.{Shape, Walk, proved}
 use Rattle.walk.proofs.Inside.{Lent-at}
 use Rattle.walk.proofs.Locals.{var, vars, field-var, sets, resets-last, relends, gives}
 use Rattle.walk.proofs.Loops.{goes-round}
-use Rattle.walk.proofs.Results.{of-nothing, calls-for, calls-told}
+use Rattle.walk.proofs.Results.{fit, of-nothing, calls-for, calls-told}
 use Rattle.walk.proofs.Steps.{tests, Upto}
 use Rattle.walk.proofs.Slices.Loans.{Param, number, bound}
 use Rattle.walk.proofs.At.{mut-of, passed-on}
@@ -40,10 +39,9 @@ module _ {M : Type 1} (𝓤 : URA M) (H : Heap 𝓤) (A : Atoms 𝓤) (W : Given
       let ys : List Request = t .list in
       let ds : List ℕ = out .list in
       let taken : List ℕ = deadlinesOf (take n ys) in
-      let fm : FmC 𝓤 H (W .laws) (𝓣 .C) = fmOf 𝓤 H (W .laws) 𝓣 in
       heard ! ((n ≤ length ys) × (n ≤ length ds)) (λ within.
       let all : length taken ≡ n = length-column (λ w. w .deadline) n ys (within .0) in
-      sets ! (of-opd ! (lit ! tt)) refl (tt, record { fits = lit< tt }) $
+      sets ! (of-opd ! (lit ! tt)) refl (tt, fit (lit< tt)) $
       goes-round ! 𝓣 {X = Upto n} (λ i. n - i .0) (λ i. (1, ‵ (Lent-at out (filled taken ds (i .0)))) ∷ []) (λ i. (4, vint w64 (i .0)) ∷ []) (0, zero-le) refl (λ i round.
       let zs : List ℕ = filled taken ds (i .0) in
       let len : length zs ≡ length ds = length-filled taken ds n all (within .1) (i .0) (i .1) in
@@ -57,25 +55,24 @@ module _ {M : Type 1} (𝓤 : URA M) (H : Heap 𝓤) (A : Atoms 𝓤) (W : Given
       let r : Request = getD ys (i .0) zeroRequest in
       -- let w = get(t, i);
       let ps : List (Param 𝓤 H A) = passed-on W t ∷ number W (i .0) fits ∷ [] in
-      calls-told ! fm (0 ∷ []) ps _ (so 𝓤 (lt-of-lt-of-le lt (within .0))) (of-request W) r (λ c. known-get (bound W ps c)) refl (λ c. vars ! (refl, (refl, tt))) (λ ws. refl) (λ last is.
+      calls-told ! 𝓣 (0 ∷ []) ps _ (so 𝓤 (lt-of-lt-of-le lt (within .0))) (of-request W) r (λ c. known-get (bound W ps c)) refl (λ c. vars ! (refl, (refl, tt))) (λ ws. refl) (λ last is.
       -- store(out, i, w.deadline);
       relends ! (out .room .0) refl refl refl $
       let ps : List (Param 𝓤 H A) = mut-of W out zs len ∷ number W (i .0) fits ∷ number W (r .deadline) (deadline-fits r is) ∷ [] in
-      calls-for ! fm (1 ∷ []) ps _ (so 𝓤 (subst (λ (m : ℕ). i .0 < m) (sym len) (lt-of-lt-of-le lt (within .1)))) (of-nothing W) _ (λ c. known-store (bound W ps c)) refl
+      calls-for ! 𝓣 (1 ∷ []) ps _ (so 𝓤 (subst (λ (m : ℕ). i .0 < m) (sym len) (lt-of-lt-of-le lt (within .1)))) (of-nothing W) _ (λ c. known-store (bound W ps c)) refl
       (λ c. and-then ! (var ! refl) (and-then ! (var ! refl) (and-then ! (field-var ! refl refl refl) (no-more !)))) (λ ws. refl) (λ u last stored kept _.
       -- i += 1
-      resets-last ! (bin ! (var ! refl) (lit ! tt) (record { fits = next-fits })) refl (tt, record { fits = next-fits }) $
+      resets-last ! (bin ! (var ! refl) (lit ! tt) (fit next-fits)) refl (tt, fit next-fits) $
       rewrite ! 1 (λ (zs : List ℕ). ‵ (Lent-at out zs)) (stored ∙ fills taken ds n all (within .1) (i .0) (r .deadline) (zeroRequest .deadline) lt (getD-column (λ w. w .deadline) n ys (i .0) zeroRequest lt)) refl $
       round .turns-to ! next (add-one-dec n (i .0) lt) refl)))
       (λ over. round .breaks ! $
       sets ! (of-opd ! (unit-lit !)) refl (tt, tt) $ gives ! refl refl $
-      leaves vunit tt (zs, tt) (len, tt) (nothing-makes 𝓤 H A W tt (vunit ∷ []) refl) (so 𝓤 (filled-all taken ds n all (within .1) (i .0) (le-antisymm (i .1) (nltb→le (i .0) n over)))))))
+      leaves vunit tt (zs, tt) (len, tt) (of-nothing W .makes tt _ refl) (so 𝓤 (filled-all taken ds n all (within .1) (i .0) (le-antisymm (i .1) (nltb→le (i .0) n over)))))))
 
 pub deadlines-spec : {M : Type 1} → f.Statement.statement M
 unfolding f.Code.routine
 deadlines-spec 𝓤 H 𝓜 𝓖 𝓡 =
-    let W : Given 𝓤 H (𝓖 .A) = givenOf 𝓤 H 𝓜 𝓖 in
-    proves 𝓤 H 𝓜 𝓖 𝓡 (shape 𝓤 H (𝓖 .A) W (𝓜 .mem) (𝓡 .run)) f.Code.env f.Key.name (f.Code.unfolded 𝓤 H 𝓜 𝓡) (walk 𝓤 H (𝓖 .A) W (𝓜 .mem) (𝓡 .run)) (
+    proved 𝓤 H 𝓜 𝓖 𝓡 (shape 𝓤 H) (walk 𝓤 H) f.Code.env f.Key.name (f.Code.unfolded 𝓤 H 𝓜 𝓡) (
       (get.Symbol.routine, f.Code.calls-table·get, get.Met.met 𝓤 H 𝓜 𝓖 𝓡),
       ((store.Symbol.routine, f.Code.calls-table·store, store.Met.met 𝓤 H 𝓜 𝓖 𝓡), tt),
     )

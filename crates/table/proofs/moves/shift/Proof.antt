@@ -3,12 +3,12 @@
 -- (`goes-on`) takes both on. The parameters `from` and `to` are a and z here.
 -- Assumes nothing.
 use types.Kit.{drop}
-use Rattle.walk.proofs.Prelude.{_≡_, refl, sym, subst, ℕ, _+_, _-_, _<_, _^_, lt-trans, Bool, true, false, cond, List, [], _∷_, length, set, getD, URA, w64, vunit, vint, SProp, Memory, Routine, Heap, Tables, Atoms, Fun, fact, givenOf, Given, ‵, _$_, !, FmC, fmOf, of-opd, bin, unit-lit, usize, Nothing, tripleOf}
+use Rattle.walk.proofs.Prelude.{_≡_, refl, sym, subst, ℕ, _+_, _-_, _<_, _^_, lt-trans, Bool, true, false, cond, List, [], _∷_, length, set, getD, URA, w64, vunit, vint, SProp, Memory, Routine, Heap, Tables, Atoms, Fun, fact, Given, ‵, _$_, !, of-opd, bin, unit-lit, usize, Nothing, tripleOf}
 use denote.Plain.{nothing-makes, nothing-lawful, nothing-tells}
 use denote.Steps.{heard}
 use Rattle.walk.proofs.Enter.{lent, uint, boolean, so}
-use Rattle.walk.proofs.Results.{of-number, of-nothing, calls-for, calls-told}
-use Rattle.walk.proofs.Proves.{Shape, Walk, proves}
+use Rattle.walk.proofs.Results.{fit, of-number, of-nothing, calls-for, calls-told}
+use Rattle.walk.proofs.Proves.{Shape, Walk, proved}
 use Rattle.walk.proofs.Inside.{Lent-at}
 use Rattle.walk.proofs.Locals.{var, vars, sets, resets-last, relends, gives}
 use Rattle.walk.proofs.Loops.{goes-round}
@@ -42,9 +42,8 @@ module _ {M : Type 1} (𝓤 : URA M) (H : Heap 𝓤) (A : Atoms 𝓤) (W : Given
   walk : (𝓣 : Tables 𝓤 H) → Walk shape 𝓣
   walk 𝓣 known-next known-get known-put κs qs t a a-is z z-is up up-is g Q leaves bs =
       let ys : List Request = t .list in
-      let fm : FmC 𝓤 H (W .laws) (𝓣 .C) = fmOf 𝓤 H (W .laws) 𝓣 in
       heard ! (Asked up a z (length ys)) (λ within.
-      sets ! (of-opd ! (var ! refl)) refl (tt, record { fits = a-is .1 }) $
+      sets ! (of-opd ! (var ! refl)) refl (tt, fit (a-is .1)) $
       goes-round ! 𝓣 {X = (i : ℕ) × (zs : List Request) × Going up a z ys i zs} (λ v. (v .0 - z) + (z - v .0)) (λ v. (0, ‵ (Lent-at t (v .1))) ∷ []) (λ v. (5, vint w64 (v .0)) ∷ []) (a, ys, sets-out up a z ys within) refl (λ v round.
       let i : ℕ = v .0 in
       let zs : List Request = v .1 in
@@ -58,27 +57,26 @@ module _ {M : Type 1} (𝓤 : URA M) (H : Heap 𝓤) (A : Atoms 𝓤) (W : Given
       let s : Step up (length ys) z i j = steps i zs g (t .room .0) (within .1) apart in
       -- let j = next(i, up);
       let ps : List (Param 𝓤 H A) = number W i fits ∷ flag W up ∷ [] in
-      calls-told ! fm [] ps _ (so 𝓤 (s .asked)) (of-number W w64) j (λ c. known-next (bound W ps c)) refl (λ c. vars ! (refl, (refl, tt))) (λ ws. refl) (λ last j-is.
+      calls-told ! 𝓣 [] ps _ (so 𝓤 (s .asked)) (of-number W w64) j (λ c. known-next (bound W ps c)) refl (λ c. vars ! (refl, (refl, tt))) (λ ws. refl) (λ last j-is.
       -- let w = get(t, j);
       relends ! (t .room .0) refl refl refl $
       let ps : List (Param 𝓤 H A) = shr-of W t zs len ∷ number W j (j-is .1) ∷ [] in
-      calls-told ! fm (0 ∷ []) ps _ (so 𝓤 (subst (λ (m : ℕ). j < m) (sym len) (s .within))) (of-request W) (getD zs j zeroRequest) (λ c. known-get (bound W ps c)) refl (λ c. vars ! (refl, (refl, tt))) (λ ws. refl) (λ last is.
+      calls-told ! 𝓣 (0 ∷ []) ps _ (so 𝓤 (subst (λ (m : ℕ). j < m) (sym len) (s .within))) (of-request W) (getD zs j zeroRequest) (λ c. known-get (bound W ps c)) refl (λ c. vars ! (refl, (refl, tt))) (λ ws. refl) (λ last is.
       -- put(t, i, w);
       relends ! (t .room .0) refl refl refl $
       let ps : List (Param 𝓤 H A) = mut-of W t zs len ∷ number W i fits ∷ request W (getD zs j zeroRequest) is ∷ [] in
-      calls-for ! fm (0 ∷ []) ps _ (so 𝓤 (subst (λ (m : ℕ). i < m) (sym len) (g .within))) (of-nothing W) _ (λ c. known-put (bound W ps c)) refl (λ c. vars ! (refl, (refl, (refl, tt)))) (λ ws. refl) (λ u last put kept _.
+      calls-for ! 𝓣 (0 ∷ []) ps _ (so 𝓤 (subst (λ (m : ℕ). i < m) (sym len) (g .within))) (of-nothing W) _ (λ c. known-put (bound W ps c)) refl (λ c. vars ! (refl, (refl, (refl, tt)))) (λ ws. refl) (λ u last put kept _.
       -- i = j;
-      resets-last ! (of-opd ! (var ! refl)) refl (tt, record { fits = j-is .1 }) $
+      resets-last ! (of-opd ! (var ! refl)) refl (tt, fit (j-is .1)) $
       round .turns-to ! (j, last .0, subst (Going up a z ys j) (sym put) (goes-on i zs g j s)) (s .nearer) refl))))
       (λ over. round .breaks ! $
       sets ! (of-opd ! (unit-lit !)) refl (tt, tt) $ gives ! refl refl $
-      leaves vunit tt (zs, tt) (len, tt) (nothing-makes 𝓤 H A W tt (vunit ∷ []) refl) (so 𝓤 (arrives i zs g over)))))
+      leaves vunit tt (zs, tt) (len, tt) (of-nothing W .makes tt _ refl) (so 𝓤 (arrives i zs g over)))))
 
 pub shift-spec : {M : Type 1} → f.Statement.statement M
 unfolding f.Code.routine
 shift-spec 𝓤 H 𝓜 𝓖 𝓡 =
-    let W : Given 𝓤 H (𝓖 .A) = givenOf 𝓤 H 𝓜 𝓖 in
-    proves 𝓤 H 𝓜 𝓖 𝓡 (shape 𝓤 H (𝓖 .A) W (𝓜 .mem) (𝓡 .run)) f.Code.env f.Key.name (f.Code.unfolded 𝓤 H 𝓜 𝓡) (walk 𝓤 H (𝓖 .A) W (𝓜 .mem) (𝓡 .run)) (
+    proved 𝓤 H 𝓜 𝓖 𝓡 (shape 𝓤 H) (walk 𝓤 H) f.Code.env f.Key.name (f.Code.unfolded 𝓤 H 𝓜 𝓡) (
       (next.Symbol.routine, f.Code.calls-table·moves·next, next.Met.met 𝓤 H 𝓜 𝓖 𝓡),
       (
         (get.Symbol.routine, f.Code.calls-table·get, get.Met.met 𝓤 H 𝓜 𝓖 𝓡),
