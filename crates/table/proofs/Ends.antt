@@ -4,9 +4,9 @@
 use mir.Syntax.{Opd as Operand}
 use prog.Wp.{Env}
 use types.Run.{Opd}
-use Rattle.walk.proofs.Prelude.{refl, ℕ, _<_, lt-trans, Bool, true, false, cond, List, [], _∷_, length, URA, Ty, named, erased, mut, w64, tyInt, tyUnit, tyRef, Fn, local, valueLocal, place, field, deref, copy, int, opdTrue, opdFalse, opdUnit, seq, assign, addrOf, aggregate, rvOpd, call, return, vunit, vint, vbool, SProp, Memory, Routine, Heap, Tables, Atoms, Fun, fact, Given, Item, _$_, !, lit, true-lit, false-lit, unit-lit, of-opd, and-then, no-more, pointee, now, sliceTy, Nothing, tripleOf, Clauses}
+use Rattle.walk.proofs.Prelude.{refl, ℕ, _<_, lt-trans, Bool, true, false, cond, List, [], _∷_, length, URA, Ty, named, erased, mut, w64, tyInt, tyUnit, tyRef, Fn, local, valueLocal, place, field, deref, copy, int, opdTrue, opdFalse, opdUnit, seq, assign, addrOf, aggregate, rvOpd, call, return, vunit, vint, vbool, SProp, Memory, Routine, Heap, Tables, Atoms, Fun, fact, Given, Item, _$_, !, lit, true-lit, false-lit, unit-lit, of-opd, and-then, no-more, pointee, now, sliceTy, Nothing, tripleOf}
 use denote.Steps.{heard}
-use Rattle.walk.proofs.Enter.{Kind, endedOf, lent, uint, so}
+use Rattle.walk.proofs.Enter.{lent, uint, so}
 use Rattle.walk.proofs.Proves.{Shape, Walk}
 use Rattle.walk.proofs.Locals.{var, sets, relends, gives}
 use Rattle.walk.proofs.Results.{of-nothing, calls-for}
@@ -44,12 +44,9 @@ module _ (up : Bool) (D : Ty) where
   }
 
   module _ {M : Type 1} (𝓤 : URA M) (H : Heap 𝓤) (A : Atoms 𝓤) (W : Given 𝓤 H A) (mem : Memory → SProp 𝓤) (run : Routine → Fun 𝓤) where
-    abbrev params : List (Kind 𝓤 H A)
-    params = lent R ∷ uint W w64 ∷ []
-
     abbrev pub shape : Shape W
     shape = record {
-      params = params;
+      params = lent R ∷ uint W w64 ∷ [];
       result = Nothing;
       clauses = λ κs a. record {
         ghost = Unit {0};

@@ -2,11 +2,12 @@
 -- `&[Request]` is looked into, element i is taken out of the row, read by `look-raw`, and put back.
 -- Assumes nothing.
 use Rattle.walk.proofs.Prelude.{refl, sym, ℕ, _<_, List, [], _∷_, length, getD, URA, w64, vptr, SProp, Memory, Routine, Heap, Tables, Atoms, Fun, Given, _$_, ! }
-use Rattle.walk.proofs.Prelude.{look-raw, stop, hop, from, load, lit, of-opd, bin, Is, shows, place-is, elem-out, elem-back, givenOf}
+use Rattle.walk.proofs.Prelude.{look-raw, stop, hop, from, load, lit, of-opd, bin, Is, shows, place-is, elem-out, elem-back}
 use denote.Steps.{heard}
 use Rattle.walk.proofs.Enter.{shown, uint, so}
-use Rattle.walk.proofs.Proves.{Shape, Walk, proves}
+use Rattle.walk.proofs.Proves.{Shape, Walk, proved}
 use Rattle.walk.proofs.Inside.{looks-shown, shuts-shown}
+use Rattle.walk.proofs.Results.{fit}
 use Rattle.walk.proofs.Locals.{var, field-var, cell-of, revalues, sets, gives}
 use Rattle.spec.specs.declared.types.Request.{Request}
 use Rattle.spec.specs.Tables.{zeroRequest}
@@ -29,7 +30,7 @@ module _ {M : Type 1} (𝓤 : URA M) (H : Heap 𝓤) (A : Atoms 𝓤) (W : Given
       let ys : List Request = t .list in
       let elem : Request = getD ys i zeroRequest in
       heard ! (i < length ys) (λ l.
-      sets ! (bin ! (var ! refl) (lit ! tt) (record { fits = place-fits (length ys) i (t .room) l })) refl (tt, record { fits = place-fits (length ys) i (t .room) l }) $
+      sets ! (bin ! (var ! refl) (lit ! tt) (fit (place-fits (length ys) i (t .room) l))) refl (tt, fit (place-fits (length ys) i (t .room) l)) $
       sets ! (bin ! (field-var ! refl refl refl) (var ! refl) tt) refl (tt, tt) $
       revalues ! 4 (λ (p : ℕ). vptr (t .block) p) (sym (place-is 24 (t .offset) i)) refl $
       looks-shown ! tt t vals tells (copy 𝓤 H A W) (λ p. elem-out ! R (Is R) (shows 𝓤 H A R) vals tells p ys i zeroRequest (t .block) (t .offset) l (λ e-is.
@@ -42,5 +43,4 @@ module _ {M : Type 1} (𝓤 : URA M) (H : Heap 𝓤) (A : Atoms 𝓤) (W : Given
 pub get-spec : {M : Type 1} → f.Statement.statement M
 unfolding f.Code.routine
 get-spec 𝓤 H 𝓜 𝓖 𝓡 =
-    let W : Given 𝓤 H (𝓖 .A) = givenOf 𝓤 H 𝓜 𝓖 in
-    proves 𝓤 H 𝓜 𝓖 𝓡 (shape 𝓤 H (𝓖 .A) W (𝓜 .mem) (𝓡 .run)) f.Code.env f.Key.name (f.Code.unfolded 𝓤 H 𝓜 𝓡) (walk 𝓤 H (𝓖 .A) W (𝓜 .mem) (𝓡 .run)) tt
+    proved 𝓤 H 𝓜 𝓖 𝓡 (shape 𝓤 H) (walk 𝓤 H) f.Code.env f.Key.name (f.Code.unfolded 𝓤 H 𝓜 𝓡) tt

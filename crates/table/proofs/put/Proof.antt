@@ -3,12 +3,12 @@
 -- Assumes nothing.
 use types.Kit.{drop}
 use Rattle.walk.proofs.Prelude.{refl, sym, ℕ, _<_, List, [], _∷_, length, set, length-set, URA, fullShare, w64, vunit, vptr, SProp, Memory, Routine, Heap, Tables, Atoms, Fun, Given, _$_, !, move}
-use Rattle.walk.proofs.Prelude.{store-raw, stop, hop, from, lit, unit-lit, of-opd, bin, assigns, Is, shows, place-is, elem-out, elem-put, owned, Nothing, givenOf}
-use denote.Plain.{nothing-makes}
+use Rattle.walk.proofs.Prelude.{store-raw, stop, hop, from, lit, unit-lit, of-opd, bin, assigns, Is, shows, place-is, elem-out, elem-put, owned, Nothing}
 use denote.Steps.{heard}
 use Rattle.walk.proofs.Enter.{lent, uint, so}
-use Rattle.walk.proofs.Proves.{Shape, Walk, proves}
+use Rattle.walk.proofs.Proves.{Shape, Walk, proved}
 use Rattle.walk.proofs.Inside.{opens-lent, closes-lent}
+use Rattle.walk.proofs.Results.{fit, of-nothing}
 use Rattle.walk.proofs.Locals.{var, field-var, cell-of, revalues, sets, gives}
 use Rattle.spec.specs.declared.types.Request.{Request}
 use Rattle.spec.specs.Tables.{zeroRequest}
@@ -30,7 +30,7 @@ module _ {M : Type 1} (𝓤 : URA M) (H : Heap 𝓤) (A : Atoms 𝓤) (W : Given
   walk 𝓣 κs qs t i i-is r r-is g Q leaves bs =
       let ys : List Request = t .list in
       heard ! (i < length ys) (λ l.
-      sets ! (bin ! (var ! refl) (lit ! tt) (record { fits = place-fits (length ys) i (t .room) l })) refl (tt, record { fits = place-fits (length ys) i (t .room) l }) $
+      sets ! (bin ! (var ! refl) (lit ! tt) (fit (place-fits (length ys) i (t .room) l))) refl (tt, fit (place-fits (length ys) i (t .room) l)) $
       sets ! (bin ! (field-var ! refl refl refl) (var ! refl) tt) refl (tt, tt) $
       revalues ! 5 (λ (p : ℕ). vptr (t .block) p) (sym (place-is 24 (t .offset) i)) refl $
       opens-lent ! tt t ys $ elem-out ! R (Is R) (shows 𝓤 H A R) vals tells fullShare ys i zeroRequest (t .block) (t .offset) l (λ _.
@@ -39,10 +39,9 @@ module _ {M : Type 1} (𝓤 : URA M) (H : Heap 𝓤) (A : Atoms 𝓤) (W : Given
       move ! (1 ∷ []) $ drop ! $ owned ! R (Is R) (makes 𝓤 H A W) r _ r-is $ move ! (1 ∷ 0 ∷ []) $ elem-put ! R fullShare ys i r (vals r) (t .block) (t .offset) l $
       closes-lent ! tt t ys refl (set ys i r) (length-set ys i r) $
       sets ! (of-opd ! (unit-lit !)) refl (tt, tt) $ gives ! refl refl $
-      leaves vunit tt (set ys i r, tt) (length-set ys i r, tt) (nothing-makes 𝓤 H A W tt (vunit ∷ []) refl) (so 𝓤 refl)))
+      leaves vunit tt (set ys i r, tt) (length-set ys i r, tt) (of-nothing W .makes tt _ refl) (so 𝓤 refl)))
 
 pub put-spec : {M : Type 1} → f.Statement.statement M
 unfolding f.Code.routine
 put-spec 𝓤 H 𝓜 𝓖 𝓡 =
-    let W : Given 𝓤 H (𝓖 .A) = givenOf 𝓤 H 𝓜 𝓖 in
-    proves 𝓤 H 𝓜 𝓖 𝓡 (shape 𝓤 H (𝓖 .A) W (𝓜 .mem) (𝓡 .run)) f.Code.env f.Key.name (f.Code.unfolded 𝓤 H 𝓜 𝓡) (walk 𝓤 H (𝓖 .A) W (𝓜 .mem) (𝓡 .run)) tt
+    proved 𝓤 H 𝓜 𝓖 𝓡 (shape 𝓤 H) (walk 𝓤 H) f.Code.env f.Key.name (f.Code.unfolded 𝓤 H 𝓜 𝓡) tt

@@ -3,14 +3,14 @@
 -- which the search finds what it finds from the first.
 -- Assumes nothing.
 use lib.ListN.{drop as dropN}
-use Rattle.walk.proofs.Prelude.{_≡_, refl, _∙_, Bool, ℕ, _+_, _<_, _≤_, _-_, _^_, lt-of-le-of-lt, lt-of-lt-of-le, add-one-le, add-one-dec, arith, List, [], _∷_, length, getD, take, ltb, ltb→lt, nltb→le, leb→le, nleb→lt, lit<, URA, w64, vint, SProp, Memory, Routine, Heap, Tables, Atoms, Fun, Given, _$_, !, lit, of-opd, bin, un, jumps, first, u64, tripleOf}
+use Rattle.walk.proofs.Prelude.{_≡_, refl, _∙_, Bool, ℕ, _+_, _<_, _≤_, _-_, _^_, lt-of-le-of-lt, lt-of-lt-of-le, add-one-le, add-one-dec, arith, List, [], _∷_, length, getD, take, ltb, ltb→lt, nltb→le, leb→le, nleb→lt, lit<, URA, w64, vint, SProp, Memory, Routine, Heap, Tables, Atoms, Fun, Given, _$_, !, lit, of-opd, bin, un, jumps, u64, tripleOf}
 use denote.Steps.{heard}
 use Rattle.walk.proofs.Enter.{shown, uint, so}
 use Rattle.walk.proofs.Proves.{Shape, Walk, proved}
 use Rattle.walk.proofs.Locals.{var, vars, field-var, sets, resets, resets-last, gives}
 use Rattle.walk.proofs.Loops.{goes-round}
 use Rattle.walk.proofs.Results.{fit, of-number, of-flag, calls-told}
-use Rattle.walk.proofs.Steps.{branches-then, into-assign, skips-then}
+use Rattle.walk.proofs.Steps.{branches-out}
 use Rattle.walk.proofs.Slices.Loans.{Param, number, bound}
 use Rattle.walk.proofs.At.{passed-on}
 use Rattle.spec.specs.declared.types.Head.{Head}
@@ -66,25 +66,23 @@ module _ {M : Type 1} (𝓤 : URA M) (H : Heap 𝓤) (A : Atoms 𝓤) (W : Given
       let ps : List (Param 𝓤 H A) = the-head W head head-is ∷ number W (t .i) i-fits ∷ number W (t .d) (t .d-fits) ∷ [] in
       calls-told ! 𝓣 [] ps _ (so 𝓤 (within .3, omega arith)) (of-flag W) has (λ c. known-room (bound W ps c)) refl (λ c. vars ! (refl, (refl, (refl, tt)))) (λ ws. refl) (λ last has-is.
       sets ! (un ! (var ! refl) tt) refl (tt, tt) $
-      branches-then ! (var ! refl)
+      branches-out ! (var ! refl)
       -- break d;
-      (λ full. into-assign ! $ sets ! (of-opd ! (var ! refl)) refl (tt, fit (t .d-fits)) $ first ! $ jumps ! $ round .breaks ! $
+      (λ full. sets ! (of-opd ! (var ! refl)) refl (tt, fit (t .d-fits)) $ jumps ! $ round .breaks ! $
       sets ! (of-opd ! (var ! refl)) refl (tt, fit (t .d-fits)) $ gives ! refl refl $
       leaves (vint w64 (t .d)) (t .d) tt tt (of-number W w64 .makes (t .d) _ (refl, t .d-fits)) (so 𝓤 (overfull-here head ys n (t .i) (t .d) (nltb→le (t .i) (roomTo head (t .d)) full) ∙ t .left)))
       (λ held.
       let room : t .i < roomTo head (t .d) = ltb→lt (t .i) (roomTo head (t .d)) (not-not has held) in
-      skips-then ! $
       resets ! (bin ! (var ! refl) (var ! refl) tt) refl (tt, tt) $
-      branches-then ! (var ! refl)
+      branches-out ! (var ! refl)
       -- break 0;
-      (λ past. into-assign ! $ sets ! (of-opd ! (lit ! tt)) refl (tt, fit (lit< tt)) $ first ! $ jumps ! $ round .breaks ! $
+      (λ past. sets ! (of-opd ! (lit ! tt)) refl (tt, fit (lit< tt)) $ jumps ! $ round .breaks ! $
       sets ! (of-opd ! (var ! refl)) refl (tt, fit (lit< tt)) $ gives ! refl refl $
       leaves (vint w64 0) 0 tt tt (of-number W w64 .makes 0 _ (refl, lit< tt)) (so 𝓤 (overfull-none head ys n (t .i) (t .d) (omega (arith, leb→le _ (t .i) past)) room ∙ t .left)))
       (λ before.
       let lt : t .i < n = omega (arith, nleb→lt _ (t .i) before) in
       let next-fits : t .i + 1 < 2 ^ 64 = lt-of-le-of-lt (add-one-le lt) (n-is .1) in
       let w : Request = getD ys (t .i) zeroRequest in
-      skips-then ! $
       -- let w = table::get(t, i);
       let ps : List (Param 𝓤 H A) = passed-on W table ∷ number W (t .i) i-fits ∷ [] in
       calls-told ! 𝓣 (0 ∷ []) ps _ (so 𝓤 (lt-of-lt-of-le lt (within .0))) (of-request W) w (λ c. known-get (bound W ps c)) refl (λ c. vars ! (refl, (refl, tt))) (λ ws. refl) (λ last is.

@@ -2,9 +2,7 @@
 -- of them (`Laws.antt`'s `Going`), ordered by the distance to `to`. A turn calls `next`, `get` and `put`, and one law on lists
 -- (`goes-on`) takes both on. The parameters `from` and `to` are a and z here.
 -- Assumes nothing.
-use types.Kit.{drop}
-use Rattle.walk.proofs.Prelude.{_≡_, refl, sym, subst, ℕ, _+_, _-_, _<_, _^_, lt-trans, Bool, true, false, cond, List, [], _∷_, length, set, getD, URA, w64, vunit, vint, SProp, Memory, Routine, Heap, Tables, Atoms, Fun, fact, Given, ‵, _$_, !, of-opd, bin, unit-lit, usize, Nothing, tripleOf}
-use denote.Plain.{nothing-makes, nothing-lawful, nothing-tells}
+use Rattle.walk.proofs.Prelude.{_≡_, refl, sym, subst, ℕ, _+_, _-_, _<_, _^_, lt-trans, cond, List, [], _∷_, length, getD, URA, w64, vunit, vint, SProp, Memory, Routine, Heap, Tables, Atoms, Fun, Given, ‵, _$_, !, of-opd, bin, unit-lit, Nothing, tripleOf}
 use denote.Steps.{heard}
 use Rattle.walk.proofs.Enter.{lent, uint, boolean, so}
 use Rattle.walk.proofs.Results.{fit, of-number, of-nothing, calls-for, calls-told}
@@ -17,7 +15,7 @@ use Rattle.walk.proofs.Slices.Loans.{Param, number, flag, bound}
 use Rattle.walk.proofs.At.{mut-of, shr-of}
 use Rattle.spec.specs.declared.types.Request.{Request}
 use Rattle.spec.specs.Tables.{zeroRequest}
-use Rattle.table.proofs.Rows.{R, mach, request, of-request}
+use Rattle.table.proofs.Rows.{R, request, of-request}
 use Rattle.table.proofs.Laws.{Step, Going, Asked, sets-out, steps, goes-on, arrives}
 use Rattle.table.proofs.moves.next as next
 use Rattle.table.proofs.get as get
