@@ -2,12 +2,13 @@
 -- loop begins with, but for what a turn changes: a variant of any type says which slices stand at which lists, and which
 -- locals hold what.
 --     Standing         the context in which these entries in front stand as these, and these locals hold these values
---     goes-round       a loop and the rest behind it, from the variant x₀, with a turn from any x
---     turns-to         a turn ends at a variant y of a smaller measure. Locals that were empty as the loop began are emptied
+--     iterates         a loop and the rest behind it, from the variant x₀, with a turn from any x
+--     continues        a turn ends at a variant y of a smaller measure. Locals that were empty as the loop began are emptied
 --     breaks           the loop is left, and the rest runs
+--     returning        a `return` in a turn returns from the function, as `gives-within` asks
 -- Assumes `Given`.
 use Prim.Native.Nat.{ℕ, zero, suc, _<_}
-use mathlib.Core.Path.{_≡_, subst, sym, ap}
+use mathlib.Core.Path.{_≡_, refl, subst, sym, ap}
 use mathlib.Core.List.{List, [], _∷_, _++_}
 use mathlib.Core.WellFounded.{InvImage·wf}
 use lib.WfN.{Nat·lt-wfRel}
@@ -16,7 +17,7 @@ use mir.Syntax.{Ty, Body, seq, block, loop}
 use mir.Val.{Val}
 use base.Logic.{SProp, ent, id⊢, via, mono∗, monoR}
 use base.Fml.{fdies}
-use prog.Wp.{Heap, Env, Calls, Loops, Out, next, exits, Wp, Tables, afterSeq, afterBlock}
+use prog.Wp.{Heap, Env, Calls, Loops, Out, next, exits, returns, Wp, Tables, afterSeq, afterBlock}
 unfoldable use prog.Wp.{afterTurn}
 use ghost.Atoms.{Atoms}
 use types.Kit.{Given, Item, ‵, mean, ⋆, put, push, pop, ++⊢, ⊢++, Post, post, anyQ, prop, runs, Goal, aim, Seq, Step, step, _$_}
@@ -91,10 +92,11 @@ module _ {M : Type 1} {𝓤 : URA M} (E : List (Ty × ℕ)) (Γ : List (Item �
   cleared Δ = heads (front (many E) Γ) Γ ++ standing E (kept (holding (front (many E) Γ) Δ []) (holding (front (many E) Γ) Γ [])) []
 
 -- what a turn from x may end with: at a variant y of a smaller measure, or out of the loop, where the rest runs
-pub record Round {M : Type 1} {𝓤 : URA M} {H : Heap 𝓤} {A : Atoms 𝓤} (K : Type 0) (W : Given 𝓤 H A) (C : Calls 𝓤 H) (Λ : Loops 𝓤 H) (E : Env 𝓤 H) (rest : Body) (q : Post 𝓤 H) {X : Type 0} (measure : X → ℕ) (At : X → List (Item 𝓤)) (x : X) : Type 2 where
+pub record Iteration {M : Type 1} {𝓤 : URA M} {H : Heap 𝓤} {A : Atoms 𝓤} (K : Type 0) (W : Given 𝓤 H A) (C : Calls 𝓤 H) (Λ : Loops 𝓤 H) (E : Env 𝓤 H) (rest : Body) (q : Post 𝓤 H) {X : Type 0} (measure : X → ℕ) (At : X → List (Item 𝓤)) (x : X) : Type 2 where
   pub after : Out → SProp 𝓤
-  pub turns-to : {Γ : List (Item 𝓤)} → K → (y : X) → measure y < measure x → _≡_ {A = List (Item 𝓤) × List (Item 𝓤)} (Γ, At y) (stood E Γ, cleared E Γ (At y)) → Seq K W Γ (prop (after next))
+  pub continues : {Γ : List (Item 𝓤)} → K → (y : X) → measure y < measure x → _≡_ {A = List (Item 𝓤) × List (Item 𝓤)} (Γ, At y) (stood E Γ, cleared E Γ (At y)) → Seq K W Γ (prop (after next))
   pub breaks : {Γ : List (Item 𝓤)} → K → Step K W Γ (runs C Λ E rest q) Γ (prop (after (exits 1)))
+  pub returning : after returns ≡ post 𝓤 H q returns
 
 module _ {M : Type 1} {𝓤 : URA M} {H : Heap 𝓤} {A : Atoms 𝓤} {K : Type 0} {W : Given 𝓤 H A} {Γ : List (Item 𝓤)} where
   clears : K → (E : List (Ty × ℕ)) (Δ : List (Item 𝓤)) {G : Goal 𝓤 H} → _≡_ {A = List (Item 𝓤) × List (Item 𝓤)} (Γ, Δ) (stood E Γ, cleared E Γ Δ) → Step K W Δ G Γ G
@@ -104,19 +106,20 @@ module _ {M : Type 1} {𝓤 : URA M} {H : Heap 𝓤} {A : Atoms 𝓤} {K : Type 
   })
 
 module _ {M : Type 1} {𝓤 : URA M} {H : Heap 𝓤} {A : Atoms 𝓤} {K : Type 0} {W : Given 𝓤 H A} {Γ : List (Item 𝓤)} {E : Env 𝓤 H} {rest : Body} {q : Post 𝓤 H} where
-  pub goes-round : K → (𝓣 : Tables 𝓤 H) {turn : Body} {X : Type 0} (measure : X → ℕ) (slices : X → List (ℕ × Item 𝓤)) (locals : X → List (ℕ × Val)) (x₀ : X)
+  pub iterates : K → (𝓣 : Tables 𝓤 H) {turn : Body} {X : Type 0} (measure : X → ℕ) (slices : X → List (ℕ × Item 𝓤)) (locals : X → List (ℕ × Val)) (x₀ : X)
       → let At : X → List (Item 𝓤) = λ x. Standing H A E (slices x) (locals x) Γ in
       At x₀ ≡ Γ
-      → ((x : X) (o : Round K W (𝓣 .C) (𝓣 .Λ) E rest q measure At x) → Seq K W (At x) (runs (𝓣 .C) (𝓣 .Λ) E turn (anyQ (o .after))))
+      → ((x : X) (o : Iteration K W (𝓣 .C) (𝓣 .Λ) E rest q measure At x) → Seq K W (At x) (runs (𝓣 .C) (𝓣 .Λ) E turn (anyQ (o .after))))
       → Seq K W Γ (runs (𝓣 .C) (𝓣 .Λ) E (seq (block (loop turn)) rest) q)
   unfolding afterTurn
-  goes-round t 𝓣 {turn} {X = X} measure slices locals x₀ e turns =
+  iterates t 𝓣 {turn} {X = X} measure slices locals x₀ e turns =
       let At : X → List (Item 𝓤) = λ x. Standing H A E (slices x) (locals x) Γ in
       let G : Post 𝓤 H = anyQ (afterBlock 𝓤 H (afterSeq 𝓤 H (Wp 𝓤 H (𝓣 .C) (𝓣 .Λ) E rest (post 𝓤 H q)) (post 𝓤 H q))) in
       let nearer : X → X → Type 0 = λ y x. measure y < measure x in
       first t $ blocks t $ subst (λ (Δ : List (Item 𝓤)). Seq K W Δ (runs (𝓣 .C) (𝓣 .Λ) E (loop turn) G)) e
       (loops t 𝓣 nearer (InvImage·wf measure (Nat·lt-wfRel .wf)) At {q = G} (λ x. turns x (record {
         after = afterTurn 𝓤 H (Below 𝓤 H A nearer At x) (post 𝓤 H G);
-        turns-to = λ t y less e. clears t E (At y) e $ again t nearer At x y less;
+        continues = λ t y less e. clears t E (At y) e $ again t nearer At x y less;
         breaks = λ t. step (λ s. record { prf = s .prf });
+        returning = refl;
       })) x₀)

@@ -7,7 +7,7 @@ use Rattle.walk.proofs.Enter.{lent, uint, so}
 use Rattle.walk.proofs.Proves.{Shape, Walk, proved}
 use Rattle.walk.proofs.Inside.{Lent-at}
 use Rattle.walk.proofs.Locals.{var, vars, sets, resets-last, relends, gives}
-use Rattle.walk.proofs.Loops.{goes-round}
+use Rattle.walk.proofs.Loops.{iterates}
 use Rattle.walk.proofs.Results.{fit, of-nothing, calls-for}
 use Rattle.walk.proofs.Slices.Loans.{Param, number, bound}
 use Rattle.walk.proofs.At.{mut-of}
@@ -38,7 +38,7 @@ module _ {M : Type 1} (𝓤 : URA M) (H : Heap 𝓤) (A : Atoms 𝓤) (W : Given
       heard ! (n ≤ length (t .list)) (λ within.
       sets ! (agg ! (and-then ! (lit ! tt) (and-then ! (lit ! tt) (and-then ! (lit ! tt) (no-more !))))) refl (lawful 𝓤 H A W .typed zeroRequest _ zero-is .0) $
       sets ! (of-opd ! (lit ! tt)) refl (tt, fit (lit< tt)) $
-      goes-round ! 𝓣 {X = Upto n} (λ i. n - i .0) (λ i. (0, ‵ (Lent-at t (filled zeros ys (i .0)))) ∷ []) (λ i. (4, vint w64 (i .0)) ∷ []) (0, zero-le) refl (λ i round.
+      iterates ! 𝓣 {X = Upto n} (λ i. n - i .0) (λ i. (0, ‵ (Lent-at t (filled zeros ys (i .0)))) ∷ []) (λ i. (4, vint w64 (i .0)) ∷ []) (0, zero-le) refl (λ i turn.
       let zs : List Request = filled zeros ys (i .0) in
       let len : length zs ≡ length ys = length-filled zeros ys n all within (i .0) (i .1) in
       sets ! (bin ! (var ! refl) (var ! refl) tt) refl (tt, tt) $
@@ -54,8 +54,8 @@ module _ {M : Type 1} (𝓤 : URA M) (H : Heap 𝓤) (A : Atoms 𝓤) (W : Given
       -- i += 1
       resets-last ! (bin ! (var ! refl) (lit ! tt) (fit next-fits)) refl (tt, fit next-fits) $
       rewrite ! 0 (λ (zs : List Request). ‵ (Lent-at t zs)) (is-set ∙ fills zeros ys n all within (i .0) zeroRequest zeroRequest lt (getD-replicate n (i .0) zeroRequest zeroRequest lt)) refl $
-      round .turns-to ! next (add-one-dec n (i .0) lt) refl))
-      (λ over. round .breaks ! $
+      turn .continues ! next (add-one-dec n (i .0) lt) refl))
+      (λ over. turn .breaks ! $
       sets ! (of-opd ! (unit-lit !)) refl (tt, tt) $ gives ! refl refl $
       leaves vunit tt (zs, tt) (len, tt) (of-nothing W .makes tt _ refl) (so 𝓤 (filled-all zeros ys n all within (i .0) (le-antisymm (i .1) (nltb→le (i .0) n over)))))))
 

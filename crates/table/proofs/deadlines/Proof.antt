@@ -7,7 +7,7 @@ use Rattle.walk.proofs.Enter.{lent, shown, uint, so}
 use Rattle.walk.proofs.Proves.{Shape, Walk, proved}
 use Rattle.walk.proofs.Inside.{Lent-at}
 use Rattle.walk.proofs.Locals.{var, vars, field-var, sets, resets-last, relends, gives}
-use Rattle.walk.proofs.Loops.{goes-round}
+use Rattle.walk.proofs.Loops.{iterates}
 use Rattle.walk.proofs.Results.{fit, of-nothing, calls-for, calls-told}
 use Rattle.walk.proofs.Steps.{tests, Upto}
 use Rattle.walk.proofs.Slices.Loans.{Param, number, bound}
@@ -42,7 +42,7 @@ module _ {M : Type 1} (𝓤 : URA M) (H : Heap 𝓤) (A : Atoms 𝓤) (W : Given
       heard ! ((n ≤ length ys) × (n ≤ length ds)) (λ within.
       let all : length taken ≡ n = length-column (λ w. w .deadline) n ys (within .0) in
       sets ! (of-opd ! (lit ! tt)) refl (tt, fit (lit< tt)) $
-      goes-round ! 𝓣 {X = Upto n} (λ i. n - i .0) (λ i. (1, ‵ (Lent-at out (filled taken ds (i .0)))) ∷ []) (λ i. (4, vint w64 (i .0)) ∷ []) (0, zero-le) refl (λ i round.
+      iterates ! 𝓣 {X = Upto n} (λ i. n - i .0) (λ i. (1, ‵ (Lent-at out (filled taken ds (i .0)))) ∷ []) (λ i. (4, vint w64 (i .0)) ∷ []) (0, zero-le) refl (λ i turn.
       let zs : List ℕ = filled taken ds (i .0) in
       let len : length zs ≡ length ds = length-filled taken ds n all (within .1) (i .0) (i .1) in
       sets ! (bin ! (var ! refl) (var ! refl) tt) refl (tt, tt) $
@@ -64,8 +64,8 @@ module _ {M : Type 1} (𝓤 : URA M) (H : Heap 𝓤) (A : Atoms 𝓤) (W : Given
       -- i += 1
       resets-last ! (bin ! (var ! refl) (lit ! tt) (fit next-fits)) refl (tt, fit next-fits) $
       rewrite ! 1 (λ (zs : List ℕ). ‵ (Lent-at out zs)) (stored ∙ fills taken ds n all (within .1) (i .0) (r .deadline) (zeroRequest .deadline) lt (getD-column (λ w. w .deadline) n ys (i .0) zeroRequest lt)) refl $
-      round .turns-to ! next (add-one-dec n (i .0) lt) refl)))
-      (λ over. round .breaks ! $
+      turn .continues ! next (add-one-dec n (i .0) lt) refl)))
+      (λ over. turn .breaks ! $
       sets ! (of-opd ! (unit-lit !)) refl (tt, tt) $ gives ! refl refl $
       leaves vunit tt (zs, tt) (len, tt) (of-nothing W .makes tt _ refl) (so 𝓤 (filled-all taken ds n all (within .1) (i .0) (le-antisymm (i .1) (nltb→le (i .0) n over)))))))
 

@@ -6,7 +6,7 @@ use denote.Steps.{heard}
 use Rattle.walk.proofs.Enter.{shown, uint, so}
 use Rattle.walk.proofs.Proves.{Shape, Walk, proved}
 use Rattle.walk.proofs.Locals.{var, vars, field-var, sets, resets, resets-last, gives}
-use Rattle.walk.proofs.Loops.{goes-round}
+use Rattle.walk.proofs.Loops.{iterates}
 use Rattle.walk.proofs.Results.{fit, of-number, calls-told}
 use Rattle.walk.proofs.Steps.{tests}
 use Rattle.walk.proofs.Slices.Loans.{Param, number, bound}
@@ -73,7 +73,7 @@ module _ {M : Type 1} (𝓤 : URA M) (H : Heap 𝓤) (A : Atoms 𝓤) (W : Given
       heard ! (n ≤ length ys) (λ within.
       sets ! (of-opd ! (lit ! tt)) refl (tt, fit (lit< tt)) $
       sets ! (of-opd ! (var ! refl)) refl (tt, fit (n-is .1)) $
-      goes-round ! 𝓣 {X = Turn ys n d} (λ t. t .high - t .low) (λ t. []) (λ t. (4, vint w64 (t .low)) ∷ (5, vint w64 (t .high)) ∷ []) (start ys n d within) refl (λ t round.
+      iterates ! 𝓣 {X = Turn ys n d} (λ t. t .high - t .low) (λ t. []) (λ t. (4, vint w64 (t .low)) ∷ (5, vint w64 (t .high)) ∷ []) (start ys n d within) refl (λ t turn.
       let high-fits : t .high < 2 ^ 64 = lt-of-le-of-lt (t .known .within) (n-is .1) in
       let low-fits : t .low < 2 ^ 64 = lt-of-le-of-lt (t .known .ordered) high-fits in
       sets ! (bin ! (var ! refl) (var ! refl) tt) refl (tt, tt) $
@@ -94,10 +94,10 @@ module _ {M : Type 1} (𝓤 : URA M) (H : Heap 𝓤) (A : Atoms 𝓤) (W : Given
       resets ! (bin ! (field-var ! refl refl refl) (var ! refl) tt) refl (tt, tt) $
       branches ! (var ! refl)
       (λ due. resets-last ! (bin ! (var ! refl) (lit ! tt) (fit next-fits)) refl (tt, fit next-fits) $
-      round .turns-to ! (upper ys n d within t lt (omega (arith, leb→le _ d due))) (omega arith) refl)
+      turn .continues ! (upper ys n d within t lt (omega (arith, leb→le _ d due))) (omega arith) refl)
       (λ later. resets-last ! (of-opd ! (var ! refl)) refl (tt, fit m-fits) $
-      round .turns-to ! (lower ys n d within t lt (omega (arith, nleb→lt _ d later))) (omega arith) refl)))
-      (λ over. round .breaks ! $
+      turn .continues ! (lower ys n d within t lt (omega (arith, nleb→lt _ d later))) (omega arith) refl)))
+      (λ over. turn .breaks ! $
       sets ! (of-opd ! (var ! refl)) refl (tt, fit low-fits) $ gives ! refl refl $
       leaves (vint w64 (t .low)) (t .low) tt tt (of-number W w64 .makes (t .low) _ (refl, low-fits)) (so 𝓤 (found ys n d within t (nltb→le (t .low) (t .high) over))))))
 

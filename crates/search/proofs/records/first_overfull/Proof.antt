@@ -8,7 +8,7 @@ use denote.Steps.{heard}
 use Rattle.walk.proofs.Enter.{shown, uint, so}
 use Rattle.walk.proofs.Proves.{Shape, Walk, proved}
 use Rattle.walk.proofs.Locals.{var, vars, field-var, sets, resets, resets-last, gives}
-use Rattle.walk.proofs.Loops.{goes-round}
+use Rattle.walk.proofs.Loops.{iterates}
 use Rattle.walk.proofs.Results.{fit, of-number, of-flag, calls-told}
 use Rattle.walk.proofs.Steps.{branches-out}
 use Rattle.walk.proofs.Slices.Loans.{Param, number, bound}
@@ -58,7 +58,7 @@ module _ {M : Type 1} (𝓤 : URA M) (H : Heap 𝓤) (A : Atoms 𝓤) (W : Given
       heard ! ((n ≤ length ys) × (n ≤ mostRecords) × (place ≤ n) × (head .clock ≤ clockEnd)) (λ within.
       sets ! (of-opd ! (var ! refl)) refl (tt, fit (deadline-is .1)) $
       sets ! (of-opd ! (var ! refl)) refl (tt, fit (place-is .1)) $
-      goes-round ! 𝓣 {X = Turn head ys n place deadline} (λ t. n - t .i) (λ t. []) (λ t. (6, vint w64 (t .d)) ∷ (7, vint w64 (t .i)) ∷ []) (record { i = place; d = deadline; d-fits = deadline-is .1; inside = within .2; left = refl }) refl (λ t round.
+      iterates ! 𝓣 {X = Turn head ys n place deadline} (λ t. n - t .i) (λ t. []) (λ t. (6, vint w64 (t .d)) ∷ (7, vint w64 (t .i)) ∷ []) (record { i = place; d = deadline; d-fits = deadline-is .1; inside = within .2; left = refl }) refl (λ t turn.
       let i-fits : t .i < 2 ^ 64 = lt-of-le-of-lt (t .inside) (n-is .1) in
       let has : Bool = ltb (t .i) (roomTo head (t .d)) in
       -- !columns::rows::has_room(head, i as u64, d)
@@ -68,7 +68,7 @@ module _ {M : Type 1} (𝓤 : URA M) (H : Heap 𝓤) (A : Atoms 𝓤) (W : Given
       sets ! (un ! (var ! refl) tt) refl (tt, tt) $
       branches-out ! (var ! refl)
       -- break d;
-      (λ full. sets ! (of-opd ! (var ! refl)) refl (tt, fit (t .d-fits)) $ jumps ! $ round .breaks ! $
+      (λ full. sets ! (of-opd ! (var ! refl)) refl (tt, fit (t .d-fits)) $ jumps ! $ turn .breaks ! $
       sets ! (of-opd ! (var ! refl)) refl (tt, fit (t .d-fits)) $ gives ! refl refl $
       leaves (vint w64 (t .d)) (t .d) tt tt (of-number W w64 .makes (t .d) _ (refl, t .d-fits)) (so 𝓤 (overfull-here head ys n (t .i) (t .d) (nltb→le (t .i) (roomTo head (t .d)) full) ∙ t .left)))
       (λ held.
@@ -76,7 +76,7 @@ module _ {M : Type 1} (𝓤 : URA M) (H : Heap 𝓤) (A : Atoms 𝓤) (W : Given
       resets ! (bin ! (var ! refl) (var ! refl) tt) refl (tt, tt) $
       branches-out ! (var ! refl)
       -- break 0;
-      (λ past. sets ! (of-opd ! (lit ! tt)) refl (tt, fit (lit< tt)) $ jumps ! $ round .breaks ! $
+      (λ past. sets ! (of-opd ! (lit ! tt)) refl (tt, fit (lit< tt)) $ jumps ! $ turn .breaks ! $
       sets ! (of-opd ! (var ! refl)) refl (tt, fit (lit< tt)) $ gives ! refl refl $
       leaves (vint w64 0) 0 tt tt (of-number W w64 .makes 0 _ (refl, lit< tt)) (so 𝓤 (overfull-none head ys n (t .i) (t .d) (omega (arith, leb→le _ (t .i) past)) room ∙ t .left)))
       (λ before.
@@ -89,7 +89,7 @@ module _ {M : Type 1} (𝓤 : URA M) (H : Heap 𝓤) (A : Atoms 𝓤) (W : Given
       -- d = w.deadline; i += 1
       resets ! (of-opd ! (field-var ! refl refl refl)) refl (tt, fit (deadline-fits w is)) $
       resets-last ! (bin ! (var ! refl) (lit ! tt) (fit next-fits)) refl (tt, fit next-fits) $
-      round .turns-to ! (record { i = t .i + 1; d = w .deadline; d-fits = deadline-fits w is; inside = add-one-le lt; left = overfull-next head ys n (t .i) (t .d) (within .0) lt room ∙ t .left }) (add-one-dec n (t .i) lt) refl))))))
+      turn .continues ! (record { i = t .i + 1; d = w .deadline; d-fits = deadline-fits w is; inside = add-one-le lt; left = overfull-next head ys n (t .i) (t .d) (within .0) lt room ∙ t .left }) (add-one-dec n (t .i) lt) refl))))))
 
 pub first-overfull-spec : {M : Type 1} → f.Statement.statement M
 unfolding f.Code.routine

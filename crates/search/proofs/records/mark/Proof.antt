@@ -9,7 +9,7 @@ use Rattle.walk.proofs.Enter.{lent, shown, uint, so}
 use Rattle.walk.proofs.Proves.{Shape, Walk, proved}
 use Rattle.walk.proofs.Inside.{Lent-at}
 use Rattle.walk.proofs.Locals.{var, vars, field-var, sets, resets-last, relends, gives}
-use Rattle.walk.proofs.Loops.{goes-round}
+use Rattle.walk.proofs.Loops.{iterates}
 use Rattle.walk.proofs.Results.{fit, of-nothing, calls-for, calls-told}
 use Rattle.walk.proofs.Steps.{tests}
 use Rattle.walk.proofs.Slices.Loans.{Param, number, bound}
@@ -54,7 +54,7 @@ module _ {M : Type 1} (𝓤 : URA M) (H : Heap 𝓤) (A : Atoms 𝓤) (W : Given
       let ys : List Request = table .list in
       heard ! ((end ≤ length ys) × (length (latest .list) ≡ mostClients) × (end + more ≤ largest16)) (λ within.
       sets ! (of-opd ! (var ! refl)) refl (tt, fit (start-is .1)) $
-      goes-round ! 𝓣 {X = Turn ys (latest .list) start end more} (λ t. end - t .i) (λ t. (1, ‵ (Lent-at latest (t .known))) ∷ []) (λ t. (6, vint w64 (t .i)) ∷ []) (record { i = start; known = latest .list; size = refl; left = refl }) refl (λ t round.
+      iterates ! 𝓣 {X = Turn ys (latest .list) start end more} (λ t. end - t .i) (λ t. (1, ‵ (Lent-at latest (t .known))) ∷ []) (λ t. (6, vint w64 (t .i)) ∷ []) (record { i = start; known = latest .list; size = refl; left = refl }) refl (λ t turn.
       sets ! (bin ! (var ! refl) (var ! refl) tt) refl (tt, tt) $
       tests ! (var ! refl)
       (λ less.
@@ -76,8 +76,8 @@ module _ {M : Type 1} (𝓤 : URA M) (H : Heap 𝓤) (A : Atoms 𝓤) (W : Given
       (λ c. and-then ! (var ! refl) (and-then ! (field-var ! refl refl refl) (and-then ! (var ! refl) (no-more !)))) (λ ws. refl) (λ u last noted kept _.
       -- i += 1
       resets-last ! (bin ! (var ! refl) (lit ! tt) (fit next-fits)) refl (tt, fit next-fits) $
-      round .turns-to ! (record { i = t .i + 1; known = last .0; size = kept .0 ∙ t .size; left = ap (marked ys end more (t .i + 1)) noted ∙ latest-next ys end more (t .i) (t .known) (within .0) lt ∙ t .left }) (add-one-dec end (t .i) lt) refl)))
-      (λ over. round .breaks ! $
+      turn .continues ! (record { i = t .i + 1; known = last .0; size = kept .0 ∙ t .size; left = ap (marked ys end more (t .i + 1)) noted ∙ latest-next ys end more (t .i) (t .known) (within .0) lt ∙ t .left }) (add-one-dec end (t .i) lt) refl)))
+      (λ over. turn .breaks ! $
       sets ! (of-opd ! (unit-lit !)) refl (tt, tt) $ gives ! refl refl $
       leaves vunit tt (t .known, tt) (t .size, tt) (of-nothing W .makes tt _ refl) (so 𝓤 (latest-all ys end more (t .i) (t .known) (nltb→le (t .i) end over) ∙ t .left)))))
 

@@ -9,7 +9,7 @@ use Rattle.walk.proofs.Results.{fit, of-number, of-nothing, calls-for, calls-to
 use Rattle.walk.proofs.Proves.{Shape, Walk, proved}
 use Rattle.walk.proofs.Inside.{Lent-at}
 use Rattle.walk.proofs.Locals.{var, vars, sets, resets-last, relends, gives}
-use Rattle.walk.proofs.Loops.{goes-round}
+use Rattle.walk.proofs.Loops.{iterates}
 use Rattle.walk.proofs.Steps.{tests}
 use Rattle.walk.proofs.Slices.Loans.{Param, number, flag, bound}
 use Rattle.walk.proofs.At.{mut-of, shr-of}
@@ -42,7 +42,7 @@ module _ {M : Type 1} (𝓤 : URA M) (H : Heap 𝓤) (A : Atoms 𝓤) (W : Given
       let ys : List Request = t .list in
       heard ! (Asked up a z (length ys)) (λ within.
       sets ! (of-opd ! (var ! refl)) refl (tt, fit (a-is .1)) $
-      goes-round ! 𝓣 {X = (i : ℕ) × (zs : List Request) × Going up a z ys i zs} (λ v. (v .0 - z) + (z - v .0)) (λ v. (0, ‵ (Lent-at t (v .1))) ∷ []) (λ v. (5, vint w64 (v .0)) ∷ []) (a, ys, sets-out up a z ys within) refl (λ v round.
+      iterates ! 𝓣 {X = (i : ℕ) × (zs : List Request) × Going up a z ys i zs} (λ v. (v .0 - z) + (z - v .0)) (λ v. (0, ‵ (Lent-at t (v .1))) ∷ []) (λ v. (5, vint w64 (v .0)) ∷ []) (a, ys, sets-out up a z ys within) refl (λ v turn.
       let i : ℕ = v .0 in
       let zs : List Request = v .1 in
       let g : Going up a z ys i zs = v .2 in
@@ -66,8 +66,8 @@ module _ {M : Type 1} (𝓤 : URA M) (H : Heap 𝓤) (A : Atoms 𝓤) (W : Given
       calls-for ! 𝓣 (0 ∷ []) ps _ (so 𝓤 (subst (λ (m : ℕ). i < m) (sym len) (g .within))) (of-nothing W) _ (λ c. known-put (bound W ps c)) refl (λ c. vars ! (refl, (refl, (refl, tt)))) (λ ws. refl) (λ u last put kept _.
       -- i = j;
       resets-last ! (of-opd ! (var ! refl)) refl (tt, fit (j-is .1)) $
-      round .turns-to ! (j, last .0, subst (Going up a z ys j) (sym put) (goes-on i zs g j s)) (s .nearer) refl))))
-      (λ over. round .breaks ! $
+      turn .continues ! (j, last .0, subst (Going up a z ys j) (sym put) (goes-on i zs g j s)) (s .nearer) refl))))
+      (λ over. turn .breaks ! $
       sets ! (of-opd ! (unit-lit !)) refl (tt, tt) $ gives ! refl refl $
       leaves vunit tt (zs, tt) (len, tt) (of-nothing W .makes tt _ refl) (so 𝓤 (arrives i zs g over)))))
 
