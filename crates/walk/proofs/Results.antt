@@ -2,7 +2,7 @@
 --     fit              a number fits its width
 --     Result           what a result is at the machine: a type's values and laws; `of-number`, `of-flag`, `of-nothing`
 --     calls-for        `At.antt`'s `calls-at`, and the result's machine value goes to the empty local x
---     calls-told       the same where the contract says which the result is
+--     calls-giving     the same where the contract says which the result is
 -- Assumes `Given`.
 use mathlib.Core.Path.{_≡_, sym, ap, subst}
 use Prim.Native.Nat.{ℕ, _<_, _^_}
@@ -44,12 +44,12 @@ module _ {M : Type 1} {𝓤 : URA M} {H : Heap 𝓤} {A : Atoms 𝓤} (W : Given
 
 module _ {M : Type 1} {𝓤 : URA M} (H : Heap 𝓤) (A : Atoms 𝓤) (Γ : List (Item 𝓤)) (π : List ℕ) (ps : List (Param 𝓤 H A)) (ws : Lasts ps) where
   -- the context once the loans are back
-  abbrev pub returned : List (Item 𝓤)
-  returned = fills H A ps π ws (holes H A π Γ)
+  abbrev pub restored : List (Item 𝓤)
+  restored = fills H A ps π ws (holes H A π Γ)
 
   -- the local x is empty then and has the result's type
   abbrev pub Ready : (E : Env 𝓤 H) (x : ℕ) → RattleType → Type 2
-  Ready E x S = _≡_ {A = Item 𝓤 × List Ty} (nth 𝓤 H A (back x returned) returned, S .mir) (‵ (froom (spotOf 𝓤 H E x .0) (spotOf 𝓤 H E x .1) (spotOf 𝓤 H E x .2)), spotOf 𝓤 H E x .0 ∷ [])
+  Ready E x S = _≡_ {A = Item 𝓤 × List Ty} (nth 𝓤 H A (back x restored) restored, S .mir) (‵ (froom (spotOf 𝓤 H E x .0) (spotOf 𝓤 H E x .1) (spotOf 𝓤 H E x .2)), spotOf 𝓤 H E x .0 ∷ [])
 
 module _ {M : Type 1} {𝓤 : URA M} {H : Heap 𝓤} {A : Atoms 𝓤} {K : Type 0} {W : Given 𝓤 H A} {Γ : List (Item 𝓤)} {E : Env 𝓤 H} {f : Name} {xs : List Operand} {q : Post 𝓤 H} {x : ℕ} {rest : Body} where
   pub calls-for : K → (𝓣 : Tables 𝓤 H) → (π : List ℕ) (ps : List (Param 𝓤 H A)) (Pre : SProp 𝓤) → ent 𝓤 (emp 𝓤) Pre → {S : RattleType} (s : Result W S) (ψ : S .Denot → Lasts ps → Type 0)
@@ -57,20 +57,20 @@ module _ {M : Type 1} {𝓤 : URA M} {H : Heap 𝓤} {A : Atoms 𝓤} {K : Type 
       → items H A π Γ ≡ sourced H A ps
       → Operands K W (holes H A π Γ) E xs ps Pre
       → ((ws : Lasts ps) → Ready H A Γ π ps ws E x S)
-      → ((r : S .Denot) (ws : Lasts ps) → ψ r ws → Knowns ps ws → Is S r (s .val r ∷ []) → Seq K W (held H A (returned H A Γ π ps ws) E x (s .val r)) (runs (𝓣 .C) (𝓣 .Λ) E rest q))
+      → ((r : S .Denot) (ws : Lasts ps) → ψ r ws → Knowns ps ws → Is S r (s .val r ∷ []) → Seq K W (held H A (restored H A Γ π ps ws) E x (s .val r)) (runs (𝓣 .C) (𝓣 .Λ) E rest q))
       → Seq K W Γ (runs (𝓣 .C) (𝓣 .Λ) E (seq (call f xs (place x [])) rest) q)
   calls-for t 𝓣 π ps Pre pre {S} s ψ met e ops ready k =
       calls-at t (fmOf 𝓤 H (W .laws) 𝓣) π ps Pre pre S ψ met e ops (λ w r ws told known.
       gets-told t S (s .lawful) (s .val) (s .tells) w r (ap (λ p. p .0) (ready ws)) (ap (λ p. p .1) (ready ws)) (λ is. k r ws told known is))
 
   -- the same where the contract says which the result is
-  pub calls-told : K → (𝓣 : Tables 𝓤 H) → (π : List ℕ) (ps : List (Param 𝓤 H A)) (Pre : SProp 𝓤) → ent 𝓤 (emp 𝓤) Pre → {S : RattleType} (s : Result W S) (m : S .Denot)
+  pub calls-giving : K → (𝓣 : Tables 𝓤 H) → (π : List ℕ) (ps : List (Param 𝓤 H A)) (Pre : SProp 𝓤) → ent 𝓤 (emp 𝓤) Pre → {S : RattleType} (s : Result W S) (m : S .Denot)
       → ((c : Choices ps) → ent 𝓤 (Asked ps c Pre) (𝓣 .C f (machine ps) (Told ps c S (λ r ws. r ≡ m))))
       → items H A π Γ ≡ sourced H A ps
       → Operands K W (holes H A π Γ) E xs ps Pre
       → ((ws : Lasts ps) → Ready H A Γ π ps ws E x S)
-      → ((ws : Lasts ps) → Is S m (s .val m ∷ []) → Seq K W (held H A (returned H A Γ π ps ws) E x (s .val m)) (runs (𝓣 .C) (𝓣 .Λ) E rest q))
+      → ((ws : Lasts ps) → Is S m (s .val m ∷ []) → Seq K W (held H A (restored H A Γ π ps ws) E x (s .val m)) (runs (𝓣 .C) (𝓣 .Λ) E rest q))
       → Seq K W Γ (runs (𝓣 .C) (𝓣 .Λ) E (seq (call f xs (place x [])) rest) q)
-  calls-told t 𝓣 π ps Pre pre {S} s m met e ops ready k =
+  calls-giving t 𝓣 π ps Pre pre {S} s m met e ops ready k =
       calls-for t 𝓣 π ps Pre pre s (λ r ws. r ≡ m) met e ops ready (λ r ws is-m known is.
-      subst (λ (r : S .Denot). Is S r (s .val r ∷ []) → Seq K W (held H A (returned H A Γ π ps ws) E x (s .val r)) (runs (𝓣 .C) (𝓣 .Λ) E rest q)) (sym is-m) (k ws) is)
+      subst (λ (r : S .Denot). Is S r (s .val r ∷ []) → Seq K W (held H A (restored H A Γ π ps ws) E x (s .val r)) (runs (𝓣 .C) (𝓣 .Λ) E rest q)) (sym is-m) (k ws) is)

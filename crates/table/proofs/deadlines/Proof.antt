@@ -8,7 +8,7 @@ use Rattle.walk.proofs.Proves.{Shape, Walk, proved}
 use Rattle.walk.proofs.Inside.{Lent-at}
 use Rattle.walk.proofs.Locals.{var, vars, field-var, sets, resets-last, relends, gives}
 use Rattle.walk.proofs.Loops.{iterates}
-use Rattle.walk.proofs.Results.{fit, of-nothing, calls-for, calls-told}
+use Rattle.walk.proofs.Results.{fit, of-nothing, calls-for, calls-giving}
 use Rattle.walk.proofs.Steps.{tests, Upto}
 use Rattle.walk.proofs.Slices.Loans.{Param, number, bound}
 use Rattle.walk.proofs.At.{mut-of, passed-on}
@@ -55,7 +55,7 @@ module _ {M : Type 1} (𝓤 : URA M) (H : Heap 𝓤) (A : Atoms 𝓤) (W : Given
       let r : Request = getD ys (i .0) zeroRequest in
       -- let w = get(t, i);
       let ps : List (Param 𝓤 H A) = passed-on W t ∷ number W (i .0) fits ∷ [] in
-      calls-told ! 𝓣 (0 ∷ []) ps _ (so 𝓤 (lt-of-lt-of-le lt (within .0))) (of-request W) r (λ c. known-get (bound W ps c)) refl (λ c. vars ! (refl, (refl, tt))) (λ ws. refl) (λ last is.
+      calls-giving ! 𝓣 (0 ∷ []) ps _ (so 𝓤 (lt-of-lt-of-le lt (within .0))) (of-request W) r (λ c. known-get (bound W ps c)) refl (λ c. vars ! (refl, (refl, tt))) (λ ws. refl) (λ last is.
       -- store(out, i, w.deadline);
       relends ! (out .room .0) refl refl refl $
       let ps : List (Param 𝓤 H A) = mut-of W out zs len ∷ number W (i .0) fits ∷ number W (r .deadline) (deadline-fits r is) ∷ [] in

@@ -7,7 +7,7 @@ use Rattle.walk.proofs.Enter.{lent, uint, so}
 use Rattle.walk.proofs.Proves.{Shape, Walk, proved}
 use Rattle.walk.proofs.Inside.{Lent-at}
 use Rattle.walk.proofs.Locals.{var, vars, field-var, sets, resets, relends, empties, gives, gives-within}
-use Rattle.walk.proofs.Results.{fit, of-nothing, calls-for, calls-told}
+use Rattle.walk.proofs.Results.{fit, of-nothing, calls-for, calls-giving}
 use Rattle.walk.proofs.Steps.{branches-out}
 use Rattle.walk.proofs.Slices.Loans.{Param, number, bound}
 use Rattle.walk.proofs.At.{mut-of, shr-of}
@@ -55,7 +55,7 @@ module _ {M : Type 1} (𝓤 : URA M) (H : Heap 𝓤) (A : Atoms 𝓤) (W : Given
       -- let gone = get(t, out);
       relends ! (t .room .0) refl refl refl $
       let ps : List (Param 𝓤 H A) = shr-of W t ys refl ∷ number W out (out-is .1) ∷ [] in
-      calls-told ! 𝓣 (0 ∷ []) ps _ (so 𝓤 (within .0)) (of-request W) gone (λ c. known-get (bound W ps c)) refl (λ c. vars ! (refl, (refl, tt))) (λ ws. refl) (λ last is.
+      calls-giving ! 𝓣 (0 ∷ []) ps _ (so 𝓤 (within .0)) (of-request W) gone (λ c. known-get (bound W ps c)) refl (λ c. vars ! (refl, (refl, tt))) (λ ws. refl) (λ last is.
       -- move_between(t, out, at);
       relends ! (t .room .0) refl refl refl $
       let ps : List (Param 𝓤 H A) = mut-of W t ys refl ∷ number W out (out-is .1) ∷ number W at (at-is .1) ∷ [] in

@@ -7,7 +7,7 @@ use Rattle.walk.proofs.Enter.{shown, uint, so}
 use Rattle.walk.proofs.Proves.{Shape, Walk, proved}
 use Rattle.walk.proofs.Locals.{var, vars, field-var, sets, resets, resets-last, gives}
 use Rattle.walk.proofs.Loops.{iterates}
-use Rattle.walk.proofs.Results.{fit, of-number, calls-told}
+use Rattle.walk.proofs.Results.{fit, of-number, calls-giving}
 use Rattle.walk.proofs.Steps.{tests}
 use Rattle.walk.proofs.Slices.Loans.{Param, number, bound}
 use Rattle.walk.proofs.At.{passed-on}
@@ -90,7 +90,7 @@ module _ {M : Type 1} (𝓤 : URA M) (H : Heap 𝓤) (A : Atoms 𝓤) (W : Given
       sets ! (bin ! (var ! refl) (var ! refl) (fit m-fits)) refl (tt, fit m-fits) $
       -- let w = table::get(t, middle);
       let ps : List (Param 𝓤 H A) = passed-on W table ∷ number W m m-fits ∷ [] in
-      calls-told ! 𝓣 (0 ∷ []) ps _ (so 𝓤 (omega (arith, t .known .within))) (of-request W) w (λ c. known-get (bound W ps c)) refl (λ c. vars ! (refl, (refl, tt))) (λ ws. refl) (λ last is.
+      calls-giving ! 𝓣 (0 ∷ []) ps _ (so 𝓤 (omega (arith, t .known .within))) (of-request W) w (λ c. known-get (bound W ps c)) refl (λ c. vars ! (refl, (refl, tt))) (λ ws. refl) (λ last is.
       resets ! (bin ! (field-var ! refl refl refl) (var ! refl) tt) refl (tt, tt) $
       branches ! (var ! refl)
       (λ due. resets-last ! (bin ! (var ! refl) (lit ! tt) (fit next-fits)) refl (tt, fit next-fits) $

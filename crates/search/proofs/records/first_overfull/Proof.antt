@@ -9,7 +9,7 @@ use Rattle.walk.proofs.Enter.{shown, uint, so}
 use Rattle.walk.proofs.Proves.{Shape, Walk, proved}
 use Rattle.walk.proofs.Locals.{var, vars, field-var, sets, resets, resets-last, gives}
 use Rattle.walk.proofs.Loops.{iterates}
-use Rattle.walk.proofs.Results.{fit, of-number, of-flag, calls-told}
+use Rattle.walk.proofs.Results.{fit, of-number, of-flag, calls-giving}
 use Rattle.walk.proofs.Steps.{branches-out}
 use Rattle.walk.proofs.Slices.Loans.{Param, number, bound}
 use Rattle.walk.proofs.At.{passed-on}
@@ -64,7 +64,7 @@ module _ {M : Type 1} (𝓤 : URA M) (H : Heap 𝓤) (A : Atoms 𝓤) (W : Given
       -- !columns::rows::has_room(head, i as u64, d)
       sets ! (of-opd ! (var ! refl)) refl (tt, fit i-fits) $
       let ps : List (Param 𝓤 H A) = the-head W head head-is ∷ number W (t .i) i-fits ∷ number W (t .d) (t .d-fits) ∷ [] in
-      calls-told ! 𝓣 [] ps _ (so 𝓤 (within .3, omega arith)) (of-flag W) has (λ c. known-room (bound W ps c)) refl (λ c. vars ! (refl, (refl, (refl, tt)))) (λ ws. refl) (λ last has-is.
+      calls-giving ! 𝓣 [] ps _ (so 𝓤 (within .3, omega arith)) (of-flag W) has (λ c. known-room (bound W ps c)) refl (λ c. vars ! (refl, (refl, (refl, tt)))) (λ ws. refl) (λ last has-is.
       sets ! (un ! (var ! refl) tt) refl (tt, tt) $
       branches-out ! (var ! refl)
       -- break d;
@@ -85,7 +85,7 @@ module _ {M : Type 1} (𝓤 : URA M) (H : Heap 𝓤) (A : Atoms 𝓤) (W : Given
       let w : Request = getD ys (t .i) zeroRequest in
       -- let w = table::get(t, i);
       let ps : List (Param 𝓤 H A) = passed-on W table ∷ number W (t .i) i-fits ∷ [] in
-      calls-told ! 𝓣 (0 ∷ []) ps _ (so 𝓤 (lt-of-lt-of-le lt (within .0))) (of-request W) w (λ c. known-get (bound W ps c)) refl (λ c. vars ! (refl, (refl, tt))) (λ ws. refl) (λ last is.
+      calls-giving ! 𝓣 (0 ∷ []) ps _ (so 𝓤 (lt-of-lt-of-le lt (within .0))) (of-request W) w (λ c. known-get (bound W ps c)) refl (λ c. vars ! (refl, (refl, tt))) (λ ws. refl) (λ last is.
       -- d = w.deadline; i += 1
       resets ! (of-opd ! (field-var ! refl refl refl)) refl (tt, fit (deadline-fits w is)) $
       resets-last ! (bin ! (var ! refl) (lit ! tt) (fit next-fits)) refl (tt, fit next-fits) $

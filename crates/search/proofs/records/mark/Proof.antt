@@ -10,7 +10,7 @@ use Rattle.walk.proofs.Proves.{Shape, Walk, proved}
 use Rattle.walk.proofs.Inside.{Lent-at}
 use Rattle.walk.proofs.Locals.{var, vars, field-var, sets, resets-last, relends, gives}
 use Rattle.walk.proofs.Loops.{iterates}
-use Rattle.walk.proofs.Results.{fit, of-nothing, calls-for, calls-told}
+use Rattle.walk.proofs.Results.{fit, of-nothing, calls-for, calls-giving}
 use Rattle.walk.proofs.Steps.{tests}
 use Rattle.walk.proofs.Slices.Loans.{Param, number, bound}
 use Rattle.walk.proofs.At.{mut-of, passed-on}
@@ -67,7 +67,7 @@ module _ {M : Type 1} (𝓤 : URA M) (H : Heap 𝓤) (A : Atoms 𝓤) (W : Given
       let w : Request = getD ys (t .i) zeroRequest in
       -- let w = table::get(t, i);
       let ps : List (Param 𝓤 H A) = passed-on W table ∷ number W (t .i) i-fits ∷ [] in
-      calls-told ! 𝓣 (0 ∷ []) ps _ (so 𝓤 (omega arith)) (of-request W) w (λ c. known-get (bound W ps c)) refl (λ c. vars ! (refl, (refl, tt))) (λ ws. refl) (λ last is.
+      calls-giving ! 𝓣 (0 ∷ []) ps _ (so 𝓤 (omega arith)) (of-request W) w (λ c. known-get (bound W ps c)) refl (λ c. vars ! (refl, (refl, tt))) (λ ws. refl) (λ last is.
       -- note(latest, w.client, i + more);
       relends ! (latest .room .0) refl refl refl $
       sets ! (bin ! (var ! refl) (var ! refl) (fit place-fits)) refl (tt, fit place-fits) $

@@ -5,7 +5,7 @@
 use Rattle.walk.proofs.Prelude.{_≡_, refl, sym, subst, ℕ, _+_, _-_, _<_, _^_, lt-trans, cond, List, [], _∷_, length, getD, URA, w64, vunit, vint, SProp, Memory, Routine, Heap, Tables, Atoms, Fun, Given, ‵, _$_, !, of-opd, bin, unit-lit, Nothing, tripleOf}
 use denote.Steps.{heard}
 use Rattle.walk.proofs.Enter.{lent, uint, boolean, so}
-use Rattle.walk.proofs.Results.{fit, of-number, of-nothing, calls-for, calls-told}
+use Rattle.walk.proofs.Results.{fit, of-number, of-nothing, calls-for, calls-giving}
 use Rattle.walk.proofs.Proves.{Shape, Walk, proved}
 use Rattle.walk.proofs.Inside.{Lent-at}
 use Rattle.walk.proofs.Locals.{var, vars, sets, resets-last, relends, gives}
@@ -55,11 +55,11 @@ module _ {M : Type 1} (𝓤 : URA M) (H : Heap 𝓤) (A : Atoms 𝓤) (W : Given
       let s : Step up (length ys) z i j = steps i zs g (t .room .0) (within .1) apart in
       -- let j = next(i, up);
       let ps : List (Param 𝓤 H A) = number W i fits ∷ flag W up ∷ [] in
-      calls-told ! 𝓣 [] ps _ (so 𝓤 (s .asked)) (of-number W w64) j (λ c. known-next (bound W ps c)) refl (λ c. vars ! (refl, (refl, tt))) (λ ws. refl) (λ last j-is.
+      calls-giving ! 𝓣 [] ps _ (so 𝓤 (s .asked)) (of-number W w64) j (λ c. known-next (bound W ps c)) refl (λ c. vars ! (refl, (refl, tt))) (λ ws. refl) (λ last j-is.
       -- let w = get(t, j);
       relends ! (t .room .0) refl refl refl $
       let ps : List (Param 𝓤 H A) = shr-of W t zs len ∷ number W j (j-is .1) ∷ [] in
-      calls-told ! 𝓣 (0 ∷ []) ps _ (so 𝓤 (subst (λ (m : ℕ). j < m) (sym len) (s .within))) (of-request W) (getD zs j zeroRequest) (λ c. known-get (bound W ps c)) refl (λ c. vars ! (refl, (refl, tt))) (λ ws. refl) (λ last is.
+      calls-giving ! 𝓣 (0 ∷ []) ps _ (so 𝓤 (subst (λ (m : ℕ). j < m) (sym len) (s .within))) (of-request W) (getD zs j zeroRequest) (λ c. known-get (bound W ps c)) refl (λ c. vars ! (refl, (refl, tt))) (λ ws. refl) (λ last is.
       -- put(t, i, w);
       relends ! (t .room .0) refl refl refl $
       let ps : List (Param 𝓤 H A) = mut-of W t zs len ∷ number W i fits ∷ request W (getD zs j zeroRequest) is ∷ [] in
