@@ -3,10 +3,11 @@
 use Prim.Native.Nat.{ℕ, zero, suc, _+_, _-_, _≤_, _<_, min}
 use mathlib.Core.Path.{_≡_, refl, sym, ap, _∙_}
 use mathlib.Core.Bool.{Bool, true, false, cond}
-use mathlib.Core.List.{List, [], _∷_, map}
+use mathlib.Core.List.{List, [], _∷_, _++_, map}
 use mathlib.Core.Logic.{_↔_}
 use native.Mathlib.Omega.{arith}
 use lib.Dec.{eqb}
+use borrow.Author.Tests.{eq-eqb}
 use lib.ListN.{length, getD, drop}
 use Rattle.slots.specs.Plan.{at, EndedBy, Fits, uses, since, size, CanAllFinish}
 use Rattle.slots.proofs.Laws.Count.{isAt-no}
@@ -16,7 +17,7 @@ use Rattle.spec.specs.declared.types.Head.{Head}
 use Rattle.spec.specs.declared.types.Request.{Request}
 use Rattle.spec.specs.Tables.{State, waiting, deadlinesOf}
 use Rattle.spec.specs.Chart.{capacityOf, room, startBefore, startsOf, Segment, joinLeft, segmentsOf, dueBy}
-use Rattle.spec.proofs.Demands.Words.{Ascending, Pairs, Finish, ChartFits, slotsOfAll, Apart}
+use Rattle.spec.proofs.Demands.Words.{Ascending, Pairs, Finish, ChartFits, from, slotsOfAll, Proper, Apart, LongestRuns}
 use Rattle.spec.proofs.Laws.Order.{order-drop, before-deadline, InOrder}
 use Rattle.spec.proofs.Laws.Feasible.{FeasibleAt, due-yes, dueBy-cons}
 use Rattle.spec.proofs.Laws.Room.{capacity-one}
@@ -196,9 +197,6 @@ latest-start head clock ws k o f h t = (to, from-start)
         })
 
 -- ---- segments
-abbrev pub Proper : Segment → Type 0
-Proper g = g .left < g .right
-
 -- a start slot in front of the segment g, whether they touch or not
 abbrev besideIf : Bool → ℕ → Segment → List Segment → List Segment
 besideIf x s g gs = cond x (record { left = s; right = g .right } ∷ gs) (record { left = s; right = suc s } ∷ g ∷ gs)
@@ -232,8 +230,7 @@ join-slots s (g ∷ gs) a = go (eqb (suc s) (g .left)) (same (suc s) (g .left))
     go true (same-yes e) = let more : g .right - s ≡ suc (g .right - g .left) = omega arith in rw (more, e)
     go false (same-no e) = let one : suc s - s ≡ 1 = omega arith in rw one
 
--- "Segments are the longest runs of touching intervals": from the left, their slots are the start slots ..
-pub segments-slots : (starts : List ℕ) → slotsOfAll (segmentsOf starts) ≡ starts
+segments-slots : (starts : List ℕ) → slotsOfAll (segmentsOf starts) ≡ starts
 unfolding segmentsOf
 segments-slots [] = refl
 segments-slots (s ∷ starts) =
@@ -258,9 +255,51 @@ join-apart s (g ∷ gs) l a b = go (eqb (suc s) (g .left)) (same (suc s) (g .lef
       b,
     )
 
-pub segments-apart : (starts : List ℕ) → Ascending starts → Apart (segmentsOf starts)
+segments-apart : (starts : List ℕ) → Ascending starts → Apart (segmentsOf starts)
 unfolding segmentsOf
 segments-apart [] o = tt
 segments-apart (s ∷ starts) o =
     join-apart s (segmentsOf starts) (segments-left (λ (x : ℕ). s < x) starts (o .0)) (segments-proper starts)
     (segments-apart starts (o .1))
+
+-- ---- no other list of segments has the longest runs
+join-far : (s right : ℕ) (gs : List Segment) → suc s ≡ right → All (λ (h : Segment). right < h .left) gs
+    → joinLeft s gs ≡ record { left = s; right = right } ∷ gs
+join-far s right [] e a = rw e
+join-far s right (g ∷ gs) e a = go (eqb (suc s) (g .left)) (same (suc s) (g .left))
+  where
+    go : (x : Bool) → Same (suc s) (g .left) x → besideIf x s g gs ≡ record { left = s; right = right } ∷ g ∷ gs
+    go true (same-yes f) = absurd (omega (arith, a .0))
+    go false (same-no f) = rw e
+
+-- the n + 1 slots up to `right`, in front of segments that start behind it, are one segment
+run-joined : (s n right : ℕ) (starts : List ℕ) (gs : List Segment) → suc (s + n) ≡ right
+    → All (λ (h : Segment). right < h .left) gs → segmentsOf starts ≡ gs
+    → segmentsOf (from s (suc n) ++ starts) ≡ record { left = s; right = right } ∷ gs
+unfolding segmentsOf
+run-joined s zero right starts gs e a h = ap (joinLeft s) h ∙ join-far s right gs (omega arith) a
+run-joined s (suc n) right starts gs e a h =
+    ap (joinLeft s) (run-joined (suc s) n right starts gs (omega arith) a h)
+    ∙ rw (eq-eqb (suc s) (suc s) refl)
+
+segments-only : (gs : List Segment) → All Proper gs → Apart gs → segmentsOf (slotsOfAll gs) ≡ gs
+unfolding segmentsOf
+segments-only [] p a = refl
+segments-only (g ∷ gs) p a =
+    let n : g .right - g .left ≡ suc (g .right - g .left - 1) = omega (arith, p .0) in
+    rw n (run-joined (g .left) (g .right - g .left - 1) (g .right) (slotsOfAll gs) gs (omega (arith, p .0)) (a .0)
+    (segments-only gs (p .1) (a .1)))
+
+-- "Segments are the longest runs of touching intervals, given as [left, right]."
+pub longest-runs : (starts : List ℕ) (gs : List Segment) → Ascending starts → LongestRuns starts gs ↔ (gs ≡ segmentsOf starts)
+longest-runs starts gs o = (only, are)
+  where
+    only : LongestRuns starts gs → gs ≡ segmentsOf starts
+    only r = sym (rw (r .slots) at (segments-only gs (r .none-empty) (r .apart)))
+
+    are : gs ≡ segmentsOf starts → LongestRuns starts gs
+    are e = rw e (record {
+      slots = segments-slots starts;
+      none-empty = segments-proper starts;
+      apart = segments-apart starts o;
+    })

@@ -20,8 +20,8 @@ use Rattle.spec.specs.Refusals.{firstMatch, refusal4, chartRefusals}
 use Rattle.spec.specs.Calls.{Outcome, openOf, reportOf, reportAnswer, chartAccepted, chartOf, chartOutput}
 use Rattle.spec.specs.Frames.{field, valuesOf}
 use Rattle.spec.specs.Lists.{Call, chart, outcomeOf, run, Event, history, isRefused, isOpened, waitingBy, countsSince}
-use Rattle.spec.proofs.Demands.Words.{FitsField, refusalsOf, FirstHolds, Ascending, Pairs, Finish, ChartFits, from}
-use Rattle.spec.proofs.Demands.Words.{slotsOfAll, Apart}
+use Rattle.spec.proofs.Demands.Words.{FitsField, refusalsOf, FirstHolds, Ascending, Pairs, Finish, ChartFits}
+use Rattle.spec.proofs.Demands.Words.{LongestRuns}
 use Rattle.spec.proofs.Laws.Sound.{sound-test}
 use Rattle.spec.proofs.Laws.Accepted.{Decided, accepts, refuses, decided, ChartReady, chart-ready, waiting-length}
 use Rattle.spec.proofs.Calls.Refused.{accepted-same, acceptedOf, outcome-decided, accepted-answer, accepted-none}
@@ -29,8 +29,7 @@ use Rattle.spec.proofs.Calls.Refused.{first-holds, first-match, first-l
 use Rattle.spec.proofs.Calls.Refused.{written, output-written}
 use Rattle.spec.proofs.Calls.Keeps.{same-lengths, keeps, shaped-test}
 use Rattle.spec.proofs.Calls.Widths.{call-fits, segment-fits, count-fits}
-use Rattle.spec.proofs.Calls.Latest.{latest-start, ready-chart, starts-latest, starts-drop, segments-slots}
-use Rattle.spec.proofs.Calls.Latest.{segments-apart}
+use Rattle.spec.proofs.Calls.Latest.{latest-start, ready-chart, starts-latest, starts-drop, longest-runs}
 use Rattle.spec.proofs.Lists.Trace.{traced}
 use Rattle.spec.proofs.Lists.Counts.{counted, reported-counts}
 
@@ -154,9 +153,8 @@ pub record Latest (s : State) : Type 0 where
   -- and the latest for it where they are served in chart order
   pub latest : (k : ℕ) (slots : List ℕ) → Ascending slots → Finish (drop k (waiting s)) slots
       → Pairs (λ slot start. slot ≤ start) slots (drop k (startsOf (waiting s)))
-  -- "Segments are the longest runs of touching intervals": from the left their slots are the start slots, and no two touch
-  pub slots : slotsOfAll (segmentsOf (startsOf (waiting s))) ≡ startsOf (waiting s)
-  pub apart : Apart (segmentsOf (startsOf (waiting s)))
+  -- "Segments are the longest runs of touching intervals": these are the runs of the start slots, and no other list is
+  pub segments : (gs : List Segment) → LongestRuns (startsOf (waiting s)) gs ↔ (gs ≡ segmentsOf (startsOf (waiting s)))
 
 pub chart-latest : (output : List ℕ) (s : State) → isRefused (chartOf output s .answer) ≡ false → Latest s
 unfolding outcomeOf
@@ -168,8 +166,7 @@ chart-latest output s e =
       begins =
           λ k h. latest-start (s .head) (s .head .clock) (waiting s) k (r .sound .ordered) (r .sound .feasible) h;
       latest = λ k slots a f. rw (starts-drop k (waiting s)) at (starts-latest (drop k (waiting s)) slots a f);
-      slots = segments-slots (startsOf (waiting s));
-      apart = segments-apart (startsOf (waiting s)) (c .ascending);
+      segments = λ gs. longest-runs (startsOf (waiting s)) gs (c .ascending);
     }
 
 -- ---- lines

@@ -70,10 +70,20 @@ abbrev pub slotsOfAll : List Segment → List ℕ
 slotsOfAll [] = []
 slotsOfAll (g ∷ gs) = slotsOf g ++ slotsOfAll gs
 
+-- a segment that is not empty
+abbrev pub Proper : Segment → Type 0
+Proper g = g .left < g .right
+
 -- no two segments touch: each one ends before all behind it start
 abbrev pub Apart : List Segment → Type 0
 Apart [] = Unit {0}
 Apart (g ∷ gs) = All (λ (h : Segment). g .right < h .left) gs × Apart gs
+
+-- "the longest runs of touching intervals": from the left their slots are these start slots, none is empty, and no two touch
+pub record LongestRuns (starts : List ℕ) (gs : List Segment) : Type 0 where
+  pub slots : slotsOfAll gs ≡ starts
+  pub none-empty : All Proper gs
+  pub apart : Apart gs
 
 -- ---- lists of calls
 -- the requests of a list, the newest first, are numbered from their count down to 1
