@@ -1,12 +1,14 @@
 -- Demand 1, of the definitions: "After every call and for all input, damaged tables included, the lent tables hold exactly what
 -- document 01 says. A refused call gives its number and changes nothing." The calls' definitions say what the tables hold; here is
 -- what follows from them. Statements, each under its sentence; the proofs stand in Calls/ and Lists/. Assumes nothing.
-use Prim.Native.Nat.{ℕ, _≤_, _<_}
+use Prim.Native.Nat.{ℕ, _*_, _/_, _%_, _≤_, _<_}
 use mathlib.Core.Path.{_≡_, refl, sym, ap, _∙_}
 use mathlib.Core.Logic.{_↔_}
 use mathlib.Core.Bool.{true, false, true≢false}
 use mathlib.Core.List.{List}
 use native.Mathlib.Omega.{arith}
+use native.Mathlib.Nat.{div-add-mod', mul-mod-left}
+use borrow.Author.Tests.{eqb-true, eq-eqb}
 use lib.ListN.{length, getD, take, drop, length-append, length-drop}
 use lib.Seq.{take-append-seam, drop-append-seam}
 use Rattle.slots.specs.Plan.{CanAllFinish}
@@ -17,7 +19,7 @@ use Rattle.spec.specs.Tables.{zeroCounts, State, waiting, deadlinesOf}
 use Rattle.spec.specs.Chart.{Segment, capacityOf, startsOf, segmentsOf}
 use Rattle.spec.specs.Sound.{isSound}
 use Rattle.spec.specs.Refusals.{firstMatch, refusal4, chartRefusals}
-use Rattle.spec.specs.Calls.{Outcome, openOf, reportOf, reportAnswer, chartAccepted, chartOf, chartOutput}
+use Rattle.spec.specs.Calls.{Outcome, openOf, isPeriodStart, reportOf, reportAnswer, chartAccepted, chartOf, chartOutput}
 use Rattle.spec.specs.Frames.{field, valuesOf}
 use Rattle.spec.specs.Lists.{Call, chart, outcomeOf, run, Event, history, isRefused, isOpened, waitingBy, countsSince}
 use Rattle.spec.proofs.Demands.Words.{FitsField, refusalsOf, FirstHolds, Ascending, Pairs, Finish, ChartFits}
@@ -104,6 +106,21 @@ counts-given clients period s cs a h =
       counts = λ c l. C .counts-are c (omega (arith, T .ready .shape .clients));
       reports = λ c e. reported-counts period c es t T C e;
     }
+
+-- "If it is now a multiple of the period": where a period starts, which the call and the counts since the last start ask alike. It is
+-- said of every period and every clock. 0 is a multiple of every period, but no tick leaves the clock at 0; of a period 0, which
+-- neither an open nor sound tables have, it is the only one
+pub period-starts : (period clock : ℕ) → (isPeriodStart period clock ≡ true) ↔ ((k : ℕ) × (clock ≡ k * period))
+period-starts period clock = (multiple, starts)
+  where
+    multiple : isPeriodStart period clock ≡ true → (k : ℕ) × (clock ≡ k * period)
+    multiple e = (
+      clock / period,
+      omega (arith, div-add-mod' clock period, eqb-true (clock % period) 0 e),
+    )
+
+    starts : (k : ℕ) × (clock ≡ k * period) → isPeriodStart period clock ≡ true
+    starts (k, e) = eq-eqb (clock % period) 0 (rw e (mul-mod-left k period))
 
 -- ---- the chart
 -- "Chart writes one start slot a waiting record, in chart order, into a lent output table and answers their count; entries beyond are
