@@ -3,14 +3,16 @@
 use Prim.Native.Nat.{ℕ}
 use mathlib.Core.Path.{_≡_, refl, sym, ap, subst, _∙_}
 use mathlib.Core.Bool.{false}
-use mathlib.Core.List.{List, map}
+use mathlib.Core.List.{List, [], _∷_, map}
 use Rattle.spec.specs.declared.types.Request.{Request}
+use Rattle.spec.specs.declared.types.Counts.{Counts}
 use Rattle.spec.specs.Tables.{State}
 use Rattle.spec.specs.Every.{exists}
 use Rattle.spec.specs.Calls.{Outcome, openOf, submitOf, tickOf, reportOf, chartOf}
 use Rattle.spec.specs.Lists.{Call, opening, submit, tick, report, chart, outcomeOf, run, Event, history, isRefused, isOpened}
 use Rattle.spec.proofs.Demands.Demand1.{keeps-lengths, CountsGiven, counts-given}
 use Rattle.spec.proofs.Demands.Demand3.{Largest, largest-plan}
+use Rattle.columns.specs.Columns.{over}
 use Rattle.columns.proofs.Counting.{holds-rows}
 use Rattle.decide.specs.declared.types.Reply.{Reply}
 use Rattle.queue.specs.Gives.{Gives}
@@ -70,6 +72,44 @@ ran-history none = refl
 ran-history (next {es} {before} {after} c r ran m) =
     let a = m .gives .answer-same ∙ ap (λ (s : State). outcomeOf c s .answer) (ran-run ran) in
     cc (a, ran-history ran)
+
+-- no contract is one that nothing meets: whatever the caller has, each call has a reply and leaves tables that meet its contract
+pub made-some : (c : Call) (before : Lent) → (r : Reply) × (after : Lent) × Made c before r after
+made-some c before = (
+  record { head = o .after .head; answer = o .answer },
+  after,
+  record {
+    head-kept = refl;
+    gives =
+        record {
+          answer-same = refl;
+          head-same = refl;
+          waiting-same = refl;
+          counts-same = record { submitted-same = refl; served-same = refl; dropped-same = refl };
+        };
+  },
+)
+  where
+    o : Outcome
+    o = outcomeOf c (heldBy before)
+
+    after : Lent
+    after =
+        record {
+          head = o .after .head;
+          waitingTable = o .after .waitingTable;
+          submitted = over (λ (k : Counts). k .submitted) (o .after .clientTable) (before .submitted);
+          served = over (λ (k : Counts). k .served) (o .after .clientTable) (before .served);
+          dropped = over (λ (k : Counts). k .dropped) (o .after .clientTable) (before .dropped);
+        }
+
+-- so whatever calls are listed, there is a list of the library's calls that makes them
+pub ran-some : (from : Lent) (cs : List Call) → (es : List Event) × (after : Lent) × Ran from es after × (callsOf es ≡ cs)
+ran-some from [] = ([], from, none, refl)
+ran-some from (c ∷ cs) =
+    let (es, before, ran, e) = ran-some from cs in
+    let (r, after, m) = made-some c before in
+    (record { call = c; answer = r .answer } ∷ es, after, next c r ran m, ap (λ (l : List Call). c ∷ l) e)
 
 -- what holds of every list of the definitions' calls from an accepted open on holds of every list of the library's
 module _ (clients period : ℕ) (before from after : Lent) (r : Reply) (es : List Event)
