@@ -1,19 +1,95 @@
--- Damaged tables as one table that is checked by one theorem: each clause of "Tables are sound when" and of refusal 4 broken by
--- itself, at its bound, beside tables just within it. A tick is made on each. Assumes nothing.
+-- Damaged tables as one table that is checked by one theorem: each clause of refusal 4 and of "Tables are sound when" broken at its
+-- bound, beside tables just within it, and a tick made on each. Each row lists the clauses that its state breaks: one alone, but for
+-- a deadline that is not after the clock. Assumes nothing.
 use Prim.Native.Nat.{ℕ}
 use mathlib.Core.Path.{_≡_, refl}
-use mathlib.Core.List.{List, [], _∷_, map}
-use lib.ListN.{replicate}
+use mathlib.Core.Bool.{Bool, true, false, not, cond, _&&_, _||_, and-assoc, and-true}
+use mathlib.Core.List.{List, [], _∷_, _++_, map}
+use lib.Dec.{eqb, ltb}
+use lib.ListN.{length, replicate}
 use Rattle.spec.specs.declared.types.Head.{Head}
 use Rattle.spec.specs.declared.types.Request.{Request}
 use Rattle.spec.specs.declared.types.Counts.{Counts}
-use Rattle.spec.specs.Tables.{zeroRequest, zeroCounts, State, holding}
-use Rattle.spec.specs.Refusals.{firstMatch, tickRefusals}
+use Rattle.spec.specs.Every.{isWithin, every, everyFrom}
+use Rattle.spec.specs.Tables.{mostRecords, zeroRequest, zeroCounts, State, waiting, behind, holding}
+use Rattle.spec.specs.Order.{isInOrder}
+use Rattle.spec.specs.Chart.{hasNoOverfull}
+use Rattle.spec.specs.Sound.{isHeadWithin, isAhead, isGiven, isClient, isZeroRequest, isBalanced, isSound}
+use Rattle.spec.specs.Refusals.{refusal4, firstMatch, tickRefusals}
 use Rattle.spec.proofs.Acceptance.Computed.{refusals}
 
--- a state, and the number that refuses a tick on it, 0 where none does
+-- ---- clauses
+-- the three of refusal 4, and the eight of "Tables are sound when", each named for what it speaks of
+pub data Clause : Type 0 where
+  waiting-length : Clause
+  client-length : Clause
+  waiting-count : Clause
+  head-bounds : Clause
+  chart-order : Clause
+  deadline-ahead : Clause
+  number-given : Clause
+  client-exists : Clause
+  no-overfull : Clause
+  zero-behind : Clause
+  balance : Clause
+
+-- a clause, and whether it holds
+pub record Test : Type 0 where
+  pub clause : Clause
+  pub holds : Bool
+
+abbrev test : Clause → Bool → Test
+test clause holds = record { clause = clause; holds = holds }
+
+abbrev shapeTests : State → List Test
+shapeTests s =
+    test waiting-length (isWithin 1 mostRecords (length (s .waitingTable)))
+    ∷ test client-length (eqb (length (s .clientTable)) (s .head .clients))
+    ∷ test waiting-count (not (ltb (length (s .waitingTable)) (s .head .waiting)))
+    ∷ []
+
+abbrev soundTests : State → List Test
+soundTests s =
+    test head-bounds (isHeadWithin (s .head))
+    ∷ test chart-order (isInOrder (waiting s))
+    ∷ test deadline-ahead (every (λ w. isAhead (s .head .clock) (w .deadline)) (waiting s))
+    ∷ test number-given (every (λ w. isGiven (s .head .last) (w .number)) (waiting s))
+    ∷ test client-exists (every (λ w. isClient (s .head .clients) (w .client)) (waiting s))
+    ∷ test no-overfull (hasNoOverfull (s .head) (waiting s))
+    ∷ test zero-behind (every isZeroRequest (behind s))
+    ∷ test balance (everyFrom (isBalanced (waiting s)) 0 (s .clientTable))
+    ∷ []
+
+abbrev areMet : List Test → Bool
+areMet ts = every (λ t. t .holds) ts
+
+-- these clauses make the definitions: refusal 4 is given where one of the three is broken ..
+pub shape-clauses : (s : State) → refusal4 s .holds ≡ not (areMet (shapeTests s))
+unfolding every
+shape-clauses s =
+    go (isWithin 1 mostRecords (length (s .waitingTable))) (eqb (length (s .clientTable)) (s .head .clients))
+    (ltb (length (s .waitingTable)) (s .head .waiting))
+  where
+    go : (a b c : Bool) → (not a || not b || c) ≡ not (a && (b && (not c && true)))
+    go false b c = refl
+    go true false c = refl
+    go true true false = refl
+    go true true true = refl
+
+-- .. and tables are sound where all of the eight hold
+pub sound-clauses : (s : State) → isSound s ≡ areMet (soundTests s)
+unfolding every isSound
+sound-clauses s = simp (and-assoc, and-true)
+
+abbrev broken : List Test → List Clause
+broken [] = []
+broken (t ∷ ts) = cond (t .holds) (broken ts) (t .clause ∷ broken ts)
+
+-- ---- the table
+-- a state, the clauses that it breaks, and the number that refuses a tick on it, 0 where none does
 pub record Damage : Type 0 where
   pub state : State
+  pub clauses : List Clause
   pub number : ℕ
 
 abbrev request : ℕ → ℕ → ℕ → Request
@@ -27,8 +103,9 @@ abbrev head : ℕ → ℕ → ℕ → ℕ → ℕ → Head
 head clients period clock last waits =
     record { clients = clients; period = period; clock = clock; last = last; waiting = waits }
 
-abbrev meets : Head → List Request → List Counts → ℕ → Damage
-meets h rs cs n = record { state = record { head = h; waitingTable = rs; clientTable = cs }; number = n }
+abbrev breaks : Head → List Request → List Counts → List Clause → ℕ → Damage
+breaks h rs cs clauses n =
+    record { state = record { head = h; waitingTable = rs; clientTable = cs }; clauses = clauses; number = n }
 
 -- a sound state: at clock 5 a request of each of two clients waits in a table of four records
 abbrev two : Head
@@ -45,60 +122,75 @@ both = counts 3 1 1 ∷ counts 1 0 0 ∷ []
 
 abbrev damages : List Damage
 damages =
-    meets two (holding 4 (first ∷ second ∷ [])) both 0
+    breaks two (holding 4 (first ∷ second ∷ [])) both [] 0
     -- "The waiting requests are records in a lent table of 1 to 2,048 records."
-    ∷ meets (head 2 10 5 4 0) [] (zeroCounts ∷ zeroCounts ∷ []) 4
-    ∷ meets (head 1 10 5 4 0) (holding 2048 []) (zeroCounts ∷ []) 0
-    ∷ meets (head 1 10 5 4 0) (holding 2049 []) (zeroCounts ∷ []) 4
+    ∷ breaks (head 2 10 5 4 0) [] (zeroCounts ∷ zeroCounts ∷ []) (waiting-length ∷ []) 4
+    ∷ breaks (head 1 10 5 4 0) (holding 2048 []) (zeroCounts ∷ []) [] 0
+    ∷ breaks (head 1 10 5 4 0) (holding 2049 []) (zeroCounts ∷ []) (waiting-length ∷ []) 4
     -- "the client table's length differs from the number of clients"
-    ∷ meets two (holding 4 (first ∷ second ∷ [])) (counts 3 1 1 ∷ []) 4
-    ∷ meets two (holding 4 (first ∷ second ∷ [])) (counts 3 1 1 ∷ counts 1 0 0 ∷ zeroCounts ∷ []) 4
+    ∷ breaks two (holding 4 (first ∷ second ∷ [])) (counts 3 1 1 ∷ []) (client-length ∷ []) 4
+    ∷ breaks two (holding 4 (first ∷ second ∷ [])) (counts 3 1 1 ∷ counts 1 0 0 ∷ zeroCounts ∷ []) (client-length ∷ []) 4
     -- "the waiting count exceeds the waiting table's length"
-    ∷ meets (head 2 10 5 4 2) (first ∷ second ∷ []) both 0
-    ∷ meets (head 2 10 5 4 3) (first ∷ second ∷ []) both 4
+    ∷ breaks (head 2 10 5 4 2) (first ∷ second ∷ []) both [] 0
+    ∷ breaks (head 2 10 5 4 3) (first ∷ second ∷ []) both (waiting-count ∷ []) 4
     -- "Clients: 1 to 256"
-    ∷ meets (head 0 10 5 4 0) (holding 4 []) [] 5
-    ∷ meets (head 256 10 5 4 0) (holding 4 []) (replicate 256 zeroCounts) 0
-    ∷ meets (head 257 10 5 4 0) (holding 4 []) (replicate 257 zeroCounts) 5
+    ∷ breaks (head 0 10 5 4 0) (holding 4 []) [] (head-bounds ∷ []) 5
+    ∷ breaks (head 256 10 5 4 0) (holding 4 []) (replicate 256 zeroCounts) [] 0
+    ∷ breaks (head 257 10 5 4 0) (holding 4 []) (replicate 257 zeroCounts) (head-bounds ∷ []) 5
     -- "Period: 1 to 4,294,967,295 slots."
-    ∷ meets (head 1 0 5 4 0) (holding 4 []) (zeroCounts ∷ []) 5
-    ∷ meets (head 1 4294967295 5 4 0) (holding 4 []) (zeroCounts ∷ []) 0
-    ∷ meets (head 1 4294967296 5 4 0) (holding 4 []) (zeroCounts ∷ []) 5
+    ∷ breaks (head 1 0 5 4 0) (holding 4 []) (zeroCounts ∷ []) (head-bounds ∷ []) 5
+    ∷ breaks (head 1 4294967295 5 4 0) (holding 4 []) (zeroCounts ∷ []) [] 0
+    ∷ breaks (head 1 4294967296 5 4 0) (holding 4 []) (zeroCounts ∷ []) (head-bounds ∷ []) 5
     -- "Clock and request numbers end at 281,474,976,710,655."; at its end the clock is sound and a tick is refused
-    ∷ meets (head 1 10 281474976710655 4 0) (holding 4 []) (zeroCounts ∷ []) 11
-    ∷ meets (head 1 10 281474976710656 4 0) (holding 4 []) (zeroCounts ∷ []) 5
-    ∷ meets (head 1 10 5 281474976710655 0) (holding 4 []) (zeroCounts ∷ []) 0
-    ∷ meets (head 1 10 5 281474976710656 0) (holding 4 []) (zeroCounts ∷ []) 5
+    ∷ breaks (head 1 10 281474976710655 4 0) (holding 4 []) (zeroCounts ∷ []) [] 11
+    ∷ breaks (head 1 10 281474976710656 4 0) (holding 4 []) (zeroCounts ∷ []) (head-bounds ∷ []) 5
+    ∷ breaks (head 1 10 5 281474976710655 0) (holding 4 []) (zeroCounts ∷ []) [] 0
+    ∷ breaks (head 1 10 5 281474976710656 0) (holding 4 []) (zeroCounts ∷ []) (head-bounds ∷ []) 5
     -- "earlier deadline first, equal deadlines by smaller number, no two equal in both"
-    ∷ meets two (holding 4 (second ∷ first ∷ [])) both 5
-    ∷ meets two (holding 4 (request 9 2 0 ∷ request 9 4 1 ∷ [])) both 0
-    ∷ meets two (holding 4 (request 9 4 1 ∷ request 9 2 0 ∷ [])) both 5
-    ∷ meets two (holding 4 (request 9 4 0 ∷ request 9 4 1 ∷ [])) both 5
-    -- "each deadline is past the clock by 1 to 65,535"
-    ∷ meets two (holding 4 (request 6 2 0 ∷ second ∷ [])) both 0
-    ∷ meets two (holding 4 (request 5 2 0 ∷ second ∷ [])) both 5
-    ∷ meets two (holding 4 (first ∷ request 65540 4 1 ∷ [])) both 0
-    ∷ meets two (holding 4 (first ∷ request 65541 4 1 ∷ [])) both 5
+    ∷ breaks two (holding 4 (second ∷ first ∷ [])) both (chart-order ∷ []) 5
+    ∷ breaks two (holding 4 (request 9 2 0 ∷ request 9 4 1 ∷ [])) both [] 0
+    ∷ breaks two (holding 4 (request 9 4 1 ∷ request 9 2 0 ∷ [])) both (chart-order ∷ []) 5
+    ∷ breaks two (holding 4 (request 9 4 0 ∷ request 9 4 1 ∷ [])) both (chart-order ∷ []) 5
+    -- "each deadline is past the clock by 1 to 65,535"; one that is not after the clock is overfull too, for no slot is left to it
+    ∷ breaks two (holding 4 (request 6 2 0 ∷ second ∷ [])) both [] 0
+    ∷ breaks two (holding 4 (request 5 2 0 ∷ second ∷ [])) both (deadline-ahead ∷ no-overfull ∷ []) 5
+    ∷ breaks two (holding 4 (first ∷ request 65540 4 1 ∷ [])) both [] 0
+    ∷ breaks two (holding 4 (first ∷ request 65541 4 1 ∷ [])) both (deadline-ahead ∷ []) 5
     -- "each number is from 1 to the last given"
-    ∷ meets two (holding 4 (request 7 1 0 ∷ second ∷ [])) both 0
-    ∷ meets two (holding 4 (request 7 0 0 ∷ second ∷ [])) both 5
-    ∷ meets two (holding 4 (request 7 5 0 ∷ second ∷ [])) both 5
+    ∷ breaks two (holding 4 (request 7 1 0 ∷ second ∷ [])) both [] 0
+    ∷ breaks two (holding 4 (request 7 0 0 ∷ second ∷ [])) both (number-given ∷ []) 5
+    ∷ breaks two (holding 4 (request 7 5 0 ∷ second ∷ [])) both (number-given ∷ []) 5
     -- "each client exists"
-    ∷ meets two (holding 4 (first ∷ request 9 4 2 ∷ [])) (counts 3 1 1 ∷ counts 0 0 0 ∷ []) 5
+    ∷ breaks two (holding 4 (first ∷ request 9 4 2 ∷ [])) (counts 3 1 1 ∷ counts 0 0 0 ∷ []) (client-exists ∷ []) 5
     -- "for each deadline D in the table, the records with deadline at most D number at most D minus the clock"
-    ∷ meets two (holding 4 (request 7 2 0 ∷ request 7 4 1 ∷ [])) both 0
-    ∷ meets two (holding 4 (request 6 2 0 ∷ request 6 4 1 ∷ [])) both 5
+    ∷ breaks two (holding 4 (request 7 2 0 ∷ request 7 4 1 ∷ [])) both [] 0
+    ∷ breaks two (holding 4 (request 6 2 0 ∷ request 6 4 1 ∷ [])) both (no-overfull ∷ []) 5
     -- "every record behind the waiting ones is zero"
-    ∷ meets two (first ∷ second ∷ request 1 0 0 ∷ zeroRequest ∷ []) both 5
-    ∷ meets two (first ∷ second ∷ zeroRequest ∷ request 0 1 0 ∷ []) both 5
-    ∷ meets two (first ∷ second ∷ zeroRequest ∷ request 0 0 1 ∷ []) both 5
+    ∷ breaks two (first ∷ second ∷ request 1 0 0 ∷ zeroRequest ∷ []) both (zero-behind ∷ []) 5
+    ∷ breaks two (first ∷ second ∷ zeroRequest ∷ request 0 1 0 ∷ []) both (zero-behind ∷ []) 5
+    ∷ breaks two (first ∷ second ∷ zeroRequest ∷ request 0 0 1 ∷ []) both (zero-behind ∷ []) 5
     -- "for each client submitted = served + dropped + its waiting records, submitted within its bound"
-    ∷ meets two (holding 4 (first ∷ second ∷ [])) (counts 2 1 1 ∷ counts 1 0 0 ∷ []) 5
-    ∷ meets two (holding 4 (first ∷ second ∷ [])) (counts 3 1 1 ∷ counts 2 0 0 ∷ []) 5
-    ∷ meets two (holding 4 (first ∷ second ∷ [])) (counts 268435455 268435453 1 ∷ counts 1 0 0 ∷ []) 0
-    ∷ meets two (holding 4 (first ∷ second ∷ [])) (counts 268435456 268435454 1 ∷ counts 1 0 0 ∷ []) 5
+    ∷ breaks two (holding 4 (first ∷ second ∷ [])) (counts 2 1 1 ∷ counts 1 0 0 ∷ []) (balance ∷ []) 5
+    ∷ breaks two (holding 4 (first ∷ second ∷ [])) (counts 3 1 1 ∷ counts 2 0 0 ∷ []) (balance ∷ []) 5
+    ∷ breaks two (holding 4 (first ∷ second ∷ [])) (counts 268435455 268435453 1 ∷ counts 1 0 0 ∷ []) [] 0
+    ∷ breaks two (holding 4 (first ∷ second ∷ [])) (counts 268435456 268435454 1 ∷ counts 1 0 0 ∷ []) (balance ∷ []) 5
     ∷ []
 
-pub damaged-tables : map (λ (d : Damage). firstMatch (tickRefusals (d .state))) damages ≡ map (λ (d : Damage). d .number) damages
+-- what a row says, and what the definitions give
+pub record Finding : Type 0 where
+  pub clauses : List Clause
+  pub number : ℕ
+
+abbrev said : Damage → Finding
+said d = record { clauses = d .clauses; number = d .number }
+
+abbrev given : Damage → Finding
+given d =
+    record {
+      clauses = broken (shapeTests (d .state) ++ soundTests (d .state));
+      number = firstMatch (tickRefusals (d .state));
+    }
+
+pub damaged-tables : map given damages ≡ map said damages
 unfolding refusals
 damaged-tables = refl

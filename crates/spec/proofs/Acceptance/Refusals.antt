@@ -1,23 +1,29 @@
 -- The refusals of each call in their order, as one table that is checked by one theorem: at first every condition of the call holds,
--- and each row takes the first of them away, up to an accepted call. Assumes nothing.
+-- and each row takes the first of them away, up to an accepted call. Each row lists the conditions that hold. Assumes nothing.
 use Prim.Native.Nat.{ℕ}
 use mathlib.Core.Path.{_≡_, refl}
 use mathlib.Core.List.{List, [], _∷_, map}
+use lib.ListN.{replicate}
 use Rattle.spec.specs.declared.types.Request.{Request}
 use Rattle.spec.specs.declared.types.Counts.{Counts}
 use Rattle.spec.specs.declared.types.Answer.{Answer}
 use Rattle.spec.specs.declared.types.Answer.the-variants.{Opened, Kept, Served, Reported, Charted, Refused}
-use Rattle.spec.specs.Tables.{mostCounted, clockEnd, numberEnd, zeroCounts, State, holding}
+use Rattle.spec.specs.Every.{select}
+use Rattle.spec.specs.Tables.{mostCounted, clockEnd, numberEnd, State, holding}
+use Rattle.spec.specs.Refusals.{Refusal}
 use Rattle.spec.specs.Lists.{Call, opening, submit, tick, report, chart, outcomeOf}
+use Rattle.spec.proofs.Demands.Words.{refusalsOf}
 use Rattle.spec.proofs.Acceptance.Computed.{calls}
 
+-- a call on a state, the numbers of its refusals whose conditions hold, and the answer
 pub record Row : Type 0 where
   pub call : Call
   pub state : State
+  pub conditions : List ℕ
   pub answer : Answer
 
-abbrev row : Call → State → Answer → Row
-row c s a = record { call = c; state = s; answer = a }
+abbrev row : Call → State → List ℕ → Answer → Row
+row c s ns a = record { call = c; state = s; conditions = ns; answer = a }
 
 abbrev counts : ℕ → ℕ → ℕ → Counts
 counts submitted served dropped = record { submitted = submitted; served = served; dropped = dropped }
@@ -26,44 +32,66 @@ counts submitted served dropped = record { submitted = submitted; served = serve
 abbrev full : List Request
 full = record { deadline = 281474976710660; number = 1; client = 0 } ∷ []
 
--- one client: clock, last number, waiting count, records and counts
-abbrev state : ℕ → ℕ → ℕ → List Request → Counts → State
-state clock last waits rs k =
+-- one client: clock, last number, waiting count, and the two tables
+abbrev state : ℕ → ℕ → ℕ → List Request → List Counts → State
+state clock last waits rs cs =
     record {
       head = record { clients = 1; period = 10; clock = clock; last = last; waiting = waits };
       waitingTable = rs;
-      clientTable = k ∷ [];
+      clientTable = cs;
     }
+
+-- a client table of one record
+abbrev one : ℕ → ℕ → ℕ → List Counts
+one submitted served dropped = counts submitted served dropped ∷ []
 
 abbrev rows : List Row
 rows =
-    row (opening 0 0) (state 0 0 0 [] zeroCounts) (Refused 2)
-    ∷ row (opening 1 0) (state 0 0 0 [] zeroCounts) (Refused 3)
-    ∷ row (opening 1 10) (state 0 0 0 [] zeroCounts) (Refused 4)
-    ∷ row (opening 1 10) (state 0 0 0 full zeroCounts) Opened
-    ∷ row (submit 9 0) (state clockEnd numberEnd 2 full (counts mostCounted 0 0)) (Refused 4)
-    ∷ row (submit 9 0) (state clockEnd numberEnd 1 full (counts mostCounted 0 0)) (Refused 5)
-    ∷ row (submit 9 0) (state clockEnd numberEnd 1 full (counts mostCounted 268435454 0)) (Refused 6)
-    ∷ row (submit 0 0) (state clockEnd numberEnd 1 full (counts mostCounted 268435454 0)) (Refused 7)
-    ∷ row (submit 0 281474976710661) (state clockEnd numberEnd 1 full (counts mostCounted 268435454 0)) (Refused 8)
-    ∷ row (submit 0 281474976710661) (state clockEnd numberEnd 1 full (counts 268435454 268435453 0)) (Refused 9)
-    ∷ row (submit 0 281474976710661) (state clockEnd 281474976710654 1 full (counts 268435454 268435453 0)) (Refused 10)
-    ∷ row (submit 0 281474976710661) (state clockEnd 281474976710654 1 (holding 2 full) (counts 268435454 268435453 0))
+    row (opening 0 0) (state 0 0 0 [] (one 0 0 0)) (2 ∷ 3 ∷ 4 ∷ []) (Refused 2)
+    ∷ row (opening 1 0) (state 0 0 0 [] (one 0 0 0)) (3 ∷ 4 ∷ []) (Refused 3)
+    ∷ row (opening 1 10) (state 0 0 0 [] (one 0 0 0)) (4 ∷ []) (Refused 4)
+    ∷ row (opening 1 10) (state 0 0 0 full (one 0 0 0)) [] Opened
+    -- 8 holds of a client that does not exist only where the client table is too long, which is 4: so 8 goes with 4, and comes back
+    -- where the client exists. And 10 holds beside 4 only where it is not the waiting count that is too large
+    ∷ row (submit 9 0) (state clockEnd numberEnd 1 full (replicate 10 (counts mostCounted 0 0)))
+    (4 ∷ 5 ∷ 6 ∷ 7 ∷ 8 ∷ 9 ∷ 10 ∷ []) (Refused 4)
+    ∷ row (submit 9 0) (state clockEnd numberEnd 1 full (one mostCounted 0 0)) (5 ∷ 6 ∷ 7 ∷ 9 ∷ 10 ∷ []) (Refused 5)
+    ∷ row (submit 9 0) (state clockEnd numberEnd 1 full (one mostCounted 268435454 0)) (6 ∷ 7 ∷ 9 ∷ 10 ∷ []) (Refused 6)
+    ∷ row (submit 0 0) (state clockEnd numberEnd 1 full (one mostCounted 268435454 0)) (7 ∷ 8 ∷ 9 ∷ 10 ∷ []) (Refused 7)
+    ∷ row (submit 0 281474976710661) (state clockEnd numberEnd 1 full (one mostCounted 268435454 0)) (8 ∷ 9 ∷ 10 ∷ []) (Refused 8)
+    ∷ row (submit 0 281474976710661) (state clockEnd numberEnd 1 full (one 268435454 268435453 0)) (9 ∷ 10 ∷ []) (Refused 9)
+    ∷ row (submit 0 281474976710661) (state clockEnd 281474976710654 1 full (one 268435454 268435453 0)) (10 ∷ []) (Refused 10)
+    ∷ row (submit 0 281474976710661) (state clockEnd 281474976710654 1 (holding 2 full) (one 268435454 268435453 0)) []
     (Kept numberEnd 1)
-    ∷ row tick (state clockEnd numberEnd 2 full (counts 1 0 0)) (Refused 4)
-    ∷ row tick (state clockEnd numberEnd 1 full (counts 2 0 0)) (Refused 5)
-    ∷ row tick (state clockEnd numberEnd 1 full (counts 1 0 0)) (Refused 11)
-    ∷ row tick (state 281474976710654 numberEnd 1 full (counts 1 0 0)) (Served 281474976710654 1 0)
-    ∷ row (report 1) (state clockEnd numberEnd 2 full (counts 1 0 0)) (Refused 4)
-    ∷ row (report 1) (state clockEnd numberEnd 1 full (counts 2 0 0)) (Refused 5)
-    ∷ row (report 1) (state clockEnd numberEnd 1 full (counts 1 0 0)) (Refused 6)
-    ∷ row (report 0) (state clockEnd numberEnd 1 full (counts 6 2 3)) (Reported 0 6 2 3 1)
-    ∷ row (chart []) (state clockEnd numberEnd 2 full (counts 1 0 0)) (Refused 4)
-    ∷ row (chart []) (state clockEnd numberEnd 1 full (counts 2 0 0)) (Refused 5)
-    ∷ row (chart []) (state clockEnd numberEnd 1 full (counts 1 0 0)) (Refused 12)
-    ∷ row (chart (0 ∷ [])) (state clockEnd numberEnd 1 full (counts 1 0 0)) (Charted 1)
+    ∷ row tick (state clockEnd numberEnd 2 full (one 2 0 0)) (4 ∷ 5 ∷ 11 ∷ []) (Refused 4)
+    ∷ row tick (state clockEnd numberEnd 1 full (one 2 0 0)) (5 ∷ 11 ∷ []) (Refused 5)
+    ∷ row tick (state clockEnd numberEnd 1 full (one 1 0 0)) (11 ∷ []) (Refused 11)
+    ∷ row tick (state 281474976710654 numberEnd 1 full (one 1 0 0)) [] (Served 281474976710654 1 0)
+    ∷ row (report 1) (state clockEnd numberEnd 2 full (one 2 0 0)) (4 ∷ 5 ∷ 6 ∷ []) (Refused 4)
+    ∷ row (report 1) (state clockEnd numberEnd 1 full (one 2 0 0)) (5 ∷ 6 ∷ []) (Refused 5)
+    ∷ row (report 1) (state clockEnd numberEnd 1 full (one 1 0 0)) (6 ∷ []) (Refused 6)
+    ∷ row (report 0) (state clockEnd numberEnd 1 full (one 6 2 3)) [] (Reported 0 6 2 3 1)
+    ∷ row (chart []) (state clockEnd numberEnd 2 full (one 2 0 0)) (4 ∷ 5 ∷ 12 ∷ []) (Refused 4)
+    ∷ row (chart []) (state clockEnd numberEnd 1 full (one 2 0 0)) (5 ∷ 12 ∷ []) (Refused 5)
+    ∷ row (chart []) (state clockEnd numberEnd 1 full (one 1 0 0)) (12 ∷ []) (Refused 12)
+    ∷ row (chart (0 ∷ [])) (state clockEnd numberEnd 1 full (one 1 0 0)) [] (Charted 1)
     ∷ []
 
-pub refusals-in-order : map (λ (r : Row). outcomeOf (r .call) (r .state) .answer) rows ≡ map (λ (r : Row). r .answer) rows
-unfolding calls outcomeOf
+-- what a row says, and what the definitions give
+pub record Result : Type 0 where
+  pub conditions : List ℕ
+  pub answer : Answer
+
+abbrev said : Row → Result
+said r = record { conditions = r .conditions; answer = r .answer }
+
+abbrev given : Row → Result
+given r =
+    record {
+      conditions = map (λ (f : Refusal). f .number) (select (λ f. f .holds) (refusalsOf (r .call) (r .state)));
+      answer = outcomeOf (r .call) (r .state) .answer;
+    }
+
+pub refusals-in-order : map given rows ≡ map said rows
+unfolding calls outcomeOf select
 refusals-in-order = refl
