@@ -1,15 +1,15 @@
--- The worked reads that document 01 marks P, as one table that is checked by one theorem.
--- Assumes nothing.
-use Prim.Native.Nat.{ℕ}
+-- The worked reads that document 01 marks P, as one table that is checked by one theorem; and period starts early and late, as
+-- another. Assumes nothing.
+use Prim.Native.Nat.{ℕ, _+_, _-_}
 use mathlib.Core.Path.{_≡_, refl}
 use mathlib.Core.List.{List, [], _∷_, map, reverse}
 use lib.ListN.{replicate}
 use Rattle.spec.specs.declared.types.Counts.{Counts}
 use Rattle.spec.specs.declared.types.Answer.{Answer}
-use Rattle.spec.specs.declared.types.Answer.the-variants.{Kept, Dropped, Served, Idle, Refused}
-use Rattle.spec.specs.Tables.{State, waiting, holding, zeroRequest, zeroCounts}
+use Rattle.spec.specs.declared.types.Answer.the-variants.{Kept, Dropped, Served, Idle, Reported, Refused}
+use Rattle.spec.specs.Tables.{clockEnd, mostPeriod, State, waiting, holding, zeroRequest, zeroCounts}
 use Rattle.spec.specs.Chart.{Segment, startsOf, segmentsOf}
-use Rattle.spec.specs.Calls.{openOf}
+use Rattle.spec.specs.Calls.{openOf, tickOf, reportOf}
 use Rattle.spec.specs.Lists.{Call, submit, tick, outcomeOf, run, history, Event}
 use Rattle.spec.proofs.Acceptance.Computed.{calls}
 
@@ -105,3 +105,57 @@ given c =
 pub worked-reads : map given cases ≡ map said cases
 unfolding calls outcomeOf run history
 worked-reads = refl
+
+-- ---- period starts
+-- a period, the clock that a tick comes to, and the report after it
+pub record PeriodTick : Type 0 where
+  pub period : ℕ
+  pub clock : ℕ
+  pub report : Answer
+
+-- six requests were submitted, two of them served, two dropped, and two wait
+abbrev ticking : ℕ → ℕ → State
+ticking period clock =
+    record {
+      head = record { clients = 1; period = period; clock = clock; last = 6; waiting = 2 };
+      waitingTable =
+          holding 4
+          (record { deadline = clock + 5; number = 5; client = 0 }
+          ∷ record { deadline = clock + 6; number = 6; client = 0 }
+          ∷ []);
+      clientTable = counts 6 2 2 ∷ [];
+    }
+
+-- "If it is now a multiple of the period, each client's submitted becomes its waiting count, served and dropped become 0."
+abbrev anew : ℕ → ℕ → PeriodTick
+anew period clock = record { period = period; clock = clock; report = Reported 0 1 0 0 1 }
+
+abbrev goesOn : ℕ → ℕ → PeriodTick
+goesOn period clock = record { period = period; clock = clock; report = Reported 0 6 3 2 1 }
+
+abbrev periodTicks : List PeriodTick
+periodTicks =
+    anew 1 1
+    ∷ anew 1 7
+    ∷ goesOn 5 4
+    ∷ anew 5 5
+    ∷ goesOn 5 6
+    ∷ goesOn 5 9
+    ∷ anew 5 10
+    ∷ goesOn 5 11
+    ∷ anew 5 15
+    ∷ goesOn 100 10
+    ∷ anew 100 300
+    ∷ goesOn mostPeriod 4294967294
+    ∷ anew mostPeriod mostPeriod
+    ∷ anew mostPeriod 8589934590
+    ∷ goesOn 2 clockEnd
+    ∷ anew 3 clockEnd
+    ∷ []
+
+abbrev reported : PeriodTick → Answer
+reported t = reportOf 0 (tickOf (ticking (t .period) (t .clock - 1)) .after) .answer
+
+pub period-ticks : map reported periodTicks ≡ map (λ (t : PeriodTick). t .report) periodTicks
+unfolding calls
+period-ticks = refl

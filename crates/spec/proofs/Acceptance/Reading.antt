@@ -1,5 +1,6 @@
--- What is read off a list of calls and its answers, computed for one list that has refused calls of every kind, a drop, served
--- requests, one that waits, and period starts. Assumes nothing.
+-- What is read off a list of calls and its answers, computed: for one list that has refused calls of every kind but ticks, a drop,
+-- served requests, one that waits, and period starts; for the same list with refused ticks in it; and for one at the clock's end,
+-- where ticks are refused. Assumes nothing.
 use Prim.Native.Nat.{ℕ}
 use mathlib.Core.Path.{_≡_, refl}
 use mathlib.Core.Bool.{Bool, true, false}
@@ -7,6 +8,7 @@ use mathlib.Core.List.{List, [], _∷_, map}
 use lib.ListN.{replicate}
 use Rattle.slots.specs.Plan.{Slot, none, at}
 use Rattle.spec.specs.declared.types.Counts.{Counts}
+use Rattle.spec.specs.declared.types.Answer.the-variants.{Refused}
 use Rattle.spec.specs.Every.{exists, select}
 use Rattle.spec.specs.Tables.{zeroRequest, zeroCounts, State}
 use Rattle.spec.specs.Calls.{openOf}
@@ -44,6 +46,8 @@ list =
 pub record Reading : Type 0 where
   -- whether an open in it was accepted
   pub opened : Bool
+  -- the clock after it, where it begins at clock 0
+  pub clock : ℕ
   pub numbers : List ℕ
   pub releases : List ℕ
   pub served : List ℕ
@@ -55,10 +59,12 @@ pub record Reading : Type 0 where
 abbrev numbersOf : List Asked → List ℕ
 numbersOf rs = map (λ (a : Asked). a .request .number) rs
 
+-- of a list whose calls left this state, for clients 0 and 1 and a period of two slots
 abbrev readOff : List Event → State → Reading
 readOff es s =
     record {
       opened = exists isOpened es;
+      clock = ticks es;
       numbers = numbersOf (asked es);
       releases = map (λ (a : Asked). a .release) (asked es);
       served = numbersOf (servedRequests es);
@@ -72,6 +78,7 @@ abbrev expected : Reading
 expected =
     record {
       opened = false;
+      clock = 2;
       numbers = 5 ∷ 4 ∷ 3 ∷ 2 ∷ 1 ∷ [];
       releases = 2 ∷ 1 ∷ 0 ∷ 0 ∷ 0 ∷ [];
       served = 2 ∷ 1 ∷ [];
@@ -87,9 +94,67 @@ unfoldable lists : Unit {0}
 unfolding calls outcomeOf run history exists select ticks asked bookings victims
 lists = tt
 
-pub readings : readOff (history start list) (run start list) ≡ expected
+unfoldable listsRead : Unit {0}
 unfolding lists servedRequests waitingRequests slotFor chartBookings ownPlan waitingBy sinceStart countsSince
+listsRead = tt
+
+pub readings : readOff (history start list) (run start list) ≡ expected
+unfolding listsRead
 readings = refl
+
+-- "the number of ticks before it in the list that were not refused": the same is read off the list's events with refused ticks, on
+-- other tables or at the clock's end, before and behind each of them
+abbrev refusedTick : ℕ → Event
+refusedTick number = record { call = tick; answer = Refused number }
+
+abbrev withRefusedTicks : List Event → List Event
+withRefusedTicks [] = refusedTick 4 ∷ []
+withRefusedTicks (e ∷ es) = refusedTick 11 ∷ refusedTick 4 ∷ e ∷ withRefusedTicks es
+
+pub refused-ticks-unread : readOff (withRefusedTicks (history start list)) (run start list) ≡ expected
+unfolding listsRead
+refused-ticks-unread = refl
+
+-- one slot before the clock's end, with no request given yet
+abbrev late : State
+late =
+    record {
+      head = record { clients = 2; period = 2; clock = 281474976710654; last = 0; waiting = 0 };
+      waitingTable = replicate 8 zeroRequest;
+      clientTable = replicate 2 zeroCounts;
+    }
+
+-- the first tick is served, the other two are refused by 11
+abbrev lateList : List Call
+lateList =
+    tick
+    ∷ submit 1 281474976710660
+    ∷ tick
+    ∷ submit 1 281474976710660
+    ∷ tick
+    ∷ submit 0 281474976710660
+    ∷ []
+
+-- were a refused tick counted, request 3 would be submitted at clock 2, and a period would begin before it
+abbrev lateExpected : Reading
+lateExpected =
+    record {
+      opened = false;
+      clock = 1;
+      numbers = 3 ∷ 2 ∷ 1 ∷ [];
+      releases = 1 ∷ 1 ∷ 0 ∷ [];
+      served = 1 ∷ [];
+      waits = 3 ∷ 2 ∷ [];
+      plan = at 281474976710659 ∷ at 281474976710658 ∷ at 281474976710654 ∷ [];
+      counts =
+          record { submitted = 1; served = 1; dropped = 0 }
+          ∷ record { submitted = 2; served = 0; dropped = 0 }
+          ∷ [];
+    }
+
+pub late-readings : readOff (history late lateList) (run late lateList) ≡ lateExpected
+unfolding listsRead
+late-readings = refl
 
 -- one more open, which is accepted, is seen as such
 pub reopened : exists isOpened (history start (opening 2 5 ∷ list)) ≡ true
