@@ -115,40 +115,41 @@ pub refused-ticks-unread : readOff (withRefusedTicks (history start list)) (run 
 unfolding listsRead
 refused-ticks-unread = refl
 
--- one slot before the clock's end, with no request given yet
+-- two slots before the clock's end, with no request given yet
 abbrev late : State
 late =
     record {
-      head = record { clients = 2; period = 2; clock = 281474976710654; last = 0; waiting = 0 };
+      head = record { clients = 2; period = 2; clock = 281474976710653; last = 0; waiting = 0 };
       waitingTable = replicate 8 zeroRequest;
       clientTable = replicate 2 zeroCounts;
     }
 
--- the first tick is served, the other two are refused by 11
+-- the first tick serves, the second idles and begins a period, and the last is refused by 11; request 3 drops itself before it
 abbrev lateList : List Call
 lateList =
-    tick
-    ∷ submit 1 281474976710660
+    submit 0 281474976710660
     ∷ tick
-    ∷ submit 1 281474976710660
+    ∷ submit 1 281474976710656
+    ∷ submit 1 281474976710656
+    ∷ tick
     ∷ tick
     ∷ submit 0 281474976710660
     ∷ []
 
--- were a refused tick counted, request 3 would be submitted at clock 2, and a period would begin before it
+-- were the refused tick counted, request 4 would be submitted at clock 3; were a period to begin there, the drop would be forgotten
 abbrev lateExpected : Reading
 lateExpected =
     record {
       opened = false;
-      clock = 1;
-      numbers = 3 ∷ 2 ∷ 1 ∷ [];
-      releases = 1 ∷ 1 ∷ 0 ∷ [];
+      clock = 2;
+      numbers = 4 ∷ 3 ∷ 2 ∷ 1 ∷ [];
+      releases = 2 ∷ 2 ∷ 2 ∷ 0 ∷ [];
       served = 1 ∷ [];
-      waits = 3 ∷ 2 ∷ [];
-      plan = at 281474976710659 ∷ at 281474976710658 ∷ at 281474976710654 ∷ [];
+      waits = 4 ∷ 2 ∷ [];
+      plan = at 281474976710659 ∷ none ∷ at 281474976710655 ∷ at 281474976710653 ∷ [];
       counts =
-          record { submitted = 1; served = 1; dropped = 0 }
-          ∷ record { submitted = 2; served = 0; dropped = 0 }
+          record { submitted = 1; served = 0; dropped = 0 }
+          ∷ record { submitted = 2; served = 0; dropped = 1 }
           ∷ [];
     }
 
