@@ -153,9 +153,9 @@ periodTicks =
     ∷ anew 3 clockEnd
     ∷ []
 
-abbrev reported : PeriodTick → Answer
-reported t = reportOf 0 (tickOf (ticking (t .period) (t .clock - 1)) .after) .answer
+abbrev reportAfter : PeriodTick → Answer
+reportAfter t = reportOf 0 (tickOf (ticking (t .period) (t .clock - 1)) .after) .answer
 
-pub period-ticks : map reported periodTicks ≡ map (λ (t : PeriodTick). t .report) periodTicks
+pub period-ticks : map reportAfter periodTicks ≡ map (λ (t : PeriodTick). t .report) periodTicks
 unfolding calls
 period-ticks = refl

@@ -34,33 +34,33 @@ pub data Clause : Type 0 where
   balance : Clause
 
 -- a clause, and whether it holds
-pub record Test : Type 0 where
+pub record ClauseTest : Type 0 where
   pub clause : Clause
   pub holds : Bool
 
-abbrev test : Clause → Bool → Test
-test clause holds = record { clause = clause; holds = holds }
+abbrev tested : Clause → Bool → ClauseTest
+tested clause holds = record { clause = clause; holds = holds }
 
-abbrev shapeTests : State → List Test
+abbrev shapeTests : State → List ClauseTest
 shapeTests s =
-    test waiting-length (isWithin 1 mostRecords (length (s .waitingTable)))
-    ∷ test client-length (eqb (length (s .clientTable)) (s .head .clients))
-    ∷ test waiting-count (not (ltb (length (s .waitingTable)) (s .head .waiting)))
+    tested waiting-length (isWithin 1 mostRecords (length (s .waitingTable)))
+    ∷ tested client-length (eqb (length (s .clientTable)) (s .head .clients))
+    ∷ tested waiting-count (not (ltb (length (s .waitingTable)) (s .head .waiting)))
     ∷ []
 
-abbrev soundTests : State → List Test
+abbrev soundTests : State → List ClauseTest
 soundTests s =
-    test head-bounds (isHeadWithin (s .head))
-    ∷ test chart-order (isInOrder (waiting s))
-    ∷ test deadline-ahead (every (λ w. isAhead (s .head .clock) (w .deadline)) (waiting s))
-    ∷ test number-given (every (λ w. isGiven (s .head .last) (w .number)) (waiting s))
-    ∷ test client-exists (every (λ w. isClient (s .head .clients) (w .client)) (waiting s))
-    ∷ test no-overfull (hasNoOverfull (s .head) (waiting s))
-    ∷ test zero-behind (every isZeroRequest (behind s))
-    ∷ test balance (everyFrom (isBalanced (waiting s)) 0 (s .clientTable))
+    tested head-bounds (isHeadWithin (s .head))
+    ∷ tested chart-order (isInOrder (waiting s))
+    ∷ tested deadline-ahead (every (λ w. isAhead (s .head .clock) (w .deadline)) (waiting s))
+    ∷ tested number-given (every (λ w. isGiven (s .head .last) (w .number)) (waiting s))
+    ∷ tested client-exists (every (λ w. isClient (s .head .clients) (w .client)) (waiting s))
+    ∷ tested no-overfull (hasNoOverfull (s .head) (waiting s))
+    ∷ tested zero-behind (every isZeroRequest (behind s))
+    ∷ tested balance (everyFrom (isBalanced (waiting s)) 0 (s .clientTable))
     ∷ []
 
-abbrev areMet : List Test → Bool
+abbrev areMet : List ClauseTest → Bool
 areMet ts = every (λ t. t .holds) ts
 
 -- these clauses make the definitions: refusal 4 is given where one of the three is broken ..
@@ -81,7 +81,7 @@ pub sound-clauses : (s : State) → isSound s ≡ areMet (soundTests s)
 unfolding every isSound
 sound-clauses s = simp (and-assoc, and-true)
 
-abbrev broken : List Test → List Clause
+abbrev broken : List ClauseTest → List Clause
 broken [] = []
 broken (t ∷ ts) = cond (t .holds) (broken ts) (t .clause ∷ broken ts)
 
@@ -177,19 +177,11 @@ damages =
     ∷ []
 
 -- what a row says, and what the definitions give
-pub record Finding : Type 0 where
-  pub clauses : List Clause
-  pub number : ℕ
+abbrev said : Damage → List Clause × ℕ
+said d = (d .clauses, d .number)
 
-abbrev said : Damage → Finding
-said d = record { clauses = d .clauses; number = d .number }
-
-abbrev given : Damage → Finding
-given d =
-    record {
-      clauses = broken (shapeTests (d .state) ++ soundTests (d .state));
-      number = firstMatch (tickRefusals (d .state));
-    }
+abbrev given : Damage → List Clause × ℕ
+given d = (broken (shapeTests (d .state) ++ soundTests (d .state)), firstMatch (tickRefusals (d .state)))
 
 pub damaged-tables : map given damages ≡ map said damages
 unfolding refusals

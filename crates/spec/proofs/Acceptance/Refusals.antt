@@ -42,55 +42,51 @@ state clock last waits rs cs =
     }
 
 -- a client table of one record
-abbrev one : ℕ → ℕ → ℕ → List Counts
-one submitted served dropped = counts submitted served dropped ∷ []
+abbrev oneClient : ℕ → ℕ → ℕ → List Counts
+oneClient submitted served dropped = counts submitted served dropped ∷ []
 
 abbrev rows : List Row
 rows =
-    row (opening 0 0) (state 0 0 0 [] (one 0 0 0)) (2 ∷ 3 ∷ 4 ∷ []) (Refused 2)
-    ∷ row (opening 1 0) (state 0 0 0 [] (one 0 0 0)) (3 ∷ 4 ∷ []) (Refused 3)
-    ∷ row (opening 1 10) (state 0 0 0 [] (one 0 0 0)) (4 ∷ []) (Refused 4)
-    ∷ row (opening 1 10) (state 0 0 0 full (one 0 0 0)) [] Opened
-    -- 8 holds of a client that does not exist only where the client table is too long, which is 4: so 8 goes with 4, and comes back
-    -- where the client exists. And 10 holds beside 4 only where it is not the waiting count that is too large
-    ∷ row (submit 9 0) (state clockEnd numberEnd 1 full (replicate 10 (counts mostCounted 0 0)))
-    (4 ∷ 5 ∷ 6 ∷ 7 ∷ 8 ∷ 9 ∷ 10 ∷ []) (Refused 4)
-    ∷ row (submit 9 0) (state clockEnd numberEnd 1 full (one mostCounted 0 0)) (5 ∷ 6 ∷ 7 ∷ 9 ∷ 10 ∷ []) (Refused 5)
-    ∷ row (submit 9 0) (state clockEnd numberEnd 1 full (one mostCounted 268435454 0)) (6 ∷ 7 ∷ 9 ∷ 10 ∷ []) (Refused 6)
-    ∷ row (submit 0 0) (state clockEnd numberEnd 1 full (one mostCounted 268435454 0)) (7 ∷ 8 ∷ 9 ∷ 10 ∷ []) (Refused 7)
-    ∷ row (submit 0 281474976710661) (state clockEnd numberEnd 1 full (one mostCounted 268435454 0)) (8 ∷ 9 ∷ 10 ∷ []) (Refused 8)
-    ∷ row (submit 0 281474976710661) (state clockEnd numberEnd 1 full (one 268435454 268435453 0)) (9 ∷ 10 ∷ []) (Refused 9)
-    ∷ row (submit 0 281474976710661) (state clockEnd 281474976710654 1 full (one 268435454 268435453 0)) (10 ∷ []) (Refused 10)
-    ∷ row (submit 0 281474976710661) (state clockEnd 281474976710654 1 (holding 2 full) (one 268435454 268435453 0)) []
+    row (opening 0 0) (state 0 0 0 [] (oneClient 0 0 0)) (2 ∷ 3 ∷ 4 ∷ []) (Refused 2)
+    ∷ row (opening 1 0) (state 0 0 0 [] (oneClient 0 0 0)) (3 ∷ 4 ∷ []) (Refused 3)
+    ∷ row (opening 1 10) (state 0 0 0 [] (oneClient 0 0 0)) (4 ∷ []) (Refused 4)
+    ∷ row (opening 1 10) (state 0 0 0 full (oneClient 0 0 0)) [] Opened
+    -- 8 holds beside 6 only where the client table is too long, for else a client that does not exist has no record; 10 holds beside 4
+    -- only where the waiting count is not too large. So 4 is given in two rows, and 8 comes back when 6 is taken away
+    ∷ row (submit 9 0) (state clockEnd numberEnd 1 full (replicate 10 (counts mostCounted 0 0))) (4 ∷ 5 ∷ 6 ∷ 7 ∷ 8 ∷ 9 ∷ 10 ∷ [])
+    (Refused 4)
+    ∷ row (submit 9 0) (state clockEnd numberEnd 2 full (oneClient mostCounted 0 0)) (4 ∷ 5 ∷ 6 ∷ 7 ∷ 9 ∷ []) (Refused 4)
+    ∷ row (submit 9 0) (state clockEnd numberEnd 1 full (oneClient mostCounted 0 0)) (5 ∷ 6 ∷ 7 ∷ 9 ∷ 10 ∷ []) (Refused 5)
+    ∷ row (submit 9 0) (state clockEnd numberEnd 1 full (oneClient mostCounted 268435454 0)) (6 ∷ 7 ∷ 9 ∷ 10 ∷ []) (Refused 6)
+    ∷ row (submit 0 0) (state clockEnd numberEnd 1 full (oneClient mostCounted 268435454 0)) (7 ∷ 8 ∷ 9 ∷ 10 ∷ []) (Refused 7)
+    ∷ row (submit 0 281474976710661) (state clockEnd numberEnd 1 full (oneClient mostCounted 268435454 0)) (8 ∷ 9 ∷ 10 ∷ []) (Refused 8)
+    ∷ row (submit 0 281474976710661) (state clockEnd numberEnd 1 full (oneClient 268435454 268435453 0)) (9 ∷ 10 ∷ []) (Refused 9)
+    ∷ row (submit 0 281474976710661) (state clockEnd 281474976710654 1 full (oneClient 268435454 268435453 0)) (10 ∷ []) (Refused 10)
+    ∷ row (submit 0 281474976710661) (state clockEnd 281474976710654 1 (holding 2 full) (oneClient 268435454 268435453 0)) []
     (Kept numberEnd 1)
-    ∷ row tick (state clockEnd numberEnd 2 full (one 2 0 0)) (4 ∷ 5 ∷ 11 ∷ []) (Refused 4)
-    ∷ row tick (state clockEnd numberEnd 1 full (one 2 0 0)) (5 ∷ 11 ∷ []) (Refused 5)
-    ∷ row tick (state clockEnd numberEnd 1 full (one 1 0 0)) (11 ∷ []) (Refused 11)
-    ∷ row tick (state 281474976710654 numberEnd 1 full (one 1 0 0)) [] (Served 281474976710654 1 0)
-    ∷ row (report 1) (state clockEnd numberEnd 2 full (one 2 0 0)) (4 ∷ 5 ∷ 6 ∷ []) (Refused 4)
-    ∷ row (report 1) (state clockEnd numberEnd 1 full (one 2 0 0)) (5 ∷ 6 ∷ []) (Refused 5)
-    ∷ row (report 1) (state clockEnd numberEnd 1 full (one 1 0 0)) (6 ∷ []) (Refused 6)
-    ∷ row (report 0) (state clockEnd numberEnd 1 full (one 6 2 3)) [] (Reported 0 6 2 3 1)
-    ∷ row (chart []) (state clockEnd numberEnd 2 full (one 2 0 0)) (4 ∷ 5 ∷ 12 ∷ []) (Refused 4)
-    ∷ row (chart []) (state clockEnd numberEnd 1 full (one 2 0 0)) (5 ∷ 12 ∷ []) (Refused 5)
-    ∷ row (chart []) (state clockEnd numberEnd 1 full (one 1 0 0)) (12 ∷ []) (Refused 12)
-    ∷ row (chart (0 ∷ [])) (state clockEnd numberEnd 1 full (one 1 0 0)) [] (Charted 1)
+    ∷ row tick (state clockEnd numberEnd 2 full (oneClient 2 0 0)) (4 ∷ 5 ∷ 11 ∷ []) (Refused 4)
+    ∷ row tick (state clockEnd numberEnd 1 full (oneClient 2 0 0)) (5 ∷ 11 ∷ []) (Refused 5)
+    ∷ row tick (state clockEnd numberEnd 1 full (oneClient 1 0 0)) (11 ∷ []) (Refused 11)
+    ∷ row tick (state 281474976710654 numberEnd 1 full (oneClient 1 0 0)) [] (Served 281474976710654 1 0)
+    ∷ row (report 1) (state clockEnd numberEnd 2 full (oneClient 2 0 0)) (4 ∷ 5 ∷ 6 ∷ []) (Refused 4)
+    ∷ row (report 1) (state clockEnd numberEnd 1 full (oneClient 2 0 0)) (5 ∷ 6 ∷ []) (Refused 5)
+    ∷ row (report 1) (state clockEnd numberEnd 1 full (oneClient 1 0 0)) (6 ∷ []) (Refused 6)
+    ∷ row (report 0) (state clockEnd numberEnd 1 full (oneClient 6 2 3)) [] (Reported 0 6 2 3 1)
+    ∷ row (chart []) (state clockEnd numberEnd 2 full (oneClient 2 0 0)) (4 ∷ 5 ∷ 12 ∷ []) (Refused 4)
+    ∷ row (chart []) (state clockEnd numberEnd 1 full (oneClient 2 0 0)) (5 ∷ 12 ∷ []) (Refused 5)
+    ∷ row (chart []) (state clockEnd numberEnd 1 full (oneClient 1 0 0)) (12 ∷ []) (Refused 12)
+    ∷ row (chart (0 ∷ [])) (state clockEnd numberEnd 1 full (oneClient 1 0 0)) [] (Charted 1)
     ∷ []
 
 -- what a row says, and what the definitions give
-pub record Result : Type 0 where
-  pub conditions : List ℕ
-  pub answer : Answer
+abbrev said : Row → List ℕ × Answer
+said r = (r .conditions, r .answer)
 
-abbrev said : Row → Result
-said r = record { conditions = r .conditions; answer = r .answer }
-
-abbrev given : Row → Result
-given r =
-    record {
-      conditions = map (λ (f : Refusal). f .number) (select (λ f. f .holds) (refusalsOf (r .call) (r .state)));
-      answer = outcomeOf (r .call) (r .state) .answer;
-    }
+abbrev given : Row → List ℕ × Answer
+given r = (
+  map (λ (f : Refusal). f .number) (select (λ f. f .holds) (refusalsOf (r .call) (r .state))),
+  outcomeOf (r .call) (r .state) .answer,
+)
 
 pub refusals-in-order : map given rows ≡ map said rows
 unfolding calls outcomeOf select
