@@ -1,5 +1,5 @@
 -- The passes over the records in a walk.
---     requests         a request's type, with its laws
+--     of-request       a request's type, with its laws
 --     reads            `table::get` on the function's first slice, at i: the record is in a local
 --     Turn             where a turn of a loop stands: how far the pass has come (`Reached`), and that the record before is in hand
 -- Assumes `Given`, and that the callee meets its contract.
@@ -32,16 +32,16 @@ use Rattle.table.proofs.Rows.{R, mach, vals, tells, lawful, makes}
 use Rattle.table.proofs.get as get
 use Rattle.walk.proofs.Enter.{Slice, so}
 use Rattle.walk.proofs.Locals.{held}
-use Rattle.walk.proofs.At.{items, sourced, holes, fills, passed-on}
+use Rattle.walk.proofs.At.{items, sourced, holes, passed-on}
 use Rattle.walk.proofs.Slices.Loans.{Param, Operands, number}
 use Rattle.sound.specs.Checks.{Standing, recordBefore}
-use Rattle.sound.proofs.Walking.{Valued, Stands, asks-for}
+use Rattle.sound.proofs.Walking.{Result, returned, Stands, asks-for}
 use Rattle.sound.proofs.Turns.{Reached}
 
 -- ---- a record read
 module _ {M : Type 1} {𝓤 : URA M} {H : Heap 𝓤} {A : Atoms 𝓤} (W : Given 𝓤 H A) where
-  abbrev pub requests : Valued 𝓤 H A R
-  requests = record { val = mach; tells = tells; lawful = lawful 𝓤 H A W; makes = makes 𝓤 H A W }
+  abbrev pub of-request : Result W R
+  of-request = record { val = mach; tells = tells; lawful = lawful 𝓤 H A W; makes = makes 𝓤 H A W }
 
   abbrev pub Reading : {κ : Lft} {s : Share} (t : Slice R κ s) (i : ℕ) → i < length (t .list) → List (Param 𝓤 H A)
   Reading t i here = passed-on W t ∷ number W i (lt-trans here (t .room .0)) ∷ []
@@ -53,12 +53,12 @@ module _ {M : Type 1} (𝓤 : URA M) (H : Heap 𝓤) (A : Atoms 𝓤) (mem : Mem
 module _ {M : Type 1} {𝓤 : URA M} {H : Heap 𝓤} {A : Atoms 𝓤} {K : Type 0} {W : Given 𝓤 H A} {Γ : List (Item 𝓤)} {E : Env 𝓤 H} {xs : List Operand} {q : Post 𝓤 H} {x : ℕ} {rest : Body} where
   pub reads : K → (mem : Memory → SProp 𝓤) (run : Routine → Fun 𝓤) (𝓣 : Tables 𝓤 H) → Triple 𝓤 (𝓣 .C get.Symbol.name) (Get 𝓤 H A mem run) → {κ : Lft} {s : Share} (t : Slice R κ s) (i : ℕ) (here : i < length (t .list))
       → items H A (0 ∷ []) Γ ≡ sourced H A (Reading W t i here) → Operands K W (holes H A (0 ∷ []) Γ) E xs (Reading W t i here) (fact 𝓤 (i < length (t .list)))
-      → let Δ : List (Item 𝓤) = fills H A (Reading W t i here) (0 ∷ []) (tt, (tt, tt)) (holes H A (0 ∷ []) Γ) in
+      → let Δ : List (Item 𝓤) = returned H A Γ (0 ∷ []) (Reading W t i here) (tt, (tt, tt)) in
       Stands H A Δ E x → R .mir ≡ spotOf 𝓤 H E x .0 ∷ []
       → (Is R (getD (t .list) i zeroRequest) (vals (getD (t .list) i zeroRequest)) → Seq K W (held H A Δ E x (mach (getD (t .list) i zeroRequest))) (runs (𝓣 .C) (𝓣 .Λ) E rest q))
       → Seq K W Γ (runs (𝓣 .C) (𝓣 .Λ) E (seq (call get.Symbol.name xs (place x [])) rest) q)
   reads k mem run 𝓣 known t i here e ops at mir go =
-      asks-for k 𝓣 (0 ∷ []) (Reading W t i here) (so 𝓤 here) (requests W) (getD (t .list) i zeroRequest) (λ c. known) (λ c h. h) e ops (λ ws. at) mir (λ ws. go)
+      asks-for k 𝓣 (0 ∷ []) (Reading W t i here) (so 𝓤 here) (of-request W) (getD (t .list) i zeroRequest) (λ c. known) (λ c h. h) e ops (λ ws. at) mir (λ ws. go)
 
 -- ---- a loop
 pub record Turn (head : Head) (ys : List Request) (start : ℕ) (s : Standing) (n : ℕ) : Type 0 where

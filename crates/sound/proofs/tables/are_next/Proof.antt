@@ -1,7 +1,7 @@
 -- `sound::tables::are_next` meets its contract: a walk of two calls, `fours` and `rest`, on both slices.
 -- Assumes nothing.
 use denote.Steps.{heard}
-use Rattle.walk.proofs.Prelude.{_≡_, refl, _∙_, Bool, true, ℕ, _*_, _/_, _%_, _<_, _≤_, _-_, _^_, lt-of-le-of-lt, arith, List, [], _∷_, length, lit<, URA, w64, vbool, SProp, Memory, Routine, Heap, Tables, Atoms, Fun, Given, _$_, !, lit, bin, u16, bool, bool-makes, tripleOf}
+use Rattle.walk.proofs.Prelude.{_≡_, refl, _∙_, Bool, true, ℕ, _*_, _/_, _%_, _<_, _≤_, _-_, _^_, lt-of-le-of-lt, arith, List, [], _∷_, length, lit<, URA, w64, vbool, SProp, Memory, Routine, Heap, Tables, Atoms, Fun, Given, _$_, !, lit, bin, u16, bool, tripleOf}
 use Rattle.walk.proofs.Enter.{shown, lent, uint, so}
 use Rattle.walk.proofs.Proves.{Shape, Walk}
 use Rattle.walk.proofs.Locals.{var, vars, relends, gives}
@@ -14,7 +14,9 @@ use Rattle.table.proofs.Heads.{a-head, the-head}
 use Rattle.sound.specs.Checks.{Bounded, Countable, turns}
 use Rattle.sound.proofs.Turns.{fewer-bounded, sets-out, turns-on, pass-told}
 use Rattle.sound.proofs.Tally.{fewer-countable}
-use Rattle.sound.proofs.Walking.{fit, flags, writes, asks, proves-by}
+use Rattle.sound.proofs.Walking.{fit, of-flag}
+use Rattle.sound.proofs.Walking.{proved}
+use Rattle.sound.proofs.Walking.{writes, asks}
 use Rattle.sound.proofs.tables.fours as fours
 use Rattle.sound.proofs.tables.rest as rest-of
 use Rattle.sound.proofs.tables.are_next as f
@@ -50,22 +52,22 @@ module _ {M : Type 1} (𝓤 : URA M) (H : Heap 𝓤) (A : Atoms 𝓤) (W : Given
       let m-fits : m < 2 ^ 64 = lt-of-le-of-lt less (n-is .1) in
       heard ! (Bounded head n × (n ≤ length ys) × Countable n tally₀) (λ within.
       -- let m = n / 4 * 4;
-      writes ! (bin ! (var ! refl) (lit ! tt) (lit< tt)) refl (fit (omega (arith, n-is .1))) $
-      writes ! (bin ! (var ! refl) (lit ! tt) (record { fits = m-fits })) refl (fit m-fits) $
+      writes ! (bin ! (var ! refl) (lit ! tt) (lit< tt)) refl (tt, fit (omega (arith, n-is .1))) $
+      writes ! (bin ! (var ! refl) (lit ! tt) (fit m-fits)) refl (tt, fit m-fits) $
       -- let p = fours(t, tally, head, m);
       relends ! (tally .room .0) refl refl refl $
-      asks ! 𝓣 (0 ∷ 1 ∷ []) (passed-on W t ∷ mut-of W tally tally₀ refl ∷ the-head W head head-is ∷ number W m m-fits ∷ []) (so 𝓤 (fours-may ys tally₀ head m n within less (omega arith))) (flags W) _
+      asks ! 𝓣 (0 ∷ 1 ∷ []) (passed-on W t ∷ mut-of W tally tally₀ refl ∷ the-head W head head-is ∷ number W m m-fits ∷ []) (so 𝓤 (fours-may ys tally₀ head m n within less (omega arith))) (of-flag W) _
       (λ c. known-fours) (λ c h. h) refl (λ c. vars ! (refl, (refl, (refl, (refl, tt))))) (λ _. refl) refl (λ p last₁ told₁ kept₁ _.
       let tally₁ : List ℕ = last₁ .1 .0 in
       -- rest(t, tally, head, m, n, p)
       relends ! (tally .room .0) refl refl refl $
-      asks ! 𝓣 (0 ∷ 1 ∷ []) (passed-on W t ∷ mut-of W tally tally₁ (kept₁ .1 .0) ∷ the-head W head head-is ∷ number W m m-fits ∷ number W n (n-is .1) ∷ flag W p ∷ []) (so 𝓤 (rest-may ys tally₀ head m n within less p tally₁ told₁)) (flags W) _
+      asks ! 𝓣 (0 ∷ 1 ∷ []) (passed-on W t ∷ mut-of W tally tally₁ (kept₁ .1 .0) ∷ the-head W head head-is ∷ number W m m-fits ∷ number W n (n-is .1) ∷ flag W p ∷ []) (so 𝓤 (rest-may ys tally₀ head m n within less p tally₁ told₁)) (of-flag W) _
       (λ c. known-rest) (λ c h. h) refl (λ c. vars ! (refl, (refl, (refl, (refl, (refl, (refl, tt))))))) (λ _. refl) refl (λ r last₂ told₂ kept₂ _.
-      gives ! refl refl $ leaves (vbool r) r (last₂ .1 .0, tt) (kept₂ .1 .0 ∙ kept₁ .1 .0, tt) (bool-makes 𝓤 H A W r _ refl)
+      gives ! refl refl $ leaves (vbool r) r (last₂ .1 .0, tt) (kept₂ .1 .0 ∙ kept₁ .1 .0, tt) (of-flag W .makes r _ refl)
       (so 𝓤 (pass-told head ys m n tally₀ tally₁ (last₂ .1 .0) p r (within .0) (within .1) (within .2) less told₁ told₂)))))
 
 pub are-next-spec : {M : Type 1} → f.Statement.statement M
 unfolding f.Code.routine
 are-next-spec 𝓤 H 𝓜 𝓖 𝓡 =
-    proves-by 𝓤 H 𝓜 𝓖 𝓡 (shape 𝓤 H) f.Code.env f.Key.name (f.Code.unfolded 𝓤 H 𝓜 𝓡) (walk 𝓤 H)
+    proved 𝓤 H 𝓜 𝓖 𝓡 (shape 𝓤 H) (walk 𝓤 H) f.Code.env f.Key.name (f.Code.unfolded 𝓤 H 𝓜 𝓡)
     ((fours.Symbol.routine, f.Code.calls-sound·tables·fours, fours.Met.met 𝓤 H 𝓜 𝓖 𝓡), ((rest-of.Symbol.routine, f.Code.calls-sound·tables·rest, rest-of.Met.met 𝓤 H 𝓜 𝓖 𝓡), tt))

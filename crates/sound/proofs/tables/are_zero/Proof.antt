@@ -2,7 +2,7 @@
 -- Assumes nothing.
 use lib.ListN.{drop as dropN}
 use denote.Steps.{heard}
-use Rattle.walk.proofs.Prelude.{_≡_, refl, Bool, _&&_, ℕ, _+_, _<_, _-_, _^_, _%_, _*_, _/_, _≤_, lt-of-le-of-lt, arith, List, [], _∷_, length, lit<, URA, w64, vbool, SProp, emp, id⊢, Memory, Routine, Heap, Tables, Atoms, Fun, Given, _$_, !, lit, of-opd, bin, bool, bool-makes, tripleOf}
+use Rattle.walk.proofs.Prelude.{_≡_, refl, Bool, _&&_, ℕ, _+_, _<_, _-_, _^_, _%_, _*_, _/_, _≤_, lt-of-le-of-lt, arith, List, [], _∷_, length, lit<, URA, w64, vbool, SProp, emp, id⊢, Memory, Routine, Heap, Tables, Atoms, Fun, Given, _$_, !, lit, of-opd, bin, bool, tripleOf}
 use Rattle.walk.proofs.Enter.{shown, uint, so}
 use Rattle.walk.proofs.Proves.{Shape, Walk}
 use Rattle.walk.proofs.Locals.{var, vars, field-var, gives}
@@ -12,7 +12,9 @@ use Rattle.spec.specs.declared.types.Request.{Request}
 use Rattle.spec.specs.Every.{every}
 use Rattle.spec.specs.Sound.{isZeroRequest}
 use Rattle.table.proofs.Rows.{R}
-use Rattle.sound.proofs.Walking.{fit, flags, writes, computes, asks-for, proves-by}
+use Rattle.sound.proofs.Walking.{fit, of-flag}
+use Rattle.sound.proofs.Walking.{proved}
+use Rattle.sound.proofs.Walking.{writes, computes, asks-for}
 use Rattle.sound.proofs.Zeros.{areZero, parts}
 use Rattle.sound.proofs.tables.zero_fours as zero-fours
 use Rattle.sound.proofs.tables.zero_rest as zero-rest
@@ -43,20 +45,20 @@ module _ {M : Type 1} (𝓤 : URA M) (H : Heap 𝓤) (A : Atoms 𝓤) (W : Given
       let asked : (m ≤ n) × ((m - start) % 4 ≡ 0) = (most, omega arith) in
       let p : Bool = areZero ys start m in
       let r : Bool = p && every isZeroRequest (dropN m ys) in
-      writes ! (of-opd ! (field-var ! refl refl refl)) refl (fit (t .room .0)) $
+      writes ! (of-opd ! (field-var ! refl refl refl)) refl (tt, fit (t .room .0)) $
       -- let m = from + (n - from) / 4 * 4;
-      computes ! refl refl within refl (fit (fits (n - start) (omega arith))) $
-      writes ! (bin ! (var ! refl) (lit ! tt) (lit< tt)) refl (fit (fits ((n - start) / 4) (omega arith))) $
-      writes ! (bin ! (var ! refl) (lit ! tt) (record { fits = fits ((n - start) / 4 * 4) (omega arith) })) refl (fit (fits ((n - start) / 4 * 4) (omega arith))) $
-      computes ! refl refl (record { fits = fits m most }) refl (fit (fits m most)) $
+      computes ! refl refl within refl (tt, fit (fits (n - start) (omega arith))) $
+      writes ! (bin ! (var ! refl) (lit ! tt) (lit< tt)) refl (tt, fit (fits ((n - start) / 4) (omega arith))) $
+      writes ! (bin ! (var ! refl) (lit ! tt) (fit (fits ((n - start) / 4 * 4) (omega arith)))) refl (tt, fit (fits ((n - start) / 4 * 4) (omega arith))) $
+      computes ! refl refl (fit (fits m most)) refl (tt, fit (fits m most)) $
       -- let p = zero_fours(t, from, m);
-      asks-for ! 𝓣 (0 ∷ []) (passed-on W t ∷ number W start (start-is .1) ∷ number W m (fits m most) ∷ []) (so 𝓤 asked) (flags W) p (λ c. known-fours) (λ c h. h) refl (λ c. vars ! (refl, (refl, (refl, tt)))) (λ _. refl) refl (λ _ _.
+      asks-for ! 𝓣 (0 ∷ []) (passed-on W t ∷ number W start (start-is .1) ∷ number W m (fits m most) ∷ []) (so 𝓤 asked) (of-flag W) p (λ c. known-fours) (λ c h. h) refl (λ c. vars ! (refl, (refl, (refl, tt)))) (λ _. refl) refl (λ _ _.
       -- zero_rest(t, m, p)
-      asks-for ! 𝓣 (0 ∷ []) (passed-on W t ∷ number W m (fits m most) ∷ flag W p ∷ []) (id⊢ 𝓤 (emp 𝓤)) (flags W) r (λ c. known-rest) (λ c h. h) refl (λ c. vars ! (refl, (refl, (refl, tt)))) (λ _. refl) refl (λ _ _.
-      gives ! refl refl $ leaves (vbool r) r tt tt (bool-makes 𝓤 H A W r _ refl) (so 𝓤 (parts start m ys (omega arith))))))
+      asks-for ! 𝓣 (0 ∷ []) (passed-on W t ∷ number W m (fits m most) ∷ flag W p ∷ []) (id⊢ 𝓤 (emp 𝓤)) (of-flag W) r (λ c. known-rest) (λ c h. h) refl (λ c. vars ! (refl, (refl, (refl, tt)))) (λ _. refl) refl (λ _ _.
+      gives ! refl refl $ leaves (vbool r) r tt tt (of-flag W .makes r _ refl) (so 𝓤 (parts start m ys (omega arith))))))
 
 pub are-zero-spec : {M : Type 1} → f.Statement.statement M
 unfolding f.Code.routine
 are-zero-spec 𝓤 H 𝓜 𝓖 𝓡 =
-    proves-by 𝓤 H 𝓜 𝓖 𝓡 (shape 𝓤 H) f.Code.env f.Key.name (f.Code.unfolded 𝓤 H 𝓜 𝓡) (walk 𝓤 H)
+    proved 𝓤 H 𝓜 𝓖 𝓡 (shape 𝓤 H) (walk 𝓤 H) f.Code.env f.Key.name (f.Code.unfolded 𝓤 H 𝓜 𝓡)
     ((zero-fours.Symbol.routine, f.Code.calls-sound·tables·zero-fours, zero-fours.Met.met 𝓤 H 𝓜 𝓖 𝓡), ((zero-rest.Symbol.routine, f.Code.calls-sound·tables·zero-rest, zero-rest.Met.met 𝓤 H 𝓜 𝓖 𝓡), tt))

@@ -2,20 +2,22 @@
 -- on the `&mut [u16]`, which is lent again, by turns. After each turn it is known where the pass stands (`Reached`).
 -- Assumes nothing.
 use denote.Steps.{heard}
-use Rattle.walk.proofs.Prelude.{_≡_, refl, _∙_, Bool, true, ℕ, _+_, _<_, _≤_, _^_, lt-trans, arith, List, [], _∷_, length, getD, URA, w64, vbool, SProp, Memory, Routine, Heap, Tables, Atoms, Fun, Given, _$_, !, true-lit, and-then, Is, u16, bool, bool-makes, tripleOf}
+use Rattle.walk.proofs.Prelude.{_≡_, refl, _∙_, true, ℕ, _+_, _<_, _≤_, _^_, lt-trans, arith, List, [], _∷_, length, getD, URA, w64, vbool, SProp, Memory, Routine, Heap, Tables, Atoms, Fun, Given, _$_, !, true-lit, and-then, u16, bool, tripleOf}
 use Rattle.walk.proofs.Enter.{shown, lent, uint, so}
 use Rattle.walk.proofs.Proves.{Shape, Walk}
 use Rattle.walk.proofs.Locals.{vars, relends, gives}
 use Rattle.walk.proofs.At.{mut-of}
-use Rattle.walk.proofs.Slices.Loans.{Param, number, flag}
+use Rattle.walk.proofs.Slices.Loans.{number, flag}
 use Rattle.spec.specs.declared.types.Request.{Request}
 use Rattle.spec.specs.Tables.{zeroRequest}
-use Rattle.table.proofs.Rows.{R, vals, a-request, request}
+use Rattle.table.proofs.Rows.{R, a-request, request}
 use Rattle.table.proofs.Heads.{a-head, the-head}
 use Rattle.table.proofs.get as get
 use Rattle.sound.specs.Checks.{Bounded, Countable, recordBefore}
 use Rattle.sound.proofs.Turns.{comes-next, sets-out, may-step, steps-on, turns-made}
-use Rattle.sound.proofs.Walking.{flags, adds, asks, proves-by}
+use Rattle.sound.proofs.Walking.{of-flag}
+use Rattle.sound.proofs.Walking.{proved}
+use Rattle.sound.proofs.Walking.{adds, asks}
 use Rattle.sound.proofs.Calls.{Get, reads}
 use Rattle.sound.proofs.tables.step as step
 use Rattle.sound.proofs.tables.four as f
@@ -49,7 +51,7 @@ module _ {M : Type 1} (𝓤 : URA M) (H : Heap 𝓤) (A : Atoms 𝓤) (W : Given
       reads ! mem run 𝓣 known-get t i (here i less₀) refl (λ c. vars ! (refl, (refl, tt))) refl refl (λ a-is.
       -- let p = step(true, tally, head, i, before, a);
       relends ! (tally .room .0) refl refl refl $
-      asks ! 𝓣 (1 ∷ []) (flag W true ∷ mut-of W tally tally₀ refl ∷ the-head W head head-is ∷ number W i (i-is .1) ∷ request W before before-is ∷ request W (r i) a-is ∷ []) (so 𝓤 (may-step reached₀ bounds less₀)) (flags W) _
+      asks ! 𝓣 (1 ∷ []) (flag W true ∷ mut-of W tally tally₀ refl ∷ the-head W head head-is ∷ number W i (i-is .1) ∷ request W before before-is ∷ request W (r i) a-is ∷ []) (so 𝓤 (may-step reached₀ bounds less₀)) (of-flag W) _
       (λ c. known-step) (λ c h. h) refl (λ c. and-then ! (true-lit !) (vars ! (refl, (refl, (refl, (refl, (refl, tt))))))) (λ _. refl) refl (λ p last₁ told₁ kept₁ _.
       let reached₁ = steps-on reached₀ bounds (within .2) less₀ (i + 1) refl told₁ in
       let size₁ : length (last₁ .1 .0) ≡ length tally₀ = kept₁ .0 in
@@ -59,7 +61,7 @@ module _ {M : Type 1} (𝓤 : URA M) (H : Heap 𝓤) (A : Atoms 𝓤) (W : Given
       -- let q = step(p, tally, head, i + 1, a, b);
       relends ! (tally .room .0) refl refl refl $
       adds ! (fits (i + 1) less₁) tt refl refl refl $
-      asks ! 𝓣 (1 ∷ []) (flag W p ∷ mut-of W tally (last₁ .1 .0) size₁ ∷ the-head W head head-is ∷ number W (i + 1) (fits (i + 1) less₁) ∷ request W (r i) a-is ∷ request W (r (i + 1)) b-is ∷ []) (so 𝓤 (may-step reached₁ bounds less₁)) (flags W) _
+      asks ! 𝓣 (1 ∷ []) (flag W p ∷ mut-of W tally (last₁ .1 .0) size₁ ∷ the-head W head head-is ∷ number W (i + 1) (fits (i + 1) less₁) ∷ request W (r i) a-is ∷ request W (r (i + 1)) b-is ∷ []) (so 𝓤 (may-step reached₁ bounds less₁)) (of-flag W) _
       (λ c. known-step) (λ c h. h) refl (λ c. vars ! (refl, (refl, (refl, (refl, (refl, (refl, tt))))))) (λ _. refl) refl (λ q last₂ told₂ kept₂ _.
       let reached₂ = steps-on reached₁ bounds (comes-next ys i (i + 1) refl) less₁ (i + 2) (omega arith) told₂ in
       let size₂ : length (last₂ .1 .0) ≡ length tally₀ = kept₂ .0 ∙ size₁ in
@@ -69,7 +71,7 @@ module _ {M : Type 1} (𝓤 : URA M) (H : Heap 𝓤) (A : Atoms 𝓤) (W : Given
       -- let r = step(q, tally, head, i + 2, b, c);
       relends ! (tally .room .0) refl refl refl $
       adds ! (fits (i + 2) less₂) tt refl refl refl $
-      asks ! 𝓣 (1 ∷ []) (flag W q ∷ mut-of W tally (last₂ .1 .0) size₂ ∷ the-head W head head-is ∷ number W (i + 2) (fits (i + 2) less₂) ∷ request W (r (i + 1)) b-is ∷ request W (r (i + 2)) c-is ∷ []) (so 𝓤 (may-step reached₂ bounds less₂)) (flags W) _
+      asks ! 𝓣 (1 ∷ []) (flag W q ∷ mut-of W tally (last₂ .1 .0) size₂ ∷ the-head W head head-is ∷ number W (i + 2) (fits (i + 2) less₂) ∷ request W (r (i + 1)) b-is ∷ request W (r (i + 2)) c-is ∷ []) (so 𝓤 (may-step reached₂ bounds less₂)) (of-flag W) _
       (λ c. known-step) (λ c h. h) refl (λ c. vars ! (refl, (refl, (refl, (refl, (refl, (refl, tt))))))) (λ _. refl) refl (λ s last₃ told₃ kept₃ _.
       let reached₃ = steps-on reached₂ bounds (comes-next ys (i + 1) (i + 2) (omega arith)) less₂ (i + 3) (omega arith) told₃ in
       let size₃ : length (last₃ .1 .0) ≡ length tally₀ = kept₃ .0 ∙ size₂ in
@@ -79,13 +81,13 @@ module _ {M : Type 1} (𝓤 : URA M) (H : Heap 𝓤) (A : Atoms 𝓤) (W : Given
       -- step(r, tally, head, i + 3, c, d)
       relends ! (tally .room .0) refl refl refl $
       adds ! (fits (i + 3) less₃) tt refl refl refl $
-      asks ! 𝓣 (1 ∷ []) (flag W s ∷ mut-of W tally (last₃ .1 .0) size₃ ∷ the-head W head head-is ∷ number W (i + 3) (fits (i + 3) less₃) ∷ request W (r (i + 2)) c-is ∷ request W (r (i + 3)) d-is ∷ []) (so 𝓤 (may-step reached₃ bounds less₃)) (flags W) _
+      asks ! 𝓣 (1 ∷ []) (flag W s ∷ mut-of W tally (last₃ .1 .0) size₃ ∷ the-head W head head-is ∷ number W (i + 3) (fits (i + 3) less₃) ∷ request W (r (i + 2)) c-is ∷ request W (r (i + 3)) d-is ∷ []) (so 𝓤 (may-step reached₃ bounds less₃)) (of-flag W) _
       (λ c. known-step) (λ c h. h) refl (λ c. vars ! (refl, (refl, (refl, (refl, (refl, (refl, tt))))))) (λ _. refl) refl (λ u last₄ told₄ kept₄ _.
-      gives ! refl refl $ leaves (vbool u) u (last₄ .1 .0, tt) (kept₄ .0 ∙ size₃, tt) (bool-makes 𝓤 H A W u _ refl)
+      gives ! refl refl $ leaves (vbool u) u (last₄ .1 .0, tt) (kept₄ .0 ∙ size₃, tt) (of-flag W .makes u _ refl)
       (so 𝓤 (turns-made (steps-on reached₃ bounds (comes-next ys (i + 2) (i + 3) (omega arith)) less₃ (i + 4) (omega arith) told₄) bounds 4 refl refl)))))))))))
 
 pub four-spec : {M : Type 1} → f.Statement.statement M
 unfolding f.Code.routine
 four-spec 𝓤 H 𝓜 𝓖 𝓡 =
-    proves-by 𝓤 H 𝓜 𝓖 𝓡 (shape 𝓤 H) f.Code.env f.Key.name (f.Code.unfolded 𝓤 H 𝓜 𝓡) (walk 𝓤 H)
+    proved 𝓤 H 𝓜 𝓖 𝓡 (shape 𝓤 H) (walk 𝓤 H) f.Code.env f.Key.name (f.Code.unfolded 𝓤 H 𝓜 𝓡)
     ((get.Symbol.routine, f.Code.calls-table·get, get.Met.met 𝓤 H 𝓜 𝓖 𝓡), ((step.Symbol.routine, f.Code.calls-sound·tables·step, step.Met.met 𝓤 H 𝓜 𝓖 𝓡), tt))

@@ -2,7 +2,7 @@
 -- A turn stands wherever the pass has come to (`Turn`), at a whole number of fours.
 -- Assumes nothing.
 use denote.Steps.{heard}
-use Rattle.walk.proofs.Prelude.{_≡_, refl, _∙_, true, ℕ, _+_, _<_, _≤_, _-_, _^_, _%_, lt-of-le-of-lt, le-trans, arith, List, [], _∷_, length, getD, lit<, URA, w64, vbool, vint, SProp, Memory, Routine, Heap, Tables, Atoms, Fun, Given, ‵, _$_, !, agg, lit, true-lit, of-opd, and-then, no-more, u16, bool, bool-makes, tripleOf}
+use Rattle.walk.proofs.Prelude.{_≡_, refl, _∙_, true, ℕ, _+_, _<_, _≤_, _-_, _^_, _%_, lt-of-le-of-lt, le-trans, arith, List, [], _∷_, length, getD, lit<, URA, w64, vbool, vint, SProp, Memory, Routine, Heap, Tables, Atoms, Fun, Given, ‵, _$_, !, agg, lit, true-lit, of-opd, and-then, no-more, u16, bool, tripleOf}
 use Rattle.walk.proofs.Enter.{shown, lent, uint, so}
 use Rattle.walk.proofs.Proves.{Shape, Walk}
 use Rattle.walk.proofs.Inside.{Lent-at}
@@ -17,7 +17,10 @@ use Rattle.table.proofs.Heads.{a-head, the-head}
 use Rattle.table.proofs.get as get
 use Rattle.sound.specs.Checks.{Bounded, Countable, recordBefore}
 use Rattle.sound.proofs.Turns.{comes-next, sets-out, may-turn, turns-on, turns-over}
-use Rattle.sound.proofs.Walking.{fit, flags, writes, copies, computes, adds, adds-last, asks, loops-with, proves-by}
+use Rattle.sound.proofs.Walking.{fit, of-flag}
+use Rattle.sound.proofs.Walking.{goes-round}
+use Rattle.sound.proofs.Walking.{proved}
+use Rattle.sound.proofs.Walking.{writes, copies, computes, adds, adds-last, asks}
 use Rattle.sound.proofs.Calls.{Get, reads, Turn, goes-on}
 use Rattle.sound.proofs.tables.four as four
 use Rattle.sound.proofs.tables.fours as f
@@ -40,9 +43,9 @@ module _ {M : Type 1} (𝓤 : URA M) (H : Heap 𝓤) (A : Atoms 𝓤) (W : Given
       heard ! (Bounded head n × (n ≤ length ys) × (n % 4 ≡ 0) × Countable n tally₀) (λ within.
       writes ! (agg ! (and-then ! (lit ! tt) (and-then ! (lit ! tt) (and-then ! (lit ! tt) (no-more !))))) refl (lawful 𝓤 H A W .typed zeroRequest _ zero-is .0) $
       writes ! (of-opd ! (true-lit !)) refl (tt, tt) $
-      writes ! (of-opd ! (lit ! tt)) refl (fit (lit< tt)) $
-      loops-with ! 𝓣 (λ (u : (t : Turn head ys 0 (true, tally₀) n) × (t .i % 4 ≡ 0)). n - u .0 .i) (λ u. (1, ‵ (Lent-at tally (u .0 .tally))) ∷ []) (λ u. (5, mach (u .0 .before)) ∷ (6, vbool (u .0 .passed)) ∷ (7, vint w64 (u .0 .i)) ∷ [])
-      (record { i = 0; before = zeroRequest; passed = true; tally = tally₀; before-is = zero-is; size = refl; behind = refl; reached = sets-out head ys 0 n n true tally₀ (omega arith) (within .3) }, refl) refl (λ u p again out.
+      writes ! (of-opd ! (lit ! tt)) refl (tt, fit (lit< tt)) $
+      goes-round ! 𝓣 (λ (u : (t : Turn head ys 0 (true, tally₀) n) × (t .i % 4 ≡ 0)). n - u .0 .i) (λ u. (1, ‵ (Lent-at tally (u .0 .tally))) ∷ []) (λ u. (5, mach (u .0 .before)) ∷ (6, vbool (u .0 .passed)) ∷ (7, vint w64 (u .0 .i)) ∷ [])
+      (record { i = 0; before = zeroRequest; passed = true; tally = tally₀; before-is = zero-is; size = refl; behind = refl; reached = sets-out head ys 0 n n true tally₀ (omega arith) (within .3) }, refl) refl (λ u round.
       let i : ℕ = u .0 .i in
       computes ! refl refl tt refl (tt, tt) $
       computes ! refl refl tt refl (tt, tt) $
@@ -55,20 +58,20 @@ module _ {M : Type 1} (𝓤 : URA M) (H : Heap 𝓤) (A : Atoms 𝓤) (W : Given
       let asked : Bounded head (i + 4) × (i + 4 ≤ length ys) × (u .0 .before ≡ recordBefore ys i) × Countable 4 (u .0 .tally) = (may .0, omega (arith, within .1), u .0 .behind, may .1) in
       -- passed = four(t, tally, head, i, before);
       relends ! (tally .room .0) refl refl refl $
-      asks ! 𝓣 (0 ∷ 1 ∷ []) (passed-on W t ∷ mut-of W tally (u .0 .tally) (u .0 .size) ∷ the-head W head head-is ∷ number W i (fits i (omega arith)) ∷ request W (u .0 .before) (u .0 .before-is) ∷ []) (so 𝓤 asked) (flags W) _
+      asks ! 𝓣 (0 ∷ 1 ∷ []) (passed-on W t ∷ mut-of W tally (u .0 .tally) (u .0 .size) ∷ the-head W head head-is ∷ number W i (fits i (omega arith)) ∷ request W (u .0 .before) (u .0 .before-is) ∷ []) (so 𝓤 asked) (of-flag W) _
       (λ c. known-four) (λ c h. h) refl (λ c. vars ! (refl, (refl, (refl, (refl, (refl, tt)))))) (λ _. refl) refl (λ r left told kept _.
       -- before = table::get(t, i + 3);
       adds ! (fits (i + 3) (omega arith)) tt refl refl refl $
       reads ! mem run 𝓣 known-get t (i + 3) (omega (arith, within .1)) refl (λ c. vars ! (refl, (refl, tt))) refl refl (λ is.
       -- i += 4
       adds-last ! (fits (i + 4) (omega arith)) tt refl refl refl $
-      again _ (record { i = i + 4; before = getD ys (i + 3) zeroRequest; passed = r; tally = left .1 .0; before-is = is; size = kept .1 .0 ∙ u .0 .size; behind = comes-next ys (i + 3) (i + 4) (omega arith); reached = turns-on (on .1) (within .0) 4 (i + 4) refl last told }, omega (arith, u .1)) (omega arith) refl refl)))
-      (λ over. out _ (
+      round .turns-to ! (record { i = i + 4; before = getD ys (i + 3) zeroRequest; passed = r; tally = left .1 .0; before-is = is; size = kept .1 .0 ∙ u .0 .size; behind = comes-next ys (i + 3) (i + 4) (omega arith); reached = turns-on (on .1) (within .0) 4 (i + 4) refl last told }, omega (arith, u .1)) (omega arith) refl)))
+      (λ over. round .breaks ! $
       copies ! refl refl (tt, tt) $
-      gives ! refl refl $ leaves (vbool (u .0 .passed)) (u .0 .passed) (u .0 .tally, tt) (u .0 .size, tt) (bool-makes 𝓤 H A W (u .0 .passed) _ refl) (so 𝓤 (turns-over (u .0 .reached) (within .0) n (omega arith) over))))))
+      gives ! refl refl $ leaves (vbool (u .0 .passed)) (u .0 .passed) (u .0 .tally, tt) (u .0 .size, tt) (of-flag W .makes (u .0 .passed) _ refl) (so 𝓤 (turns-over (u .0 .reached) (within .0) n (omega arith) over)))))
 
 pub fours-spec : {M : Type 1} → f.Statement.statement M
 unfolding f.Code.routine
 fours-spec 𝓤 H 𝓜 𝓖 𝓡 =
-    proves-by 𝓤 H 𝓜 𝓖 𝓡 (shape 𝓤 H) f.Code.env f.Key.name (f.Code.unfolded 𝓤 H 𝓜 𝓡) (walk 𝓤 H)
+    proved 𝓤 H 𝓜 𝓖 𝓡 (shape 𝓤 H) (walk 𝓤 H) f.Code.env f.Key.name (f.Code.unfolded 𝓤 H 𝓜 𝓡)
     ((get.Symbol.routine, f.Code.calls-table·get, get.Met.met 𝓤 H 𝓜 𝓖 𝓡), ((four.Symbol.routine, f.Code.calls-sound·tables·four, four.Met.met 𝓤 H 𝓜 𝓖 𝓡), tt))

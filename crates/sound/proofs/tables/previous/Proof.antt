@@ -8,11 +8,13 @@ use Rattle.walk.proofs.Locals.{var, vars, gives, gives-within}
 use Rattle.walk.proofs.Steps.{branches-then, into-assign, skips-then}
 use Rattle.spec.specs.declared.types.Request.{Request}
 use Rattle.spec.specs.Tables.{zeroRequest}
-use Rattle.table.proofs.Rows.{R, mach, lawful, makes, zero-is}
+use Rattle.table.proofs.Rows.{R, mach, lawful, zero-is}
 use Rattle.table.proofs.get as get
 use Rattle.sound.specs.Checks.{recordBefore}
-use Rattle.sound.proofs.Walking.{fit, writes, proves-by}
-use Rattle.sound.proofs.Calls.{Get, reads}
+use Rattle.sound.proofs.Walking.{fit}
+use Rattle.sound.proofs.Walking.{proved}
+use Rattle.sound.proofs.Walking.{writes}
+use Rattle.sound.proofs.Calls.{of-request, Get, reads}
 use Rattle.sound.proofs.Turns.{comes-next}
 use Rattle.sound.proofs.Laws.{not-zero}
 use Rattle.sound.proofs.tables.previous as f
@@ -42,17 +44,17 @@ module _ {M : Type 1} (𝓤 : URA M) (H : Heap 𝓤) (A : Atoms 𝓤) (W : Given
       branches-then ! (var ! refl)
       (λ first-one. into-assign ! $
       writes ! (agg ! (and-then ! (lit ! tt) (and-then ! (lit ! tt) (and-then ! (lit ! tt) (no-more !))))) refl (lawful 𝓤 H A W .typed zeroRequest _ zero-is .0) $
-      first ! $ gives-within ! Q refl refl refl $ leaves (mach zeroRequest) zeroRequest tt tt (makes 𝓤 H A W zeroRequest _ zero-is) (so 𝓤 (none-before ys i first-one)))
+      first ! $ gives-within ! Q refl refl refl $ leaves (mach zeroRequest) zeroRequest tt tt (of-request W .makes zeroRequest _ zero-is) (so 𝓤 (none-before ys i first-one)))
       (λ later-one. skips-then ! $
       let some : 1 ≤ i = some-before i later-one in
       let less : i - 1 < length ys = omega (arith, some, within) in
       let r : Request = getD ys (i - 1) zeroRequest in
       -- table::get(t, i - 1)
-      writes ! (bin ! (var ! refl) (lit ! tt) some) refl (fit (lt-trans less (t .room .0))) $
+      writes ! (bin ! (var ! refl) (lit ! tt) some) refl (tt, fit (lt-trans less (t .room .0))) $
       reads ! mem run 𝓣 known-get t (i - 1) less refl (λ c. vars ! (refl, (refl, tt))) refl refl (λ is.
-      gives ! refl refl $ leaves (mach r) r tt tt (makes 𝓤 H A W r _ is) (so 𝓤 (comes-next ys (i - 1) i (omega (arith, some)))))))
+      gives ! refl refl $ leaves (mach r) r tt tt (of-request W .makes r _ is) (so 𝓤 (comes-next ys (i - 1) i (omega (arith, some)))))))
 
 pub previous-spec : {M : Type 1} → f.Statement.statement M
 unfolding f.Code.routine
 previous-spec 𝓤 H 𝓜 𝓖 𝓡 =
-    proves-by 𝓤 H 𝓜 𝓖 𝓡 (shape 𝓤 H) f.Code.env f.Key.name (f.Code.unfolded 𝓤 H 𝓜 𝓡) (walk 𝓤 H) ((get.Symbol.routine, f.Code.calls-table·get, get.Met.met 𝓤 H 𝓜 𝓖 𝓡), tt)
+    proved 𝓤 H 𝓜 𝓖 𝓡 (shape 𝓤 H) (walk 𝓤 H) f.Code.env f.Key.name (f.Code.unfolded 𝓤 H 𝓜 𝓡) ((get.Symbol.routine, f.Code.calls-table·get, get.Met.met 𝓤 H 𝓜 𝓖 𝓡), tt)

@@ -2,7 +2,7 @@
 -- covered function, on what it lands. A turn stands wherever the pass has come to (`Turn`) with fours left.
 -- Assumes nothing.
 use denote.Steps.{heard}
-use Rattle.walk.proofs.Prelude.{_≡_, refl, Bool, true, ℕ, _+_, _<_, _-_, _^_, _%_, _≤_, lt-of-le-of-lt, le-trans, arith, List, [], _∷_, length, getD, URA, w64, vbool, vint, SProp, emp, id⊢, Memory, Routine, Heap, Tables, Atoms, Fun, Given, _$_, !, true-lit, of-opd, bool, bool-makes, tripleOf}
+use Rattle.walk.proofs.Prelude.{_≡_, refl, Bool, true, ℕ, _+_, _<_, _-_, _^_, _%_, _≤_, lt-of-le-of-lt, le-trans, arith, List, [], _∷_, length, getD, URA, w64, vbool, vint, SProp, emp, id⊢, Memory, Routine, Heap, Tables, Atoms, Fun, Given, _$_, !, true-lit, of-opd, bool, tripleOf}
 use Rattle.walk.proofs.Enter.{shown, uint, so}
 use Rattle.walk.proofs.Proves.{Shape, Walk}
 use Rattle.walk.proofs.Locals.{var, vars, gives}
@@ -12,7 +12,10 @@ use Rattle.spec.specs.Tables.{zeroRequest}
 use Rattle.table.proofs.Rows.{R, request}
 use Rattle.table.proofs.get as get
 use Rattle.sound.proofs.Zeros.{areFourZero, areZero, Turn, goes-on, ended, four-on}
-use Rattle.sound.proofs.Walking.{fit, flags, writes, copies, computes, adds, adds-last, asks-for, loops-with, proves-by}
+use Rattle.sound.proofs.Walking.{fit, of-flag}
+use Rattle.sound.proofs.Walking.{goes-round}
+use Rattle.sound.proofs.Walking.{proved}
+use Rattle.sound.proofs.Walking.{writes, copies, computes, adds, adds-last, asks-for}
 use Rattle.sound.proofs.Calls.{Get, reads}
 use Rattle.sound.proofs.record.are_zero_four as four
 use Rattle.sound.proofs.tables.zero_fours as f
@@ -35,8 +38,8 @@ module _ {M : Type 1} (𝓤 : URA M) (H : Heap 𝓤) (A : Atoms 𝓤) (W : Given
       let record-at : ℕ → Request = λ j. getD ys j zeroRequest in
       heard ! ((n ≤ length ys) × ((n - start) % 4 ≡ 0)) (λ within.
       writes ! (of-opd ! (true-lit !)) refl (tt, tt) $
-      copies ! refl refl (fit (start-is .1)) $
-      loops-with ! 𝓣 (λ (u : (t : Turn ys n all) × ((n - t .i) % 4 ≡ 0)). n - u .0 .i) (λ u. []) (λ u. (4, vbool (u .0 .zero)) ∷ (5, vint w64 (u .0 .i)) ∷ []) (record { zero = true; i = start; left = refl }, within .1) refl (λ u p again out.
+      copies ! refl refl (tt, fit (start-is .1)) $
+      goes-round ! 𝓣 (λ (u : (t : Turn ys n all) × ((n - t .i) % 4 ≡ 0)). n - u .0 .i) (λ u. []) (λ u. (4, vbool (u .0 .zero)) ∷ (5, vint w64 (u .0 .i)) ∷ []) (record { zero = true; i = start; left = refl }, within .1) refl (λ u round.
       let i : ℕ = u .0 .i in
       computes ! refl refl tt refl (tt, tt) $
       computes ! refl refl tt refl (tt, tt) $
@@ -58,17 +61,17 @@ module _ {M : Type 1} (𝓤 : URA M) (H : Heap 𝓤) (A : Atoms 𝓤) (W : Given
       adds ! (fits (i + 3) (omega arith)) tt refl refl refl $
       reads ! mem run 𝓣 known-get t (i + 3) (here (i + 3) (omega arith)) refl (λ c. vars ! (refl, (refl, tt))) refl refl (λ d-is.
       -- zero = crate::record::are_zero_four(a, b, c, d);
-      asks-for ! 𝓣 [] (request W (record-at i) a-is ∷ request W (record-at (i + 1)) b-is ∷ request W (record-at (i + 2)) c-is ∷ request W (record-at (i + 3)) d-is ∷ []) (id⊢ 𝓤 (emp 𝓤)) (flags W) (areFourZero ys i) (λ c. known-four) (λ c h. h) refl
+      asks-for ! 𝓣 [] (request W (record-at i) a-is ∷ request W (record-at (i + 1)) b-is ∷ request W (record-at (i + 2)) c-is ∷ request W (record-at (i + 3)) d-is ∷ []) (id⊢ 𝓤 (emp 𝓤)) (of-flag W) (areFourZero ys i) (λ c. known-four) (λ c h. h) refl
       (λ c. vars ! (refl, (refl, (refl, (refl, tt))))) (λ _. refl) refl (λ _ _.
       -- i += 4
       adds-last ! (fits (i + 4) (omega arith)) tt refl refl refl $
-      again _ (record { zero = areFourZero ys i; i = i + 4; left = four-on ys n (within .0) i last (on .1) }, omega (arith, u .1)) (omega arith) refl refl))))))
-      (λ over. out _ (
+      round .turns-to ! (record { zero = areFourZero ys i; i = i + 4; left = four-on ys n (within .0) i last (on .1) }, omega (arith, u .1)) (omega arith) refl))))))
+      (λ over. round .breaks ! $
       copies ! refl refl (tt, tt) $
-      gives ! refl refl $ leaves (vbool (u .0 .zero)) (u .0 .zero) tt tt (bool-makes 𝓤 H A W (u .0 .zero) _ refl) (so 𝓤 (ended (u .0) over))))))
+      gives ! refl refl $ leaves (vbool (u .0 .zero)) (u .0 .zero) tt tt (of-flag W .makes (u .0 .zero) _ refl) (so 𝓤 (ended (u .0) over)))))
 
 pub zero-fours-spec : {M : Type 1} → f.Statement.statement M
 unfolding f.Code.routine
 zero-fours-spec 𝓤 H 𝓜 𝓖 𝓡 =
-    proves-by 𝓤 H 𝓜 𝓖 𝓡 (shape 𝓤 H) f.Code.env f.Key.name (f.Code.unfolded 𝓤 H 𝓜 𝓡) (walk 𝓤 H)
+    proved 𝓤 H 𝓜 𝓖 𝓡 (shape 𝓤 H) (walk 𝓤 H) f.Code.env f.Key.name (f.Code.unfolded 𝓤 H 𝓜 𝓡)
     ((get.Symbol.routine, f.Code.calls-table·get, get.Met.met 𝓤 H 𝓜 𝓖 𝓡), ((four.Symbol.routine, f.Code.calls-sound·record·are-zero-four, four.Met.met 𝓤 H 𝓜 𝓖 𝓡), tt))

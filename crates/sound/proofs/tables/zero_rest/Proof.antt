@@ -3,7 +3,7 @@
 -- Assumes nothing.
 use lib.ListN.{drop as dropN}
 use types.Kit.{drop}
-use Rattle.walk.proofs.Prelude.{refl, Bool, true, _&&_, ℕ, _+_, _-_, lt-of-le-of-lt, arith, add-one-le, add-one-dec, List, [], _∷_, length, getD, take-all, URA, w64, vbool, vint, SProp, id⊢, emp, Memory, Routine, Heap, Tables, Atoms, Fun, Given, _$_, !, of-opd, bool, bool-makes, tripleOf}
+use Rattle.walk.proofs.Prelude.{refl, Bool, true, _&&_, ℕ, _+_, _-_, lt-of-le-of-lt, arith, add-one-le, add-one-dec, List, [], _∷_, length, getD, take-all, URA, w64, vbool, vint, SProp, id⊢, emp, Memory, Routine, Heap, Tables, Atoms, Fun, Given, _$_, !, of-opd, bool, tripleOf}
 use Rattle.walk.proofs.Enter.{shown, uint, boolean, so}
 use Rattle.walk.proofs.Proves.{Shape, Walk}
 use Rattle.walk.proofs.Locals.{var, vars, field-var, gives}
@@ -15,7 +15,10 @@ use Rattle.spec.specs.Sound.{isZeroRequest}
 use Rattle.table.proofs.Rows.{R, request}
 use Rattle.table.proofs.get as get
 use Rattle.sound.proofs.Zeros.{Turn, goes-on, ended, one-on}
-use Rattle.sound.proofs.Walking.{fit, flags, writes, copies, computes, adds-last, asks-for, loops-with, proves-by}
+use Rattle.sound.proofs.Walking.{fit, of-flag}
+use Rattle.sound.proofs.Walking.{goes-round}
+use Rattle.sound.proofs.Walking.{proved}
+use Rattle.sound.proofs.Walking.{writes, copies, computes, adds-last, asks-for}
 use Rattle.sound.proofs.Calls.{Get, reads}
 use Rattle.sound.proofs.record.is_zero as is-zero
 use Rattle.sound.proofs.tables.zero_rest as f
@@ -37,10 +40,10 @@ module _ {M : Type 1} (𝓤 : URA M) (H : Heap 𝓤) (A : Atoms 𝓤) (W : Given
       let n : ℕ = length ys in
       let all : Bool = ok && every isZeroRequest (dropN start ys) in
       drop ! $
-      writes ! (of-opd ! (field-var ! refl refl refl)) refl (fit (t .room .0)) $
+      writes ! (of-opd ! (field-var ! refl refl refl)) refl (tt, fit (t .room .0)) $
       copies ! refl refl (tt, tt) $
-      copies ! refl refl (fit (start-is .1)) $
-      loops-with ! 𝓣 (λ (u : Turn ys n all). n - u .i) (λ u. []) (λ u. (5, vbool (u .zero)) ∷ (6, vint w64 (u .i)) ∷ []) (record { zero = ok; i = start; left = rw (take-all n ys (omega arith)) }) refl (λ u p again out.
+      copies ! refl refl (tt, fit (start-is .1)) $
+      goes-round ! 𝓣 (λ (u : Turn ys n all). n - u .i) (λ u. []) (λ u. (5, vbool (u .zero)) ∷ (6, vint w64 (u .i)) ∷ []) (record { zero = ok; i = start; left = rw (take-all n ys (omega arith)) }) refl (λ u round.
       computes ! refl refl tt refl (tt, tt) $
       computes ! refl refl tt refl (tt, tt) $
       tests ! (var ! refl)
@@ -49,16 +52,16 @@ module _ {M : Type 1} (𝓤 : URA M) (H : Heap 𝓤) (A : Atoms 𝓤) (W : Given
       -- let w = table::get(t, i);
       reads ! mem run 𝓣 known-get t (u .i) (on .0) refl (λ c. vars ! (refl, (refl, tt))) refl refl (λ is.
       -- zero = crate::record::is_zero(w);
-      asks-for ! 𝓣 [] (request W (getD ys (u .i) zeroRequest) is ∷ []) (id⊢ 𝓤 (emp 𝓤)) (flags W) _ (λ c. known-is-zero) (λ c h. h) refl (λ c. vars ! (refl, tt)) (λ _. refl) refl (λ _ _.
+      asks-for ! 𝓣 [] (request W (getD ys (u .i) zeroRequest) is ∷ []) (id⊢ 𝓤 (emp 𝓤)) (of-flag W) _ (λ c. known-is-zero) (λ c h. h) refl (λ c. vars ! (refl, tt)) (λ _. refl) refl (λ _ _.
       -- i += 1
       adds-last ! (lt-of-le-of-lt (add-one-le (on .0)) (t .room .0)) tt refl refl refl $
-      again _ (record { zero = isZeroRequest (getD ys (u .i) zeroRequest); i = u .i + 1; left = one-on ys n (omega arith) true (u .i) (u .i + 1) (on .0) refl (on .1) }) (add-one-dec n (u .i) (on .0)) refl refl)))
-      (λ over. out _ (
+      round .turns-to ! (record { zero = isZeroRequest (getD ys (u .i) zeroRequest); i = u .i + 1; left = one-on ys n (omega arith) true (u .i) (u .i + 1) (on .0) refl (on .1) }) (add-one-dec n (u .i) (on .0)) refl)))
+      (λ over. round .breaks ! $
       copies ! refl refl (tt, tt) $
-      gives ! refl refl $ leaves (vbool (u .zero)) (u .zero) tt tt (bool-makes 𝓤 H A W (u .zero) _ refl) (so 𝓤 (ended u over)))))
+      gives ! refl refl $ leaves (vbool (u .zero)) (u .zero) tt tt (of-flag W .makes (u .zero) _ refl) (so 𝓤 (ended u over))))
 
 pub zero-rest-spec : {M : Type 1} → f.Statement.statement M
 unfolding f.Code.routine
 zero-rest-spec 𝓤 H 𝓜 𝓖 𝓡 =
-    proves-by 𝓤 H 𝓜 𝓖 𝓡 (shape 𝓤 H) f.Code.env f.Key.name (f.Code.unfolded 𝓤 H 𝓜 𝓡) (walk 𝓤 H)
+    proved 𝓤 H 𝓜 𝓖 𝓡 (shape 𝓤 H) (walk 𝓤 H) f.Code.env f.Key.name (f.Code.unfolded 𝓤 H 𝓜 𝓡)
     ((get.Symbol.routine, f.Code.calls-table·get, get.Met.met 𝓤 H 𝓜 𝓖 𝓡), ((is-zero.Symbol.routine, f.Code.calls-sound·record·is-zero, is-zero.Met.met 𝓤 H 𝓜 𝓖 𝓡), tt))
