@@ -216,19 +216,25 @@ module _ {M : Type 1} {𝓤 : URA M} {H : Heap 𝓤} {A : Atoms 𝓤} {K : Type 
     adds-last t {x} fits small e at word = assigns-last t (bin t (var t e) (lit t small) (fit fits)) (from t (stop t)) (overwrites t E x at (fit-at word fits))
 
 -- ---- calls
-module _ {M : Type 1} {𝓤 : URA M} {H : Heap 𝓤} {A : Atoms 𝓤} {K : Type 0} {W : Given 𝓤 H A} {Γ : List (Item 𝓤)} {E : Env 𝓤 H} {f : Name} {xs : List Operand} {q : Post 𝓤 H} {x : ℕ} {rest : Body} (t : K) (𝓣 : Tables 𝓤 H) (π : List ℕ) (ps : List (Param 𝓤 H A)) {Pre : SProp 𝓤} (pre : ent 𝓤 (emp 𝓤) Pre) {S : RattleType} (s : Result W S) where
-  pub asks : (ψ : S .Denot → Lasts ps → Type 0) {P : (c : Choices ps) → Bound ps c → Type 1} → ((c : Choices ps) (y : Bound ps c) → P c y) → ((c : Choices ps) → P c (bound W ps c) → ent 𝓤 (Asked ps c Pre) (𝓣 .C f (machine ps) (Told ps c S ψ)))
-      → items H A π Γ ≡ sourced H A ps → Operands K W (holes H A π Γ) E xs ps Pre → ((ws : Lasts ps) → Stands H A (returned H A Γ π ps ws) E x) → S .mir ≡ spotOf 𝓤 H E x .0 ∷ []
+-- the local x stands and has the type S
+abbrev pub Takes : {M : Type 1} {𝓤 : URA M} (H : Heap 𝓤) (A : Atoms 𝓤) (Γ : List (Item 𝓤)) (E : Env 𝓤 H) (x : ℕ) → RattleType → Type 2
+Takes {𝓤 = 𝓤} H A Γ E x S = _≡_ {A = Item 𝓤 × List Ty} (nth 𝓤 H A (back x Γ) Γ, S .mir) (cell (spotOf 𝓤 H E x .0) (spotOf 𝓤 H E x .1) (heldIn (nth 𝓤 H A (back x Γ) Γ)), spotOf 𝓤 H E x .0 ∷ [])
+
+module _ {M : Type 1} {𝓤 : URA M} {H : Heap 𝓤} {A : Atoms 𝓤} {K : Type 0} {W : Given 𝓤 H A} {Γ : List (Item 𝓤)} {E : Env 𝓤 H} {f : Name} {xs : List Operand} {q : Post 𝓤 H} {x : ℕ} {rest : Body} (t : K) (𝓣 : Tables 𝓤 H) (π : List ℕ) (ps : List (Param 𝓤 H A)) {S : RattleType} (s : Result W S) where
+  pub asks : (ψ : S .Denot → Lasts ps → Type 0) {Pre : SProp 𝓤} {P : (c : Choices ps) → Bound ps c → Type 1} → ((c : Choices ps) (y : Bound ps c) → P c y)
+      → ((c : Choices ps) → P c (bound W ps c) → ent 𝓤 (Asked ps c Pre) (𝓣 .C f (machine ps) (Told ps c S ψ))) → ent 𝓤 (emp 𝓤) Pre
+      → items H A π Γ ≡ sourced H A ps → Operands K W (holes H A π Γ) E xs ps Pre → ((ws : Lasts ps) → Takes H A (returned H A Γ π ps ws) E x S)
       → ((r : S .Denot) (ws : Lasts ps) → ψ r ws → Knowns ps ws → Is S r (s .val r ∷ []) → Seq K W (held H A (returned H A Γ π ps ws) E x (s .val r)) (runs (𝓣 .C) (𝓣 .Λ) E rest q))
       → Seq K W Γ (runs (𝓣 .C) (𝓣 .Λ) E (seq (call f xs (place x [])) rest) q)
-  asks ψ known met e ops at mir k =
+  asks ψ {Pre} known met pre e ops at k =
       calls-at t (fmOf 𝓤 H (W .laws) 𝓣) π ps Pre pre S ψ (λ c. met c (known c (bound W ps c))) e ops (λ w r ws told kept. lands-told t S (s .val) (s .tells) w r (λ is.
-      land t (from t (stop t)) (overwrites t E x (at ws) (subst (λ (τs : List Ty). Typed τs (s .val r ∷ [])) mir (s .lawful .typed r (s .val r ∷ []) is) .0)) $ k r ws told kept is))
+      land t (from t (stop t)) (overwrites t E x (ap (λ p. p .0) (at ws)) (subst (λ (τs : List Ty). Typed τs (s .val r ∷ [])) (ap (λ p. p .1) (at ws)) (s .lawful .typed r (s .val r ∷ []) is) .0)) $ k r ws told kept is))
 
-  pub asks-for : (m : S .Denot) {P : (c : Choices ps) → Bound ps c → Type 1} → ((c : Choices ps) (y : Bound ps c) → P c y) → ((c : Choices ps) → P c (bound W ps c) → ent 𝓤 (Asked ps c Pre) (𝓣 .C f (machine ps) (Told ps c S (λ r ws. r ≡ m))))
-      → items H A π Γ ≡ sourced H A ps → Operands K W (holes H A π Γ) E xs ps Pre → ((ws : Lasts ps) → Stands H A (returned H A Γ π ps ws) E x) → S .mir ≡ spotOf 𝓤 H E x .0 ∷ []
+  pub asks-for : (m : S .Denot) {Pre : SProp 𝓤} {P : (c : Choices ps) → Bound ps c → Type 1} → ((c : Choices ps) (y : Bound ps c) → P c y)
+      → ((c : Choices ps) → P c (bound W ps c) → ent 𝓤 (Asked ps c Pre) (𝓣 .C f (machine ps) (Told ps c S (λ r ws. r ≡ m)))) → ent 𝓤 (emp 𝓤) Pre
+      → items H A π Γ ≡ sourced H A ps → Operands K W (holes H A π Γ) E xs ps Pre → ((ws : Lasts ps) → Takes H A (returned H A Γ π ps ws) E x S)
       → ((ws : Lasts ps) → Is S m (s .val m ∷ []) → Seq K W (held H A (returned H A Γ π ps ws) E x (s .val m)) (runs (𝓣 .C) (𝓣 .Λ) E rest q))
       → Seq K W Γ (runs (𝓣 .C) (𝓣 .Λ) E (seq (call f xs (place x [])) rest) q)
-  asks-for m known met e ops at mir k =
-      asks (λ r ws. r ≡ m) known met e ops at mir (λ r ws told kept.
+  asks-for m known met pre e ops at k =
+      asks (λ r ws. r ≡ m) known met pre e ops at (λ r ws told kept.
       subst (λ (r : S .Denot). Is S r (s .val r ∷ []) → Seq K W (held H A (returned H A Γ π ps ws) E x (s .val r)) (runs (𝓣 .C) (𝓣 .Λ) E rest q)) (sym told) (k ws))

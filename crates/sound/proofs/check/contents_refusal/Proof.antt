@@ -15,7 +15,7 @@ use Rattle.table.proofs.Heads.{the-head, clients-fit, waiting-fits, a-head}
 use Rattle.sound.proofs.Walking.{fit, of-flag, of-number}
 use Rattle.sound.proofs.Walking.{proved}
 use Rattle.sound.proofs.Walking.{writes, asks}
-use Rattle.sound.proofs.Contents.{Headed, next-asked, balanced-asked, contents-told}
+use Rattle.sound.proofs.Contents.{next-asked, balanced-asked, contents-told}
 use Rattle.sound.proofs.tables.are_next as are-next
 use Rattle.sound.proofs.tables.are_zero as are-zero
 use Rattle.sound.proofs.tables.are_balanced as are-balanced
@@ -53,28 +53,28 @@ module _ {M : Type 1} (𝓤 : URA M) (H : Heap 𝓤) (A : Atoms 𝓤) (W : Given
       let l₆ : ℕ = bs .1 .1 .1 .1 .1 .1 .0 in
       let tally-room : Room u16 (length zeros) = subst (Room u16) (sym zeros-long) (lit< tt, lit< tt) in
       let waiting : Param 𝓤 H A = number W (head .waiting) (waiting-fits head head-is) in
-      heard ! (Headed head ws su se dr ≡ 0) (λ asked.
+      heard ! _ (λ asked.
       takes-out ! 6 refl $ repeats ! u16 (uint-lawful 𝓤 H A W w16) (uint-copy 𝓤 H A W w16) (uint-makes 𝓤 H A W w16) 1024 0 (vint w16 0) (refl, lit< tt) l₆ (lit ! tt) (from ! (stop !)) (
       writes ! (of-opd ! (field-var ! refl refl refl)) refl (tt, fit (waiting-fits head head-is)) $
       writes ! (addr ! (from ! (stop !))) refl (tt, tt) $
       writes ! (agg ! (and-then ! (var ! refl) (and-then ! (big-lit ! (fit (lit< tt))) (no-more !)))) refl (tt, (tt, (fit (lit< tt), tt))) $
       -- let next = tables::are_next(waiting, &mut tally, head, n);
-      asks ! 𝓣 (1 ∷ 0 ∷ []) (passed-on W s₀ ∷ loan (array-lent W u16 1024 l₆ tt zeros tally-room zeros-long) ∷ the-head W head head-is ∷ waiting ∷ []) (so 𝓤 (next-asked head ws su se dr asked)) (of-flag W) _
-      (λ c. known-next) (λ c h. h) refl (λ c. vars ! (refl, (refl, (refl, (refl, tt))))) (λ _. refl) refl (λ next last₁ passed-next kept₁ _.
+      asks ! 𝓣 (1 ∷ 0 ∷ []) (passed-on W s₀ ∷ loan (array-lent W u16 1024 l₆ tt zeros tally-room zeros-long) ∷ the-head W head head-is ∷ waiting ∷ []) (of-flag W) _
+      (λ c. known-next) (λ c h. h) (so 𝓤 (next-asked head ws su se dr asked)) refl (λ c. vars ! (refl, (refl, (refl, (refl, tt))))) (λ _. refl) (λ next last₁ passed-next kept₁ _.
       let tally : List ℕ = last₁ .1 .0 in
       let size : length tally ≡ 1024 = kept₁ .1 .0 ∙ zeros-long in
       -- let zero = tables::are_zero(waiting, n);
-      asks ! 𝓣 (1 ∷ []) (passed-on W s₀ ∷ waiting ∷ []) (so 𝓤 (next-asked head ws su se dr asked .1)) (of-flag W) _
-      (λ c. known-zero) (λ c h. h) refl (λ c. vars ! (refl, (refl, tt))) (λ _. refl) refl (λ zero last₂ told-zero kept₂ _.
+      asks ! 𝓣 (1 ∷ []) (passed-on W s₀ ∷ waiting ∷ []) (of-flag W) _
+      (λ c. known-zero) (λ c h. h) (so 𝓤 (next-asked head ws su se dr asked .1)) refl (λ c. vars ! (refl, (refl, tt))) (λ _. refl) (λ zero last₂ told-zero kept₂ _.
       writes ! (addr ! (from ! (stop !))) refl (tt, tt) $
       writes ! (agg ! (and-then ! (var ! refl) (and-then ! (big-lit ! (fit (lit< tt))) (no-more !)))) refl (tt, (tt, (fit (lit< tt), tt))) $
       writes ! (of-opd ! (field-var ! refl refl refl)) refl (tt, fit (clients-fit head head-is)) $
       -- let balanced = tables::are_balanced(&tally, submitted, served, dropped, head.clients as usize);
-      asks ! 𝓣 (0 ∷ 2 ∷ 3 ∷ 4 ∷ []) (loan (array-shared W u16 1024 l₆ tt tally (subst (Room u16) (sym (kept₁ .1 .0)) tally-room) size) ∷ passed-on W s₁ ∷ passed-on W s₂ ∷ passed-on W s₃ ∷ number W (head .clients) (clients-fit head head-is) ∷ []) (so 𝓤 (balanced-asked head ws su se dr asked tally size)) (of-flag W) _
-      (λ c. known-balanced) (λ c h. h) refl (λ c. vars ! (refl, (refl, (refl, (refl, (refl, tt)))))) (λ _. refl) refl (λ balanced last₃ told-balanced kept₃ _.
+      asks ! 𝓣 (0 ∷ 2 ∷ 3 ∷ 4 ∷ []) (loan (array-shared W u16 1024 l₆ tt tally (subst (Room u16) (sym (kept₁ .1 .0)) tally-room) size) ∷ passed-on W s₁ ∷ passed-on W s₂ ∷ passed-on W s₃ ∷ number W (head .clients) (clients-fit head head-is) ∷ []) (of-flag W) _
+      (λ c. known-balanced) (λ c h. h) (so 𝓤 (balanced-asked head ws su se dr asked tally size)) refl (λ c. vars ! (refl, (refl, (refl, (refl, (refl, tt)))))) (λ _. refl) (λ balanced last₃ told-balanced kept₃ _.
       -- verdict(next, zero, balanced)
-      asks ! 𝓣 [] (flag W next ∷ flag W zero ∷ flag W balanced ∷ []) (id⊢ 𝓤 (emp 𝓤)) (of-number W w64) _
-      (λ c. known-verdict) (λ c h. h) refl (λ c. vars ! (refl, (refl, (refl, tt)))) (λ _. refl) refl (λ r last₄ told kept₄ r-is.
+      asks ! 𝓣 [] (flag W next ∷ flag W zero ∷ flag W balanced ∷ []) (of-number W w64) _
+      (λ c. known-verdict) (λ c h. h) (id⊢ 𝓤 (emp 𝓤)) refl (λ c. vars ! (refl, (refl, (refl, tt)))) (λ _. refl) (λ r last₄ told kept₄ r-is.
       use1 W (‵ (froom (tyArray (lone (u16 .mir)) 1024) l₆ 0)) (array-room W u16 1024 l₆ tally) $ puts-back ! 6 $
       gives ! refl refl $ leaves (vint w64 r) r tt tt (of-number W w64 .makes r _ r-is) (so 𝓤 (contents-told head ws su se dr asked tally next zero balanced r passed-next told-zero told-balanced told))))))))
 

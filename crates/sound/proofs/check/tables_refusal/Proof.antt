@@ -50,12 +50,12 @@ module _ {M : Type 1} (𝓤 : URA M) (H : Heap 𝓤) (A : Atoms 𝓤) (W : Given
       writes ! (of-opd ! (field-var ! refl refl refl)) refl (tt, fit (s₂ .room .0)) $
       writes ! (of-opd ! (field-var ! refl refl refl)) refl (tt, fit (s₃ .room .0)) $
       -- let clients = rows::shortest(submitted.len(), served.len(), dropped.len());
-      asks ! 𝓣 [] (number W (length su) (s₁ .room .0) ∷ number W (length se) (s₂ .room .0) ∷ number W (length dr) (s₃ .room .0) ∷ []) (id⊢ 𝓤 (emp 𝓤)) (of-number W w64) _
-      (λ c. known-shortest) (λ c h. h) refl (λ c. vars ! (refl, (refl, (refl, tt)))) (λ _. refl) refl (λ clients last₁ clients-told kept₁ clients-is.
+      asks ! 𝓣 [] (number W (length su) (s₁ .room .0) ∷ number W (length se) (s₂ .room .0) ∷ number W (length dr) (s₃ .room .0) ∷ []) (of-number W w64) _
+      (λ c. known-shortest) (λ c h. h) (id⊢ 𝓤 (emp 𝓤)) refl (λ c. vars ! (refl, (refl, (refl, tt)))) (λ _. refl) (λ clients last₁ clients-told kept₁ clients-is.
       writes ! (of-opd ! (field-var ! refl refl refl)) refl (tt, fit (s₀ .room .0)) $
       -- let refusal = head_refusal(head, waiting.len(), clients);
-      asks ! 𝓣 [] (the-head W head head-is ∷ number W (length ws) (s₀ .room .0) ∷ number W clients (clients-is .1) ∷ []) (id⊢ 𝓤 (emp 𝓤)) (of-number W w64) _
-      (λ c. known-head) (λ c h. h) refl (λ c. vars ! (refl, (refl, (refl, tt)))) (λ _. refl) refl (λ refusal last₂ refusal-told kept₂ refusal-is.
+      asks ! 𝓣 [] (the-head W head head-is ∷ number W (length ws) (s₀ .room .0) ∷ number W clients (clients-is .1) ∷ []) (of-number W w64) _
+      (λ c. known-head) (λ c h. h) (id⊢ 𝓤 (emp 𝓤)) refl (λ c. vars ! (refl, (refl, (refl, tt)))) (λ _. refl) (λ refusal last₂ refusal-told kept₂ refusal-is.
       let seen : refusal ≡ Headed head ws su se dr = refusal-told ∙ ap (headRefusal head (length ws)) (clients-told ∙ sym (length-rows countOf su se dr)) in
       writes ! (bin ! (var ! refl) (lit ! tt) tt) refl (tt, tt) $
       branches-then ! (var ! refl) (λ held.
@@ -64,8 +64,8 @@ module _ {M : Type 1} (𝓤 : URA M) (H : Heap 𝓤) (A : Atoms 𝓤) (W : Given
       first ! $ gives-within ! Q refl refl refl $ leaves (vint w64 refusal) refusal tt tt (of-number W w64 .makes refusal _ refusal-is) (so 𝓤 (seen ∙ refused head ws su se dr (λ e. not-zero refusal held (seen ∙ e)))))
       (λ failed. skips-then ! $
       -- contents_refusal(waiting, submitted, served, dropped, head)
-      asks ! 𝓣 (0 ∷ 1 ∷ 2 ∷ 3 ∷ []) (passed-on W s₀ ∷ passed-on W s₁ ∷ passed-on W s₂ ∷ passed-on W s₃ ∷ the-head W head head-is ∷ []) (so 𝓤 (sym seen ∙ is-zero refusal failed)) (of-number W w64) _
-      (λ c. known-contents) (λ c h. h) refl (λ c. vars ! (refl, (refl, (refl, (refl, (refl, tt)))))) (λ _. refl) refl (λ r last₃ told kept₃ r-is.
+      asks ! 𝓣 (0 ∷ 1 ∷ 2 ∷ 3 ∷ []) (passed-on W s₀ ∷ passed-on W s₁ ∷ passed-on W s₂ ∷ passed-on W s₃ ∷ the-head W head head-is ∷ []) (of-number W w64) _
+      (λ c. known-contents) (λ c h. h) (so 𝓤 (sym seen ∙ is-zero refusal failed)) refl (λ c. vars ! (refl, (refl, (refl, (refl, (refl, tt)))))) (λ _. refl) (λ r last₃ told kept₃ r-is.
       gives ! refl refl $ leaves (vint w64 r) r tt tt (of-number W w64 .makes r _ r-is) (so 𝓤 told)))))
 
 pub tables-refusal-spec : {M : Type 1} → f.Statement.statement M

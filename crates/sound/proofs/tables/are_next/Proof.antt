@@ -1,17 +1,15 @@
 -- `sound::tables::are_next` meets its contract: a walk of two calls, `fours` and `rest`, on both slices.
 -- Assumes nothing.
 use denote.Steps.{heard}
-use Rattle.walk.proofs.Prelude.{_≡_, refl, _∙_, Bool, true, ℕ, _*_, _/_, _%_, _<_, _≤_, _-_, _^_, lt-of-le-of-lt, arith, List, [], _∷_, length, lit<, URA, w64, vbool, SProp, Memory, Routine, Heap, Tables, Atoms, Fun, Given, _$_, !, lit, bin, u16, bool, tripleOf}
+use Rattle.walk.proofs.Prelude.{refl, _∙_, true, ℕ, _*_, _/_, _<_, _≤_, _^_, lt-of-le-of-lt, arith, List, [], _∷_, lit<, URA, w64, vbool, SProp, Memory, Routine, Heap, Tables, Atoms, Fun, Given, _$_, !, lit, bin, u16, bool, tripleOf}
 use Rattle.walk.proofs.Enter.{shown, lent, uint, so}
 use Rattle.walk.proofs.Proves.{Shape, Walk}
 use Rattle.walk.proofs.Locals.{var, vars, relends, gives}
 use Rattle.walk.proofs.At.{passed-on, mut-of}
 use Rattle.walk.proofs.Slices.Loans.{number, flag}
-use Rattle.spec.specs.declared.types.Head.{Head}
 use Rattle.spec.specs.declared.types.Request.{Request}
 use Rattle.table.proofs.Rows.{R}
 use Rattle.table.proofs.Heads.{a-head, the-head}
-use Rattle.sound.specs.Checks.{Bounded, Countable, turns}
 use Rattle.sound.proofs.Turns.{fewer-bounded, sets-out, turns-on, pass-told}
 use Rattle.sound.proofs.Tally.{fewer-countable}
 use Rattle.sound.proofs.Walking.{fit, of-flag}
@@ -20,14 +18,6 @@ use Rattle.sound.proofs.Walking.{writes, asks}
 use Rattle.sound.proofs.tables.fours as fours
 use Rattle.sound.proofs.tables.rest as rest-of
 use Rattle.sound.proofs.tables.are_next as f
-
--- what `fours` and `rest` ask
-module _ (ys : List Request) (tally₀ : List ℕ) (head : Head) (m n : ℕ) (within : Bounded head n × (n ≤ length ys) × Countable n tally₀) (less : m ≤ n) where
-  fours-may : m % 4 ≡ 0 → Bounded head m × (m ≤ length ys) × (m % 4 ≡ 0) × Countable m tally₀
-  fours-may e = (fewer-bounded m (within .0) less, omega (arith, within .1), e, fewer-countable tally₀ n m (within .2) less)
-
-  rest-may : (p : Bool) (tally : List ℕ) → (p, tally) ≡ turns head ys 0 m (true, tally₀) → Bounded head n × (n ≤ length ys) × (m ≤ n) × Countable (n - m) tally
-  rest-may p tally e = (within .0, within .1, less, turns-on (sets-out head ys 0 n n true tally₀ (omega arith) (within .2)) (within .0) m m (omega arith) less e .countable)
 
 module _ {M : Type 1} (𝓤 : URA M) (H : Heap 𝓤) (A : Atoms 𝓤) (W : Given 𝓤 H A) (mem : Memory → SProp 𝓤) (run : Routine → Fun 𝓤) where
   abbrev shape : Shape W
@@ -50,19 +40,19 @@ module _ {M : Type 1} (𝓤 : URA M) (H : Heap 𝓤) (A : Atoms 𝓤) (W : Given
       let m : ℕ = n / 4 * 4 in
       let less : m ≤ n = omega arith in
       let m-fits : m < 2 ^ 64 = lt-of-le-of-lt less (n-is .1) in
-      heard ! (Bounded head n × (n ≤ length ys) × Countable n tally₀) (λ within.
+      heard ! _ (λ within.
       -- let m = n / 4 * 4;
       writes ! (bin ! (var ! refl) (lit ! tt) (lit< tt)) refl (tt, fit (omega (arith, n-is .1))) $
       writes ! (bin ! (var ! refl) (lit ! tt) (fit m-fits)) refl (tt, fit m-fits) $
       -- let p = fours(t, tally, head, m);
       relends ! (tally .room .0) refl refl refl $
-      asks ! 𝓣 (0 ∷ 1 ∷ []) (passed-on W t ∷ mut-of W tally tally₀ refl ∷ the-head W head head-is ∷ number W m m-fits ∷ []) (so 𝓤 (fours-may ys tally₀ head m n within less (omega arith))) (of-flag W) _
-      (λ c. known-fours) (λ c h. h) refl (λ c. vars ! (refl, (refl, (refl, (refl, tt))))) (λ _. refl) refl (λ p last₁ told₁ kept₁ _.
+      asks ! 𝓣 (0 ∷ 1 ∷ []) (passed-on W t ∷ mut-of W tally tally₀ refl ∷ the-head W head head-is ∷ number W m m-fits ∷ []) (of-flag W) _
+      (λ c. known-fours) (λ c h. h) (so 𝓤 (fewer-bounded m (within .0) less, omega (arith, within .1), omega arith, fewer-countable tally₀ n m (within .2) less)) refl (λ c. vars ! (refl, (refl, (refl, (refl, tt))))) (λ _. refl) (λ p last₁ told₁ kept₁ _.
       let tally₁ : List ℕ = last₁ .1 .0 in
       -- rest(t, tally, head, m, n, p)
       relends ! (tally .room .0) refl refl refl $
-      asks ! 𝓣 (0 ∷ 1 ∷ []) (passed-on W t ∷ mut-of W tally tally₁ (kept₁ .1 .0) ∷ the-head W head head-is ∷ number W m m-fits ∷ number W n (n-is .1) ∷ flag W p ∷ []) (so 𝓤 (rest-may ys tally₀ head m n within less p tally₁ told₁)) (of-flag W) _
-      (λ c. known-rest) (λ c h. h) refl (λ c. vars ! (refl, (refl, (refl, (refl, (refl, (refl, tt))))))) (λ _. refl) refl (λ r last₂ told₂ kept₂ _.
+      asks ! 𝓣 (0 ∷ 1 ∷ []) (passed-on W t ∷ mut-of W tally tally₁ (kept₁ .1 .0) ∷ the-head W head head-is ∷ number W m m-fits ∷ number W n (n-is .1) ∷ flag W p ∷ []) (of-flag W) _
+      (λ c. known-rest) (λ c h. h) (so 𝓤 (within .0, within .1, less, turns-on (sets-out head ys 0 n n true tally₀ (omega arith) (within .2)) (within .0) m m (omega arith) less told₁ .countable)) refl (λ c. vars ! (refl, (refl, (refl, (refl, (refl, (refl, tt))))))) (λ _. refl) (λ r last₂ told₂ kept₂ _.
       gives ! refl refl $ leaves (vbool r) r (last₂ .1 .0, tt) (kept₂ .1 .0 ∙ kept₁ .1 .0, tt) (of-flag W .makes r _ refl)
       (so 𝓤 (pass-told head ys m n tally₀ tally₁ (last₂ .1 .0) p r (within .0) (within .1) (within .2) less told₁ told₂)))))
 

@@ -2,7 +2,7 @@
 -- Assumes nothing.
 use lib.ListN.{drop as dropN}
 use denote.Steps.{heard}
-use Rattle.walk.proofs.Prelude.{_≡_, refl, Bool, _&&_, ℕ, _+_, _<_, _-_, _^_, _%_, _*_, _/_, _≤_, lt-of-le-of-lt, arith, List, [], _∷_, length, lit<, URA, w64, vbool, SProp, emp, id⊢, Memory, Routine, Heap, Tables, Atoms, Fun, Given, _$_, !, lit, of-opd, bin, bool, tripleOf}
+use Rattle.walk.proofs.Prelude.{refl, Bool, _&&_, ℕ, _+_, _<_, _-_, _^_, _*_, _/_, _≤_, lt-of-le-of-lt, arith, List, [], _∷_, length, lit<, URA, w64, vbool, SProp, emp, id⊢, Memory, Routine, Heap, Tables, Atoms, Fun, Given, _$_, !, lit, of-opd, bin, bool, tripleOf}
 use Rattle.walk.proofs.Enter.{shown, uint, so}
 use Rattle.walk.proofs.Proves.{Shape, Walk}
 use Rattle.walk.proofs.Locals.{var, vars, field-var, gives}
@@ -39,10 +39,9 @@ module _ {M : Type 1} (𝓤 : URA M) (H : Heap 𝓤) (A : Atoms 𝓤) (W : Given
       let ys : List Request = t .list in
       let n : ℕ = length ys in
       let m : ℕ = start + (n - start) / 4 * 4 in
-      heard ! (start ≤ n) (λ within.
+      heard ! _ (λ within.
       let fits : (j : ℕ) → j ≤ n → j < 2 ^ 64 = λ j less. lt-of-le-of-lt less (t .room .0) in
       let most : m ≤ n = omega (arith, within) in
-      let asked : (m ≤ n) × ((m - start) % 4 ≡ 0) = (most, omega arith) in
       let p : Bool = areZero ys start m in
       let r : Bool = p && every isZeroRequest (dropN m ys) in
       writes ! (of-opd ! (field-var ! refl refl refl)) refl (tt, fit (t .room .0)) $
@@ -52,9 +51,9 @@ module _ {M : Type 1} (𝓤 : URA M) (H : Heap 𝓤) (A : Atoms 𝓤) (W : Given
       writes ! (bin ! (var ! refl) (lit ! tt) (fit (fits ((n - start) / 4 * 4) (omega arith)))) refl (tt, fit (fits ((n - start) / 4 * 4) (omega arith))) $
       computes ! refl refl (fit (fits m most)) refl (tt, fit (fits m most)) $
       -- let p = zero_fours(t, from, m);
-      asks-for ! 𝓣 (0 ∷ []) (passed-on W t ∷ number W start (start-is .1) ∷ number W m (fits m most) ∷ []) (so 𝓤 asked) (of-flag W) p (λ c. known-fours) (λ c h. h) refl (λ c. vars ! (refl, (refl, (refl, tt)))) (λ _. refl) refl (λ _ _.
+      asks-for ! 𝓣 (0 ∷ []) (passed-on W t ∷ number W start (start-is .1) ∷ number W m (fits m most) ∷ []) (of-flag W) p (λ c. known-fours) (λ c h. h) (so 𝓤 (most, omega arith)) refl (λ c. vars ! (refl, (refl, (refl, tt)))) (λ _. refl) (λ _ _.
       -- zero_rest(t, m, p)
-      asks-for ! 𝓣 (0 ∷ []) (passed-on W t ∷ number W m (fits m most) ∷ flag W p ∷ []) (id⊢ 𝓤 (emp 𝓤)) (of-flag W) r (λ c. known-rest) (λ c h. h) refl (λ c. vars ! (refl, (refl, (refl, tt)))) (λ _. refl) refl (λ _ _.
+      asks-for ! 𝓣 (0 ∷ []) (passed-on W t ∷ number W m (fits m most) ∷ flag W p ∷ []) (of-flag W) r (λ c. known-rest) (λ c h. h) (id⊢ 𝓤 (emp 𝓤)) refl (λ c. vars ! (refl, (refl, (refl, tt)))) (λ _. refl) (λ _ _.
       gives ! refl refl $ leaves (vbool r) r tt tt (of-flag W .makes r _ refl) (so 𝓤 (parts start m ys (omega arith))))))
 
 pub are-zero-spec : {M : Type 1} → f.Statement.statement M

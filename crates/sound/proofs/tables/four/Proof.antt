@@ -2,7 +2,7 @@
 -- on the `&mut [u16]`, which is lent again, by turns. After each turn it is known where the pass stands (`Reached`).
 -- Assumes nothing.
 use denote.Steps.{heard}
-use Rattle.walk.proofs.Prelude.{_≡_, refl, _∙_, true, ℕ, _+_, _<_, _≤_, _^_, lt-trans, arith, List, [], _∷_, length, getD, URA, w64, vbool, SProp, Memory, Routine, Heap, Tables, Atoms, Fun, Given, _$_, !, true-lit, and-then, u16, bool, tripleOf}
+use Rattle.walk.proofs.Prelude.{_≡_, refl, _∙_, true, ℕ, _+_, _<_, _^_, lt-trans, arith, List, [], _∷_, length, getD, URA, w64, vbool, SProp, Memory, Routine, Heap, Tables, Atoms, Fun, Given, _$_, !, true-lit, and-then, u16, bool, tripleOf}
 use Rattle.walk.proofs.Enter.{shown, lent, uint, so}
 use Rattle.walk.proofs.Proves.{Shape, Walk}
 use Rattle.walk.proofs.Locals.{vars, relends, gives}
@@ -13,7 +13,7 @@ use Rattle.spec.specs.Tables.{zeroRequest}
 use Rattle.table.proofs.Rows.{R, a-request, request}
 use Rattle.table.proofs.Heads.{a-head, the-head}
 use Rattle.table.proofs.get as get
-use Rattle.sound.specs.Checks.{Bounded, Countable, recordBefore}
+use Rattle.sound.specs.Checks.{Bounded}
 use Rattle.sound.proofs.Turns.{comes-next, sets-out, may-step, steps-on, turns-made}
 use Rattle.sound.proofs.Walking.{of-flag}
 use Rattle.sound.proofs.Walking.{proved}
@@ -30,7 +30,7 @@ module _ {M : Type 1} (𝓤 : URA M) (H : Heap 𝓤) (A : Atoms 𝓤) (W : Given
     clauses = f.clauses 𝓤 H A mem run;
     code = f.Code.function;
     lies = λ κs a. refl;
-    callees = (get.Symbol.name, Get 𝓤 H A mem run) ∷ (step.Symbol.name, tripleOf 𝓤 H A step.signature (step.spec 𝓤 H A mem run)) ∷ [];
+    callees = (get.Symbol.name, Get 𝓤 H A) ∷ (step.Symbol.name, tripleOf 𝓤 H A step.signature (step.spec 𝓤 H A mem run)) ∷ [];
   }
 
   walk : (𝓣 : Tables 𝓤 H) → Walk shape 𝓣
@@ -38,7 +38,7 @@ module _ {M : Type 1} (𝓤 : URA M) (H : Heap 𝓤) (A : Atoms 𝓤) (W : Given
       let ys : List Request = t .list in
       let tally₀ : List ℕ = tally .list in
       let r : ℕ → Request = λ j. getD ys j zeroRequest in
-      heard ! (Bounded head (i + 4) × (i + 4 ≤ length ys) × (before ≡ recordBefore ys i) × Countable 4 tally₀) (λ within.
+      heard ! _ (λ within.
       let bounds : Bounded head (i + 4) = within .0 in
       let here : (j : ℕ) → j < i + 4 → j < length ys = λ j less. omega (arith, less, within .1) in
       let fits : (j : ℕ) → j < i + 4 → j < 2 ^ 64 = λ j less. lt-trans (here j less) (t .room .0) in
@@ -48,41 +48,41 @@ module _ {M : Type 1} (𝓤 : URA M) (H : Heap 𝓤) (A : Atoms 𝓤) (W : Given
       let less₃ : i + 3 < i + 4 = omega arith in
       let reached₀ = sets-out head ys i (i + 4) 4 true tally₀ refl (within .3) in
       -- let a = table::get(t, i);
-      reads ! mem run 𝓣 known-get t i (here i less₀) refl (λ c. vars ! (refl, (refl, tt))) refl refl (λ a-is.
+      reads ! 𝓣 known-get t i (here i less₀) refl (λ c. (refl, (refl, tt))) refl (λ a-is.
       -- let p = step(true, tally, head, i, before, a);
       relends ! (tally .room .0) refl refl refl $
-      asks ! 𝓣 (1 ∷ []) (flag W true ∷ mut-of W tally tally₀ refl ∷ the-head W head head-is ∷ number W i (i-is .1) ∷ request W before before-is ∷ request W (r i) a-is ∷ []) (so 𝓤 (may-step reached₀ bounds less₀)) (of-flag W) _
-      (λ c. known-step) (λ c h. h) refl (λ c. and-then ! (true-lit !) (vars ! (refl, (refl, (refl, (refl, (refl, tt))))))) (λ _. refl) refl (λ p last₁ told₁ kept₁ _.
+      asks ! 𝓣 (1 ∷ []) (flag W true ∷ mut-of W tally tally₀ refl ∷ the-head W head head-is ∷ number W i (i-is .1) ∷ request W before before-is ∷ request W (r i) a-is ∷ []) (of-flag W) _
+      (λ c. known-step) (λ c h. h) (so 𝓤 (may-step reached₀ bounds less₀)) refl (λ c. and-then ! (true-lit !) (vars ! (refl, (refl, (refl, (refl, (refl, tt))))))) (λ _. refl) (λ p last₁ told₁ kept₁ _.
       let reached₁ = steps-on reached₀ bounds (within .2) less₀ (i + 1) refl told₁ in
       let size₁ : length (last₁ .1 .0) ≡ length tally₀ = kept₁ .0 in
       -- let b = table::get(t, i + 1);
       adds ! (fits (i + 1) less₁) tt refl refl refl $
-      reads ! mem run 𝓣 known-get t (i + 1) (here (i + 1) less₁) refl (λ c. vars ! (refl, (refl, tt))) refl refl (λ b-is.
+      reads ! 𝓣 known-get t (i + 1) (here (i + 1) less₁) refl (λ c. (refl, (refl, tt))) refl (λ b-is.
       -- let q = step(p, tally, head, i + 1, a, b);
       relends ! (tally .room .0) refl refl refl $
       adds ! (fits (i + 1) less₁) tt refl refl refl $
-      asks ! 𝓣 (1 ∷ []) (flag W p ∷ mut-of W tally (last₁ .1 .0) size₁ ∷ the-head W head head-is ∷ number W (i + 1) (fits (i + 1) less₁) ∷ request W (r i) a-is ∷ request W (r (i + 1)) b-is ∷ []) (so 𝓤 (may-step reached₁ bounds less₁)) (of-flag W) _
-      (λ c. known-step) (λ c h. h) refl (λ c. vars ! (refl, (refl, (refl, (refl, (refl, (refl, tt))))))) (λ _. refl) refl (λ q last₂ told₂ kept₂ _.
+      asks ! 𝓣 (1 ∷ []) (flag W p ∷ mut-of W tally (last₁ .1 .0) size₁ ∷ the-head W head head-is ∷ number W (i + 1) (fits (i + 1) less₁) ∷ request W (r i) a-is ∷ request W (r (i + 1)) b-is ∷ []) (of-flag W) _
+      (λ c. known-step) (λ c h. h) (so 𝓤 (may-step reached₁ bounds less₁)) refl (λ c. vars ! (refl, (refl, (refl, (refl, (refl, (refl, tt))))))) (λ _. refl) (λ q last₂ told₂ kept₂ _.
       let reached₂ = steps-on reached₁ bounds (comes-next ys i (i + 1) refl) less₁ (i + 2) (omega arith) told₂ in
       let size₂ : length (last₂ .1 .0) ≡ length tally₀ = kept₂ .0 ∙ size₁ in
       -- let c = table::get(t, i + 2);
       adds ! (fits (i + 2) less₂) tt refl refl refl $
-      reads ! mem run 𝓣 known-get t (i + 2) (here (i + 2) less₂) refl (λ c. vars ! (refl, (refl, tt))) refl refl (λ c-is.
+      reads ! 𝓣 known-get t (i + 2) (here (i + 2) less₂) refl (λ c. (refl, (refl, tt))) refl (λ c-is.
       -- let r = step(q, tally, head, i + 2, b, c);
       relends ! (tally .room .0) refl refl refl $
       adds ! (fits (i + 2) less₂) tt refl refl refl $
-      asks ! 𝓣 (1 ∷ []) (flag W q ∷ mut-of W tally (last₂ .1 .0) size₂ ∷ the-head W head head-is ∷ number W (i + 2) (fits (i + 2) less₂) ∷ request W (r (i + 1)) b-is ∷ request W (r (i + 2)) c-is ∷ []) (so 𝓤 (may-step reached₂ bounds less₂)) (of-flag W) _
-      (λ c. known-step) (λ c h. h) refl (λ c. vars ! (refl, (refl, (refl, (refl, (refl, (refl, tt))))))) (λ _. refl) refl (λ s last₃ told₃ kept₃ _.
+      asks ! 𝓣 (1 ∷ []) (flag W q ∷ mut-of W tally (last₂ .1 .0) size₂ ∷ the-head W head head-is ∷ number W (i + 2) (fits (i + 2) less₂) ∷ request W (r (i + 1)) b-is ∷ request W (r (i + 2)) c-is ∷ []) (of-flag W) _
+      (λ c. known-step) (λ c h. h) (so 𝓤 (may-step reached₂ bounds less₂)) refl (λ c. vars ! (refl, (refl, (refl, (refl, (refl, (refl, tt))))))) (λ _. refl) (λ s last₃ told₃ kept₃ _.
       let reached₃ = steps-on reached₂ bounds (comes-next ys (i + 1) (i + 2) (omega arith)) less₂ (i + 3) (omega arith) told₃ in
       let size₃ : length (last₃ .1 .0) ≡ length tally₀ = kept₃ .0 ∙ size₂ in
       -- let d = table::get(t, i + 3);
       adds ! (fits (i + 3) less₃) tt refl refl refl $
-      reads ! mem run 𝓣 known-get t (i + 3) (here (i + 3) less₃) refl (λ c. vars ! (refl, (refl, tt))) refl refl (λ d-is.
+      reads ! 𝓣 known-get t (i + 3) (here (i + 3) less₃) refl (λ c. (refl, (refl, tt))) refl (λ d-is.
       -- step(r, tally, head, i + 3, c, d)
       relends ! (tally .room .0) refl refl refl $
       adds ! (fits (i + 3) less₃) tt refl refl refl $
-      asks ! 𝓣 (1 ∷ []) (flag W s ∷ mut-of W tally (last₃ .1 .0) size₃ ∷ the-head W head head-is ∷ number W (i + 3) (fits (i + 3) less₃) ∷ request W (r (i + 2)) c-is ∷ request W (r (i + 3)) d-is ∷ []) (so 𝓤 (may-step reached₃ bounds less₃)) (of-flag W) _
-      (λ c. known-step) (λ c h. h) refl (λ c. vars ! (refl, (refl, (refl, (refl, (refl, (refl, tt))))))) (λ _. refl) refl (λ u last₄ told₄ kept₄ _.
+      asks ! 𝓣 (1 ∷ []) (flag W s ∷ mut-of W tally (last₃ .1 .0) size₃ ∷ the-head W head head-is ∷ number W (i + 3) (fits (i + 3) less₃) ∷ request W (r (i + 2)) c-is ∷ request W (r (i + 3)) d-is ∷ []) (of-flag W) _
+      (λ c. known-step) (λ c h. h) (so 𝓤 (may-step reached₃ bounds less₃)) refl (λ c. vars ! (refl, (refl, (refl, (refl, (refl, (refl, tt))))))) (λ _. refl) (λ u last₄ told₄ kept₄ _.
       gives ! refl refl $ leaves (vbool u) u (last₄ .1 .0, tt) (kept₄ .0 ∙ size₃, tt) (of-flag W .makes u _ refl)
       (so 𝓤 (turns-made (steps-on reached₃ bounds (comes-next ys (i + 2) (i + 3) (omega arith)) less₃ (i + 4) (omega arith) told₄) bounds 4 refl refl)))))))))))
 

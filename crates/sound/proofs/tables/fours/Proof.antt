@@ -2,7 +2,7 @@
 -- A turn stands wherever the pass has come to (`Turn`), at a whole number of fours.
 -- Assumes nothing.
 use denote.Steps.{heard}
-use Rattle.walk.proofs.Prelude.{_≡_, refl, _∙_, true, ℕ, _+_, _<_, _≤_, _-_, _^_, _%_, lt-of-le-of-lt, le-trans, arith, List, [], _∷_, length, getD, lit<, URA, w64, vbool, vint, SProp, Memory, Routine, Heap, Tables, Atoms, Fun, Given, ‵, _$_, !, agg, lit, true-lit, of-opd, and-then, no-more, u16, bool, tripleOf}
+use Rattle.walk.proofs.Prelude.{_≡_, refl, _∙_, true, ℕ, _+_, _<_, _≤_, _-_, _^_, _%_, lt-of-le-of-lt, le-trans, arith, List, [], _∷_, getD, lit<, URA, w64, vbool, vint, SProp, Memory, Routine, Heap, Tables, Atoms, Fun, Given, ‵, _$_, !, agg, lit, true-lit, of-opd, and-then, no-more, u16, bool, tripleOf}
 use Rattle.walk.proofs.Enter.{shown, lent, uint, so}
 use Rattle.walk.proofs.Proves.{Shape, Walk}
 use Rattle.walk.proofs.Inside.{Lent-at}
@@ -15,7 +15,6 @@ use Rattle.spec.specs.Tables.{zeroRequest}
 use Rattle.table.proofs.Rows.{R, mach, lawful, zero-is, request}
 use Rattle.table.proofs.Heads.{a-head, the-head}
 use Rattle.table.proofs.get as get
-use Rattle.sound.specs.Checks.{Bounded, Countable, recordBefore}
 use Rattle.sound.proofs.Turns.{comes-next, sets-out, may-turn, turns-on, turns-over}
 use Rattle.sound.proofs.Walking.{fit, of-flag}
 use Rattle.sound.proofs.Walking.{goes-round}
@@ -33,14 +32,14 @@ module _ {M : Type 1} (𝓤 : URA M) (H : Heap 𝓤) (A : Atoms 𝓤) (W : Given
     clauses = f.clauses 𝓤 H A mem run;
     code = f.Code.function;
     lies = λ κs a. refl;
-    callees = (get.Symbol.name, Get 𝓤 H A mem run) ∷ (four.Symbol.name, tripleOf 𝓤 H A four.signature (four.spec 𝓤 H A mem run)) ∷ [];
+    callees = (get.Symbol.name, Get 𝓤 H A) ∷ (four.Symbol.name, tripleOf 𝓤 H A four.signature (four.spec 𝓤 H A mem run)) ∷ [];
   }
 
   walk : (𝓣 : Tables 𝓤 H) → Walk shape 𝓣
   walk 𝓣 known-get known-four κs qs t tally head head-is n n-is g Q leaves bs =
       let ys : List Request = t .list in
       let tally₀ : List ℕ = tally .list in
-      heard ! (Bounded head n × (n ≤ length ys) × (n % 4 ≡ 0) × Countable n tally₀) (λ within.
+      heard ! _ (λ within.
       writes ! (agg ! (and-then ! (lit ! tt) (and-then ! (lit ! tt) (and-then ! (lit ! tt) (no-more !))))) refl (lawful 𝓤 H A W .typed zeroRequest _ zero-is .0) $
       writes ! (of-opd ! (true-lit !)) refl (tt, tt) $
       writes ! (of-opd ! (lit ! tt)) refl (tt, fit (lit< tt)) $
@@ -55,14 +54,13 @@ module _ {M : Type 1} (𝓤 : URA M) (H : Heap 𝓤) (A : Atoms 𝓤) (W : Given
       let last : i + 4 ≤ n = omega (arith, on .0, u .1, within .2) in
       let fits : (j : ℕ) → j ≤ i + 4 → j < 2 ^ 64 = λ j less. lt-of-le-of-lt (le-trans less last) (n-is .1) in
       let may = may-turn (on .1) (within .0) 4 last in
-      let asked : Bounded head (i + 4) × (i + 4 ≤ length ys) × (u .0 .before ≡ recordBefore ys i) × Countable 4 (u .0 .tally) = (may .0, omega (arith, within .1), u .0 .behind, may .1) in
       -- passed = four(t, tally, head, i, before);
       relends ! (tally .room .0) refl refl refl $
-      asks ! 𝓣 (0 ∷ 1 ∷ []) (passed-on W t ∷ mut-of W tally (u .0 .tally) (u .0 .size) ∷ the-head W head head-is ∷ number W i (fits i (omega arith)) ∷ request W (u .0 .before) (u .0 .before-is) ∷ []) (so 𝓤 asked) (of-flag W) _
-      (λ c. known-four) (λ c h. h) refl (λ c. vars ! (refl, (refl, (refl, (refl, (refl, tt)))))) (λ _. refl) refl (λ r left told kept _.
+      asks ! 𝓣 (0 ∷ 1 ∷ []) (passed-on W t ∷ mut-of W tally (u .0 .tally) (u .0 .size) ∷ the-head W head head-is ∷ number W i (fits i (omega arith)) ∷ request W (u .0 .before) (u .0 .before-is) ∷ []) (of-flag W) _
+      (λ c. known-four) (λ c h. h) (so 𝓤 (may .0, omega (arith, within .1), u .0 .behind, may .1)) refl (λ c. vars ! (refl, (refl, (refl, (refl, (refl, tt)))))) (λ _. refl) (λ r left told kept _.
       -- before = table::get(t, i + 3);
       adds ! (fits (i + 3) (omega arith)) tt refl refl refl $
-      reads ! mem run 𝓣 known-get t (i + 3) (omega (arith, within .1)) refl (λ c. vars ! (refl, (refl, tt))) refl refl (λ is.
+      reads ! 𝓣 known-get t (i + 3) (omega (arith, within .1)) refl (λ c. (refl, (refl, tt))) refl (λ is.
       -- i += 4
       adds-last ! (fits (i + 4) (omega arith)) tt refl refl refl $
       round .turns-to ! (record { i = i + 4; before = getD ys (i + 3) zeroRequest; passed = r; tally = left .1 .0; before-is = is; size = kept .1 .0 ∙ u .0 .size; behind = comes-next ys (i + 3) (i + 4) (omega arith); reached = turns-on (on .1) (within .0) 4 (i + 4) refl last told }, omega (arith, u .1)) (omega arith) refl)))

@@ -4,7 +4,7 @@ use Rattle.walk.proofs.Prelude.{_≡_, refl, not, ℕ, _<_, _≤_, _-_, lt-tran
 use denote.Steps.{heard}
 use Rattle.walk.proofs.Enter.{shown, uint, so}
 use Rattle.walk.proofs.Proves.{Shape, Walk}
-use Rattle.walk.proofs.Locals.{var, vars, gives, gives-within}
+use Rattle.walk.proofs.Locals.{var, gives, gives-within}
 use Rattle.walk.proofs.Steps.{branches-then, into-assign, skips-then}
 use Rattle.spec.specs.declared.types.Request.{Request}
 use Rattle.spec.specs.Tables.{zeroRequest}
@@ -33,13 +33,13 @@ module _ {M : Type 1} (𝓤 : URA M) (H : Heap 𝓤) (A : Atoms 𝓤) (W : Given
     clauses = f.clauses 𝓤 H A mem run;
     code = f.Code.function;
     lies = λ κs a. refl;
-    callees = (get.Symbol.name, Get 𝓤 H A mem run) ∷ [];
+    callees = (get.Symbol.name, Get 𝓤 H A) ∷ [];
   }
 
   walk : (𝓣 : Tables 𝓤 H) → Walk shape 𝓣
   walk 𝓣 known-get κs qs t i i-is g Q leaves bs =
       let ys : List Request = t .list in
-      heard ! (i ≤ length ys) (λ within.
+      heard ! _ (λ within.
       writes ! (bin ! (var ! refl) (lit ! tt) tt) refl (tt, tt) $
       branches-then ! (var ! refl)
       (λ first-one. into-assign ! $
@@ -51,7 +51,7 @@ module _ {M : Type 1} (𝓤 : URA M) (H : Heap 𝓤) (A : Atoms 𝓤) (W : Given
       let r : Request = getD ys (i - 1) zeroRequest in
       -- table::get(t, i - 1)
       writes ! (bin ! (var ! refl) (lit ! tt) some) refl (tt, fit (lt-trans less (t .room .0))) $
-      reads ! mem run 𝓣 known-get t (i - 1) less refl (λ c. vars ! (refl, (refl, tt))) refl refl (λ is.
+      reads ! 𝓣 known-get t (i - 1) less refl (λ c. (refl, (refl, tt))) refl (λ is.
       gives ! refl refl $ leaves (mach r) r tt tt (of-request W .makes r _ is) (so 𝓤 (comes-next ys (i - 1) i (omega (arith, some)))))))
 
 pub previous-spec : {M : Type 1} → f.Statement.statement M

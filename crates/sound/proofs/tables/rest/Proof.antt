@@ -2,7 +2,7 @@
 -- on the other, and of `is_near`. A turn stands wherever the pass has come to (`Turn`).
 -- Assumes nothing.
 use denote.Steps.{heard}
-use Rattle.walk.proofs.Prelude.{refl, _∙_, _&&_, true, ℕ, _+_, _≤_, _-_, lt-trans, lt-of-le-of-lt, le-trans, arith, add-one-le, add-one-dec, List, [], _∷_, length, getD, URA, w64, vbool, vint, SProp, Memory, Routine, Heap, Tables, Atoms, Fun, Given, ‵, _$_, !, true-lit, and-then, no-more, u16, bool, tripleOf}
+use Rattle.walk.proofs.Prelude.{refl, _∙_, _&&_, true, ℕ, _+_, _-_, lt-trans, lt-of-le-of-lt, le-trans, arith, add-one-le, add-one-dec, List, [], _∷_, getD, URA, w64, vbool, vint, SProp, Memory, Routine, Heap, Tables, Atoms, Fun, Given, ‵, _$_, !, true-lit, and-then, no-more, u16, bool, tripleOf}
 use Rattle.walk.proofs.Enter.{shown, lent, uint, boolean, so}
 use Rattle.walk.proofs.Proves.{Shape, Walk}
 use Rattle.walk.proofs.Inside.{Lent-at}
@@ -15,7 +15,7 @@ use Rattle.spec.specs.Tables.{zeroRequest}
 use Rattle.table.proofs.Rows.{R, mach, lawful, request, deadline-fits}
 use Rattle.table.proofs.Heads.{a-head, the-head}
 use Rattle.table.proofs.get as get
-use Rattle.sound.specs.Checks.{Bounded, Countable, recordBefore, isNear}
+use Rattle.sound.specs.Checks.{recordBefore, isNear}
 use Rattle.sound.proofs.Turns.{comes-next, sets-out, may-step, steps-on, asked-over}
 use Rattle.sound.proofs.Walking.{fit, of-flag}
 use Rattle.sound.proofs.Walking.{goes-round}
@@ -37,7 +37,7 @@ module _ {M : Type 1} (𝓤 : URA M) (H : Heap 𝓤) (A : Atoms 𝓤) (W : Given
     lies = λ κs a. refl;
     callees =
         (previous.Symbol.name, tripleOf 𝓤 H A previous.signature (previous.spec 𝓤 H A mem run))
-        ∷ (get.Symbol.name, Get 𝓤 H A mem run)
+        ∷ (get.Symbol.name, Get 𝓤 H A)
         ∷ (step.Symbol.name, tripleOf 𝓤 H A step.signature (step.spec 𝓤 H A mem run))
         ∷ (is-near.Symbol.name, tripleOf 𝓤 H A is-near.signature (is-near.spec 𝓤 H A mem run))
         ∷ [];
@@ -47,9 +47,9 @@ module _ {M : Type 1} (𝓤 : URA M) (H : Heap 𝓤) (A : Atoms 𝓤) (W : Given
   walk 𝓣 known-previous known-get known-step known-near κs qs t tally head head-is start start-is n n-is ok ok-is g Q leaves bs =
       let ys : List Request = t .list in
       let tally₀ : List ℕ = tally .list in
-      heard ! (Bounded head n × (n ≤ length ys) × (start ≤ n) × Countable (n - start) tally₀) (λ within.
+      heard ! _ (λ within.
       -- let mut before = previous(t, from);
-      asks-for ! 𝓣 (0 ∷ []) (passed-on W t ∷ number W start (start-is .1) ∷ []) (so 𝓤 (le-trans (within .2) (within .1))) (of-request W) (recordBefore ys start) (λ c. known-previous) (λ c h. h) refl (λ c. vars ! (refl, (refl, tt))) (λ _. refl) refl (λ _ before-is.
+      asks-for ! 𝓣 (0 ∷ []) (passed-on W t ∷ number W start (start-is .1) ∷ []) (of-request W) (recordBefore ys start) (λ c. known-previous) (λ c h. h) (so 𝓤 (le-trans (within .2) (within .1))) refl (λ c. vars ! (refl, (refl, tt))) (λ _. refl) (λ _ before-is.
       copies ! refl refl (tt, tt) $
       copies ! refl refl (tt, fit (start-is .1)) $
       goes-round ! 𝓣 (λ (u : Turn head ys start (ok, tally₀) n). n - u .i) (λ u. (1, ‵ (Lent-at tally (u .tally))) ∷ []) (λ u. (7, mach (u .before)) ∷ (8, vbool (u .passed)) ∷ (9, vint w64 (u .i)) ∷ [])
@@ -62,19 +62,19 @@ module _ {M : Type 1} (𝓤 : URA M) (H : Heap 𝓤) (A : Atoms 𝓤) (W : Given
       let on = goes-on u held in
       let w : Request = getD ys i zeroRequest in
       -- let w = table::get(t, i);
-      reads ! mem run 𝓣 known-get t i (omega (arith, on .0, within .1)) refl (λ c. vars ! (refl, (refl, tt))) refl refl (λ is.
+      reads ! 𝓣 known-get t i (omega (arith, on .0, within .1)) refl (λ c. (refl, (refl, tt))) refl (λ is.
       -- passed = step(true, tally, head, i, before, w);
       relends ! (tally .room .0) refl refl refl $
-      asks ! 𝓣 (1 ∷ []) (flag W true ∷ mut-of W tally (u .tally) (u .size) ∷ the-head W head head-is ∷ number W i (lt-trans (on .0) (n-is .1)) ∷ request W (u .before) (u .before-is) ∷ request W w is ∷ []) (so 𝓤 (may-step (on .1) (within .0) (on .0))) (of-flag W) _
-      (λ c. known-step) (λ c h. h) refl (λ c. and-then ! (true-lit !) (vars ! (refl, (refl, (refl, (refl, (refl, tt))))))) (λ _. refl) refl (λ r last told kept _.
+      asks ! 𝓣 (1 ∷ []) (flag W true ∷ mut-of W tally (u .tally) (u .size) ∷ the-head W head head-is ∷ number W i (lt-trans (on .0) (n-is .1)) ∷ request W (u .before) (u .before-is) ∷ request W w is ∷ []) (of-flag W) _
+      (λ c. known-step) (λ c h. h) (so 𝓤 (may-step (on .1) (within .0) (on .0))) refl (λ c. and-then ! (true-lit !) (vars ! (refl, (refl, (refl, (refl, (refl, tt))))))) (λ _. refl) (λ r last told kept _.
       copies ! refl refl (lawful 𝓤 H A W .typed w _ is .0) $
       -- i += 1
       adds-last ! (lt-of-le-of-lt (add-one-le (on .0)) (n-is .1)) tt refl refl refl $
       round .turns-to ! (record { i = i + 1; before = w; passed = r; tally = last .1 .0; before-is = is; size = kept .0 ∙ u .size; behind = comes-next ys i (i + 1) refl; reached = steps-on (on .1) (within .0) (u .behind) (on .0) (i + 1) refl told }) (add-one-dec n i (on .0)) refl)))
       (λ over. round .breaks ! $
       -- let near = crate::record::is_near(head, before.deadline);
-      asks-for ! 𝓣 [] (the-head W head head-is ∷ number W (u .before .deadline) (deadline-fits (u .before) (u .before-is)) ∷ []) (so 𝓤 (within .0 .clock)) (of-flag W) (isNear head (u .before .deadline)) (λ c. known-near) (λ c h. h) refl
-      (λ c. and-then ! (var ! refl) (and-then ! (field-var ! refl refl refl) (no-more !))) (λ _. refl) refl (λ _ _.
+      asks-for ! 𝓣 [] (the-head W head head-is ∷ number W (u .before .deadline) (deadline-fits (u .before) (u .before-is)) ∷ []) (of-flag W) (isNear head (u .before .deadline)) (λ c. known-near) (λ c h. h) (so 𝓤 (within .0 .clock)) refl
+      (λ c. and-then ! (var ! refl) (and-then ! (field-var ! refl refl refl) (no-more !))) (λ _. refl) (λ _ _.
       computes ! refl refl tt refl (tt, tt) $
       gives ! refl refl $ leaves (vbool (u .passed && isNear head (u .before .deadline))) (u .passed && isNear head (u .before .deadline)) (u .tally, tt) (u .size, tt) (of-flag W .makes _ _ refl)
       (so 𝓤 (asked-over (u .reached) (within .0) (n - start) (omega (arith, within .2)) over (u .behind))))))))

@@ -28,7 +28,7 @@ module _ {M : Type 1} (𝓤 : URA M) (H : Heap 𝓤) (A : Atoms 𝓤) (W : Given
     clauses = f.clauses 𝓤 H A mem run;
     code = f.Code.function;
     lies = λ κs a. refl;
-    callees = (get.Symbol.name, Get 𝓤 H A mem run) ∷ (four.Symbol.name, tripleOf 𝓤 H A four.signature (four.spec 𝓤 H A mem run)) ∷ [];
+    callees = (get.Symbol.name, Get 𝓤 H A) ∷ (four.Symbol.name, tripleOf 𝓤 H A four.signature (four.spec 𝓤 H A mem run)) ∷ [];
   }
 
   walk : (𝓣 : Tables 𝓤 H) → Walk shape 𝓣
@@ -36,7 +36,7 @@ module _ {M : Type 1} (𝓤 : URA M) (H : Heap 𝓤) (A : Atoms 𝓤) (W : Given
       let ys : List Request = t .list in
       let all : Bool = areZero ys start n in
       let record-at : ℕ → Request = λ j. getD ys j zeroRequest in
-      heard ! ((n ≤ length ys) × ((n - start) % 4 ≡ 0)) (λ within.
+      heard ! _ (λ within.
       writes ! (of-opd ! (true-lit !)) refl (tt, tt) $
       copies ! refl refl (tt, fit (start-is .1)) $
       goes-round ! 𝓣 (λ (u : (t : Turn ys n all) × ((n - t .i) % 4 ≡ 0)). n - u .0 .i) (λ u. []) (λ u. (4, vbool (u .0 .zero)) ∷ (5, vint w64 (u .0 .i)) ∷ []) (record { zero = true; i = start; left = refl }, within .1) refl (λ u round.
@@ -50,19 +50,19 @@ module _ {M : Type 1} (𝓤 : URA M) (H : Heap 𝓤) (A : Atoms 𝓤) (W : Given
       let here : (j : ℕ) → j < i + 4 → j < length ys = λ j less. omega (arith, less, last, within .0) in
       let fits : (j : ℕ) → j ≤ i + 4 → j < 2 ^ 64 = λ j less. lt-of-le-of-lt (le-trans less last) (n-is .1) in
       -- let a = table::get(t, i);
-      reads ! mem run 𝓣 known-get t i (here i (omega arith)) refl (λ c. vars ! (refl, (refl, tt))) refl refl (λ a-is.
+      reads ! 𝓣 known-get t i (here i (omega arith)) refl (λ c. (refl, (refl, tt))) refl (λ a-is.
       -- let b = table::get(t, i + 1);
       adds ! (fits (i + 1) (omega arith)) tt refl refl refl $
-      reads ! mem run 𝓣 known-get t (i + 1) (here (i + 1) (omega arith)) refl (λ c. vars ! (refl, (refl, tt))) refl refl (λ b-is.
+      reads ! 𝓣 known-get t (i + 1) (here (i + 1) (omega arith)) refl (λ c. (refl, (refl, tt))) refl (λ b-is.
       -- let c = table::get(t, i + 2);
       adds ! (fits (i + 2) (omega arith)) tt refl refl refl $
-      reads ! mem run 𝓣 known-get t (i + 2) (here (i + 2) (omega arith)) refl (λ c. vars ! (refl, (refl, tt))) refl refl (λ c-is.
+      reads ! 𝓣 known-get t (i + 2) (here (i + 2) (omega arith)) refl (λ c. (refl, (refl, tt))) refl (λ c-is.
       -- let d = table::get(t, i + 3);
       adds ! (fits (i + 3) (omega arith)) tt refl refl refl $
-      reads ! mem run 𝓣 known-get t (i + 3) (here (i + 3) (omega arith)) refl (λ c. vars ! (refl, (refl, tt))) refl refl (λ d-is.
+      reads ! 𝓣 known-get t (i + 3) (here (i + 3) (omega arith)) refl (λ c. (refl, (refl, tt))) refl (λ d-is.
       -- zero = crate::record::are_zero_four(a, b, c, d);
-      asks-for ! 𝓣 [] (request W (record-at i) a-is ∷ request W (record-at (i + 1)) b-is ∷ request W (record-at (i + 2)) c-is ∷ request W (record-at (i + 3)) d-is ∷ []) (id⊢ 𝓤 (emp 𝓤)) (of-flag W) (areFourZero ys i) (λ c. known-four) (λ c h. h) refl
-      (λ c. vars ! (refl, (refl, (refl, (refl, tt))))) (λ _. refl) refl (λ _ _.
+      asks-for ! 𝓣 [] (request W (record-at i) a-is ∷ request W (record-at (i + 1)) b-is ∷ request W (record-at (i + 2)) c-is ∷ request W (record-at (i + 3)) d-is ∷ []) (of-flag W) (areFourZero ys i) (λ c. known-four) (λ c h. h) (id⊢ 𝓤 (emp 𝓤)) refl
+      (λ c. vars ! (refl, (refl, (refl, (refl, tt))))) (λ _. refl) (λ _ _.
       -- i += 4
       adds-last ! (fits (i + 4) (omega arith)) tt refl refl refl $
       round .turns-to ! (record { zero = areFourZero ys i; i = i + 4; left = four-on ys n (within .0) i last (on .1) }, omega (arith, u .1)) (omega arith) refl))))))

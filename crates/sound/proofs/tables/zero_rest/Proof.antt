@@ -31,7 +31,7 @@ module _ {M : Type 1} (𝓤 : URA M) (H : Heap 𝓤) (A : Atoms 𝓤) (W : Given
     clauses = f.clauses 𝓤 H A mem run;
     code = f.Code.function;
     lies = λ κs a. refl;
-    callees = (get.Symbol.name, Get 𝓤 H A mem run) ∷ (is-zero.Symbol.name, tripleOf 𝓤 H A is-zero.signature (is-zero.spec 𝓤 H A mem run)) ∷ [];
+    callees = (get.Symbol.name, Get 𝓤 H A) ∷ (is-zero.Symbol.name, tripleOf 𝓤 H A is-zero.signature (is-zero.spec 𝓤 H A mem run)) ∷ [];
   }
 
   walk : (𝓣 : Tables 𝓤 H) → Walk shape 𝓣
@@ -50,9 +50,9 @@ module _ {M : Type 1} (𝓤 : URA M) (H : Heap 𝓤) (A : Atoms 𝓤) (W : Given
       (λ held.
       let on = goes-on u held in
       -- let w = table::get(t, i);
-      reads ! mem run 𝓣 known-get t (u .i) (on .0) refl (λ c. vars ! (refl, (refl, tt))) refl refl (λ is.
+      reads ! 𝓣 known-get t (u .i) (on .0) refl (λ c. (refl, (refl, tt))) refl (λ is.
       -- zero = crate::record::is_zero(w);
-      asks-for ! 𝓣 [] (request W (getD ys (u .i) zeroRequest) is ∷ []) (id⊢ 𝓤 (emp 𝓤)) (of-flag W) _ (λ c. known-is-zero) (λ c h. h) refl (λ c. vars ! (refl, tt)) (λ _. refl) refl (λ _ _.
+      asks-for ! 𝓣 [] (request W (getD ys (u .i) zeroRequest) is ∷ []) (of-flag W) _ (λ c. known-is-zero) (λ c h. h) (id⊢ 𝓤 (emp 𝓤)) refl (λ c. vars ! (refl, tt)) (λ _. refl) (λ _ _.
       -- i += 1
       adds-last ! (lt-of-le-of-lt (add-one-le (on .0)) (t .room .0)) tt refl refl refl $
       round .turns-to ! (record { zero = isZeroRequest (getD ys (u .i) zeroRequest); i = u .i + 1; left = one-on ys n (omega arith) true (u .i) (u .i + 1) (on .0) refl (on .1) }) (add-one-dec n (u .i) (on .0)) refl)))
