@@ -1,16 +1,16 @@
--- Rules of walks that are not in the kit yet. The first part are copies of those that crate walk has by now, under its names:
---     fit, Result, of-number, of-flag, returned        its `Results.antt`
---     Standing, goes-round, Round                      its `Loops.antt`
---     proved                                           its `Proves.antt`
--- The second part would serve any walk too:
+-- Rules of walks beside those of crate walk.
+--     fit, Result, of-number, of-flag, returned        what a result is at the machine; the context once the loans are back
+--     Standing, iterates, Iteration                    a loop, from the context that it begins with
+--     proved           a function's theorem, where shape and walk are given as they stand for any model
 --     Stands           the cell of a local, whether it holds something or nothing
 --     writes           an assignment to a local, whatever it held
 --     copies, computes, adds, adds-last    the same of another local, of an operation on two, of the sum of one and a constant
 --     asks             a call with its result in a local, whatever that held. What the contract asks and tells is read off the
 --                      callee's triple, which stands as it is, so that the parameters are written once
 --     asks-for         the same where the contract says which the result is
+-- The kit's names that walks use are passed on, so that a walk names one module for them.
 -- Assumes `Given`.
-use mathlib.Core.Path.{_≡_, sym, ap, subst}
+use mathlib.Core.Path.{_≡_, refl, sym, ap, subst}
 use Prim.Native.Nat.{ℕ, zero, suc, _+_, _<_, _^_}
 use mathlib.Core.List.{List, [], _∷_, _++_}
 use mathlib.Core.WellFounded.{InvImage·wf}
@@ -24,7 +24,7 @@ use base.Fml.{fdies}
 use prog.Model.{Model}
 use prog.Memory.{Memory}
 use prog.Routine.{Routine, Env as Meanings}
-use prog.Wp.{Heap, Env, Out, Calls, Loops, Tables, Closed, Wp, next, exits, spotOf, afterSeq, afterBlock}
+use prog.Wp.{Heap, Env, Out, Calls, Loops, Tables, Closed, Wp, next, exits, returns, spotOf, afterSeq, afterBlock}
 unfoldable use prog.Wp.{afterTurn}
 use ghost.Atoms.{Atoms}
 use contract.Monad.{Fun}
@@ -39,15 +39,23 @@ use denote.Triple.Statement.{Triple}
 use denote.Triple.Spec.{tripleOf}
 use denote.Triple.Clauses.{closing}
 use Rattle.walk.proofs.Enter.{signatureOf, endedOf}
-use Rattle.walk.proofs.Proves.{Shape, Walk, Cites, proves}
+use Rattle.walk.proofs.Proves.{Cites, proves}
 use Rattle.walk.proofs.Frees.{Held, holds, empty, heldIn, cell}
-use Rattle.walk.proofs.Locals.{back, front, many, standing, held, Holds, Fit, var}
+use Rattle.walk.proofs.Locals.{back, front, many, standing, held, Holds, Fit}
 use Rattle.walk.proofs.Steps.{lands-told}
 use Rattle.walk.proofs.At.{items, holes, fills, sourced, calls-at}
-use Rattle.walk.proofs.Slices.Loans.{Param, Choices, Lasts, Knowns, Bound, Asked, Told, Operands, machine, bound}
+use Rattle.walk.proofs.Slices.Loans.{Choices, Lasts, Knowns, Bound, Asked, Told, Operands, machine, bound}
+pub use types.Kit.{drop}
+pub use denote.Steps.{heard}
+pub use Rattle.walk.proofs.Enter.{lent, shown, uint, boolean, so}
+pub use Rattle.walk.proofs.Proves.{Shape, Walk}
+pub use Rattle.walk.proofs.Inside.{Lent-at}
+pub use Rattle.walk.proofs.Locals.{var, vars, field-var, relends, gives, gives-within}
+pub use Rattle.walk.proofs.At.{mut-of, passed-on, takes-out, puts-back}
+pub use Rattle.walk.proofs.Steps.{big-lit, tests, branches-then, into-assign, skips-then}
+pub use Rattle.walk.proofs.Slices.Loans.{Param, number, flag, loan}
 
--- ==== copies
--- ---- `Results.antt`
+-- ---- results
 pub fit : {w : Width} {n : ℕ} → n < 2 ^ bits w → Fits w n
 fit h = record { fits = h }
 
@@ -69,7 +77,6 @@ module _ {M : Type 1} {𝓤 : URA M} (H : Heap 𝓤) (A : Atoms 𝓤) (Γ : List
   abbrev pub returned : List (Item 𝓤)
   returned = fills H A ps π ws (holes H A π Γ)
 
--- ---- `Loops.antt`
 module _ {M : Type 1} {𝓤 : URA M} (H : Heap 𝓤) (A : Atoms 𝓤) (E : Env 𝓤 H) where
   abbrev pub Standing : List (ℕ × Item 𝓤) → List (ℕ × Val) → List (Item 𝓤) → List (Item 𝓤)
   Standing [] [] Γ = Γ
@@ -137,10 +144,11 @@ module _ {M : Type 1} {𝓤 : URA M} (E : List (Ty × ℕ)) (Γ : List (Item �
   cleared Δ = heads (front (many E) Γ) Γ ++ standing E (kept (holding (front (many E) Γ) Δ []) (holding (front (many E) Γ) Γ [])) []
 
 -- what a turn from x may end with: at a variant y of a smaller measure, or out of the loop, where the rest runs
-pub record Round {M : Type 1} {𝓤 : URA M} {H : Heap 𝓤} {A : Atoms 𝓤} (K : Type 0) (W : Given 𝓤 H A) (C : Calls 𝓤 H) (Λ : Loops 𝓤 H) (E : Env 𝓤 H) (rest : Body) (q : Post 𝓤 H) {X : Type 0} (measure : X → ℕ) (At : X → List (Item 𝓤)) (x : X) : Type 2 where
+pub record Iteration {M : Type 1} {𝓤 : URA M} {H : Heap 𝓤} {A : Atoms 𝓤} (K : Type 0) (W : Given 𝓤 H A) (C : Calls 𝓤 H) (Λ : Loops 𝓤 H) (E : Env 𝓤 H) (rest : Body) (q : Post 𝓤 H) {X : Type 0} (measure : X → ℕ) (At : X → List (Item 𝓤)) (x : X) : Type 2 where
   pub after : Out → SProp 𝓤
-  pub turns-to : {Γ : List (Item 𝓤)} → K → (y : X) → measure y < measure x → _≡_ {A = List (Item 𝓤) × List (Item 𝓤)} (Γ, At y) (stood E Γ, cleared E Γ (At y)) → Seq K W Γ (prop (after next))
+  pub continues : {Γ : List (Item 𝓤)} → K → (y : X) → measure y < measure x → _≡_ {A = List (Item 𝓤) × List (Item 𝓤)} (Γ, At y) (stood E Γ, cleared E Γ (At y)) → Seq K W Γ (prop (after next))
   pub breaks : {Γ : List (Item 𝓤)} → K → Step K W Γ (runs C Λ E rest q) Γ (prop (after (exits 1)))
+  pub returning : after returns ≡ post 𝓤 H q returns
 
 module _ {M : Type 1} {𝓤 : URA M} {H : Heap 𝓤} {A : Atoms 𝓤} {K : Type 0} {W : Given 𝓤 H A} {Γ : List (Item 𝓤)} where
   clears : K → (E : List (Ty × ℕ)) (Δ : List (Item 𝓤)) {G : Goal 𝓤 H} → _≡_ {A = List (Item 𝓤) × List (Item 𝓤)} (Γ, Δ) (stood E Γ, cleared E Γ Δ) → Step K W Δ G Γ G
@@ -150,24 +158,25 @@ module _ {M : Type 1} {𝓤 : URA M} {H : Heap 𝓤} {A : Atoms 𝓤} {K : Type 
   })
 
 module _ {M : Type 1} {𝓤 : URA M} {H : Heap 𝓤} {A : Atoms 𝓤} {K : Type 0} {W : Given 𝓤 H A} {Γ : List (Item 𝓤)} {E : Env 𝓤 H} {rest : Body} {q : Post 𝓤 H} where
-  pub goes-round : K → (𝓣 : Tables 𝓤 H) {turn : Body} {X : Type 0} (measure : X → ℕ) (slices : X → List (ℕ × Item 𝓤)) (locals : X → List (ℕ × Val)) (x₀ : X)
+  pub iterates : K → (𝓣 : Tables 𝓤 H) {turn : Body} {X : Type 0} (measure : X → ℕ) (slices : X → List (ℕ × Item 𝓤)) (locals : X → List (ℕ × Val)) (x₀ : X)
       → let At : X → List (Item 𝓤) = λ x. Standing H A E (slices x) (locals x) Γ in
       At x₀ ≡ Γ
-      → ((x : X) (o : Round K W (𝓣 .C) (𝓣 .Λ) E rest q measure At x) → Seq K W (At x) (runs (𝓣 .C) (𝓣 .Λ) E turn (anyQ (o .after))))
+      → ((x : X) (o : Iteration K W (𝓣 .C) (𝓣 .Λ) E rest q measure At x) → Seq K W (At x) (runs (𝓣 .C) (𝓣 .Λ) E turn (anyQ (o .after))))
       → Seq K W Γ (runs (𝓣 .C) (𝓣 .Λ) E (seq (block (loop turn)) rest) q)
   unfolding afterTurn
-  goes-round t 𝓣 {turn} {X = X} measure slices locals x₀ e turns =
+  iterates t 𝓣 {turn} {X = X} measure slices locals x₀ e turns =
       let At : X → List (Item 𝓤) = λ x. Standing H A E (slices x) (locals x) Γ in
       let G : Post 𝓤 H = anyQ (afterBlock 𝓤 H (afterSeq 𝓤 H (Wp 𝓤 H (𝓣 .C) (𝓣 .Λ) E rest (post 𝓤 H q)) (post 𝓤 H q))) in
       let nearer : X → X → Type 0 = λ y x. measure y < measure x in
       first t $ blocks t $ subst (λ (Δ : List (Item 𝓤)). Seq K W Δ (runs (𝓣 .C) (𝓣 .Λ) E (loop turn) G)) e
       (loops t 𝓣 nearer (InvImage·wf measure (Nat·lt-wfRel .wf)) At {q = G} (λ x. turns x (record {
         after = afterTurn 𝓤 H (Below 𝓤 H A nearer At x) (post 𝓤 H G);
-        turns-to = λ t y less e. clears t E (At y) e $ again t nearer At x y less;
+        continues = λ t y less e. clears t E (At y) e $ again t nearer At x y less;
         breaks = λ t. step (λ s. record { prf = s .prf });
+        returning = refl;
       })) x₀)
 
--- ---- `Proves.antt`
+-- ---- the theorem
 module _ {M : Type 1} (𝓤 : URA M) (H : Heap 𝓤) (𝓜 : Model 𝓤 H) (𝓖 : GhostRules 𝓤 H) (𝓡 : Running 𝓤 H 𝓜) (s : (A : Atoms 𝓤) (W : Given 𝓤 H A) → (Memory → SProp 𝓤) → (Routine → Fun 𝓤) → Shape W) where
   abbrev the-shape : Shape (givenOf 𝓤 H 𝓜 𝓖)
   the-shape = s (𝓖 .A) (givenOf 𝓤 H 𝓜 𝓖) (𝓜 .mem) (𝓡 .run)
@@ -177,7 +186,6 @@ module _ {M : Type 1} (𝓤 : URA M) (H : Heap 𝓤) (𝓜 : Model 𝓤 H) (𝓖
       → Triple 𝓤 (tables 𝓤 H 𝓜 𝓡 γ .C k) (tripleOf 𝓤 H (𝓖 .A) (signatureOf (the-shape .params) (the-shape .result)) (closing 𝓤 H (𝓖 .A) (endedOf (the-shape .params) (the-shape .result)) (the-shape .clauses)))
   proved walk γ k closed cites = proves 𝓤 H 𝓜 𝓖 𝓡 the-shape γ k closed (walk (𝓖 .A) (givenOf 𝓤 H 𝓜 𝓖) (𝓜 .mem) (𝓡 .run)) cites
 
--- ==== more rules
 -- ---- locals
 module _ {M : Type 1} {𝓤 : URA M} (H : Heap 𝓤) (A : Atoms 𝓤) (Γ : List (Item 𝓤)) (E : Env 𝓤 H) (x : ℕ) where
   abbrev pub Stands : Type 2

@@ -1,20 +1,11 @@
 -- `sound::check::contents_refusal` meets its contract: a walk of four calls. The tally is a local array, lent to two of them.
 -- Assumes nothing.
-use denote.Steps.{heard}
 use Rattle.walk.proofs.Prelude.{ℕ, _≡_, refl, sym, _∙_, subst, List, [], _∷_, lit<, length, replicate, length-replicate, URA, w16, w64, tyArray, vint, SProp, emp, id⊢, froom, Memory, Routine, Heap, Tables, Atoms, Fun, Given, ‵, _$_, !, use1, agg, stop, from, addr, lit, of-opd, and-then, no-more, lone, uint-makes, uint-lawful, uint-copy, u16, u32, u64, Room, tripleOf}
-use Rattle.walk.proofs.Enter.{shown, so}
-use Rattle.walk.proofs.Proves.{Shape, Walk}
-use Rattle.walk.proofs.Locals.{var, vars, field-var, gives}
-use Rattle.walk.proofs.At.{takes-out, puts-back, passed-on}
-use Rattle.walk.proofs.Steps.{big-lit}
-use Rattle.walk.proofs.Slices.Loans.{Param, number, flag, loan}
+use Rattle.sound.proofs.Walking.{shown, so, Shape, Walk, heard, var, vars, field-var, gives, takes-out, puts-back, passed-on, big-lit, Param, number, flag, loan, fit, of-flag, of-number, proved, writes, asks}
 use Rattle.walk.proofs.Slices.Arrays.{array-room, array-lent, array-shared, repeats}
 use Rattle.spec.specs.declared.types.Request.{Request}
 use Rattle.table.proofs.Rows.{R}
 use Rattle.table.proofs.Heads.{the-head, clients-fit, waiting-fits, a-head}
-use Rattle.sound.proofs.Walking.{fit, of-flag, of-number}
-use Rattle.sound.proofs.Walking.{proved}
-use Rattle.sound.proofs.Walking.{writes, asks}
 use Rattle.sound.proofs.Contents.{next-asked, balanced-asked, contents-told}
 use Rattle.sound.proofs.tables.are_next as are-next
 use Rattle.sound.proofs.tables.are_zero as are-zero

@@ -1,22 +1,13 @@
 -- `sound::check::tables_refusal` meets its contract: a walk of three calls with an early return.
 -- Assumes nothing.
-use types.Kit.{drop}
 use Rattle.walk.proofs.Prelude.{ℕ, _≡_, refl, sym, _∙_, ap, List, [], _∷_, length, URA, w64, vint, SProp, emp, id⊢, Memory, Routine, Heap, Tables, Atoms, Fun, Given, _$_, !, lit, of-opd, bin, first, u32, u64, tripleOf}
-use Rattle.walk.proofs.Enter.{shown, so}
-use Rattle.walk.proofs.Proves.{Shape, Walk}
-use Rattle.walk.proofs.Locals.{var, vars, field-var, gives, gives-within}
-use Rattle.walk.proofs.At.{passed-on}
-use Rattle.walk.proofs.Steps.{branches-then, into-assign, skips-then}
-use Rattle.walk.proofs.Slices.Loans.{number}
+use Rattle.sound.proofs.Walking.{shown, so, Shape, Walk, drop, var, vars, field-var, gives, gives-within, passed-on, branches-then, into-assign, skips-then, number, fit, of-number, proved, writes, copies, asks}
 use Rattle.spec.specs.declared.types.Request.{Request}
 use Rattle.columns.specs.Columns.{countOf}
 use Rattle.columns.proofs.Laws.{length-rows}
 use Rattle.table.proofs.Rows.{R}
 use Rattle.table.proofs.Heads.{the-head, a-head}
 use Rattle.sound.specs.Checks.{headRefusal}
-use Rattle.sound.proofs.Walking.{fit, of-number}
-use Rattle.sound.proofs.Walking.{proved}
-use Rattle.sound.proofs.Walking.{writes, copies, asks}
 use Rattle.sound.proofs.Laws.{not-zero, is-zero}
 use Rattle.sound.proofs.Contents.{Headed, refused}
 use Rattle.columns.proofs.rows.shortest as shortest

@@ -1,20 +1,12 @@
 -- `sound::tables::are_next` meets its contract: a walk of two calls, `fours` and `rest`, on both slices.
 -- Assumes nothing.
-use denote.Steps.{heard}
 use Rattle.walk.proofs.Prelude.{refl, _∙_, true, ℕ, _*_, _/_, _<_, _≤_, _^_, lt-of-le-of-lt, arith, List, [], _∷_, lit<, URA, w64, vbool, SProp, Memory, Routine, Heap, Tables, Atoms, Fun, Given, _$_, !, lit, bin, u16, bool, tripleOf}
-use Rattle.walk.proofs.Enter.{shown, lent, uint, so}
-use Rattle.walk.proofs.Proves.{Shape, Walk}
-use Rattle.walk.proofs.Locals.{var, vars, relends, gives}
-use Rattle.walk.proofs.At.{passed-on, mut-of}
-use Rattle.walk.proofs.Slices.Loans.{number, flag}
+use Rattle.sound.proofs.Walking.{shown, lent, uint, so, Shape, Walk, heard, var, vars, relends, gives, passed-on, mut-of, number, flag, fit, of-flag, proved, writes, asks}
 use Rattle.spec.specs.declared.types.Request.{Request}
 use Rattle.table.proofs.Rows.{R}
 use Rattle.table.proofs.Heads.{a-head, the-head}
 use Rattle.sound.proofs.Turns.{fewer-bounded, sets-out, turns-on, pass-told}
 use Rattle.sound.proofs.Tally.{fewer-countable}
-use Rattle.sound.proofs.Walking.{fit, of-flag}
-use Rattle.sound.proofs.Walking.{proved}
-use Rattle.sound.proofs.Walking.{writes, asks}
 use Rattle.sound.proofs.tables.fours as fours
 use Rattle.sound.proofs.tables.rest as rest-of
 use Rattle.sound.proofs.tables.are_next as f

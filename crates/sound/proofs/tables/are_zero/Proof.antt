@@ -1,20 +1,12 @@
 -- `sound::tables::are_zero` meets its contract: a walk of two calls, `zero_fours` and `zero_rest`, on the `&[Request]`.
 -- Assumes nothing.
 use lib.ListN.{drop as dropN}
-use denote.Steps.{heard}
 use Rattle.walk.proofs.Prelude.{refl, Bool, _&&_, ℕ, _+_, _<_, _-_, _^_, _*_, _/_, _≤_, lt-of-le-of-lt, arith, List, [], _∷_, length, lit<, URA, w64, vbool, SProp, emp, id⊢, Memory, Routine, Heap, Tables, Atoms, Fun, Given, _$_, !, lit, of-opd, bin, bool, tripleOf}
-use Rattle.walk.proofs.Enter.{shown, uint, so}
-use Rattle.walk.proofs.Proves.{Shape, Walk}
-use Rattle.walk.proofs.Locals.{var, vars, field-var, gives}
-use Rattle.walk.proofs.At.{passed-on}
-use Rattle.walk.proofs.Slices.Loans.{number, flag}
+use Rattle.sound.proofs.Walking.{shown, uint, so, Shape, Walk, heard, var, vars, field-var, gives, passed-on, number, flag, fit, of-flag, proved, writes, computes, asks-for}
 use Rattle.spec.specs.declared.types.Request.{Request}
 use Rattle.spec.specs.Every.{every}
 use Rattle.spec.specs.Sound.{isZeroRequest}
 use Rattle.table.proofs.Rows.{R}
-use Rattle.sound.proofs.Walking.{fit, of-flag}
-use Rattle.sound.proofs.Walking.{proved}
-use Rattle.sound.proofs.Walking.{writes, computes, asks-for}
 use Rattle.sound.proofs.Zeros.{areZero, parts}
 use Rattle.sound.proofs.tables.zero_fours as zero-fours
 use Rattle.sound.proofs.tables.zero_rest as zero-rest

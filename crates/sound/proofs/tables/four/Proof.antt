@@ -1,13 +1,8 @@
 -- `sound::tables::four` meets its contract: a walk of eight calls, `table::get` on the `&[Request]`, which is passed on, and `step`
 -- on the `&mut [u16]`, which is lent again, by turns. After each turn it is known where the pass stands (`Reached`).
 -- Assumes nothing.
-use denote.Steps.{heard}
 use Rattle.walk.proofs.Prelude.{_≡_, refl, _∙_, true, ℕ, _+_, _<_, _^_, lt-trans, arith, List, [], _∷_, length, getD, URA, w64, vbool, SProp, Memory, Routine, Heap, Tables, Atoms, Fun, Given, _$_, !, true-lit, and-then, u16, bool, tripleOf}
-use Rattle.walk.proofs.Enter.{shown, lent, uint, so}
-use Rattle.walk.proofs.Proves.{Shape, Walk}
-use Rattle.walk.proofs.Locals.{vars, relends, gives}
-use Rattle.walk.proofs.At.{mut-of}
-use Rattle.walk.proofs.Slices.Loans.{number, flag}
+use Rattle.sound.proofs.Walking.{shown, lent, uint, so, Shape, Walk, heard, vars, relends, gives, mut-of, number, flag, of-flag, proved, adds, asks}
 use Rattle.spec.specs.declared.types.Request.{Request}
 use Rattle.spec.specs.Tables.{zeroRequest}
 use Rattle.table.proofs.Rows.{R, a-request, request}
@@ -15,9 +10,6 @@ use Rattle.table.proofs.Heads.{a-head, the-head}
 use Rattle.table.proofs.get as get
 use Rattle.sound.specs.Checks.{Bounded}
 use Rattle.sound.proofs.Turns.{comes-next, sets-out, may-step, steps-on, turns-made}
-use Rattle.sound.proofs.Walking.{of-flag}
-use Rattle.sound.proofs.Walking.{proved}
-use Rattle.sound.proofs.Walking.{adds, asks}
 use Rattle.sound.proofs.Calls.{Get, reads}
 use Rattle.sound.proofs.tables.step as step
 use Rattle.sound.proofs.tables.four as f

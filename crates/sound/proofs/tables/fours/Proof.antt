@@ -1,25 +1,14 @@
 -- `sound::tables::fours` meets its contract: a walk with a loop, which calls `four` on both slices and `table::get` on the first.
 -- A turn stands wherever the pass has come to (`Turn`), at a whole number of fours.
 -- Assumes nothing.
-use denote.Steps.{heard}
 use Rattle.walk.proofs.Prelude.{_≡_, refl, _∙_, true, ℕ, _+_, _<_, _≤_, _-_, _^_, _%_, lt-of-le-of-lt, le-trans, arith, List, [], _∷_, getD, lit<, URA, w64, vbool, vint, SProp, Memory, Routine, Heap, Tables, Atoms, Fun, Given, ‵, _$_, !, agg, lit, true-lit, of-opd, and-then, no-more, u16, bool, tripleOf}
-use Rattle.walk.proofs.Enter.{shown, lent, uint, so}
-use Rattle.walk.proofs.Proves.{Shape, Walk}
-use Rattle.walk.proofs.Inside.{Lent-at}
-use Rattle.walk.proofs.Locals.{var, vars, relends, gives}
-use Rattle.walk.proofs.At.{passed-on, mut-of}
-use Rattle.walk.proofs.Steps.{tests}
-use Rattle.walk.proofs.Slices.Loans.{number}
+use Rattle.sound.proofs.Walking.{shown, lent, uint, so, Shape, Walk, heard, Lent-at, var, vars, relends, gives, passed-on, mut-of, tests, number, fit, of-flag, iterates, proved, writes, copies, computes, adds, adds-last, asks}
 use Rattle.spec.specs.declared.types.Request.{Request}
 use Rattle.spec.specs.Tables.{zeroRequest}
 use Rattle.table.proofs.Rows.{R, mach, lawful, zero-is, request}
 use Rattle.table.proofs.Heads.{a-head, the-head}
 use Rattle.table.proofs.get as get
 use Rattle.sound.proofs.Turns.{comes-next, sets-out, may-turn, turns-on, turns-over}
-use Rattle.sound.proofs.Walking.{fit, of-flag}
-use Rattle.sound.proofs.Walking.{goes-round}
-use Rattle.sound.proofs.Walking.{proved}
-use Rattle.sound.proofs.Walking.{writes, copies, computes, adds, adds-last, asks}
 use Rattle.sound.proofs.Calls.{Get, reads, Turn, goes-on}
 use Rattle.sound.proofs.tables.four as four
 use Rattle.sound.proofs.tables.fours as f
@@ -43,8 +32,8 @@ module _ {M : Type 1} (𝓤 : URA M) (H : Heap 𝓤) (A : Atoms 𝓤) (W : Given
       writes ! (agg ! (and-then ! (lit ! tt) (and-then ! (lit ! tt) (and-then ! (lit ! tt) (no-more !))))) refl (lawful 𝓤 H A W .typed zeroRequest _ zero-is .0) $
       writes ! (of-opd ! (true-lit !)) refl (tt, tt) $
       writes ! (of-opd ! (lit ! tt)) refl (tt, fit (lit< tt)) $
-      goes-round ! 𝓣 (λ (u : (t : Turn head ys 0 (true, tally₀) n) × (t .i % 4 ≡ 0)). n - u .0 .i) (λ u. (1, ‵ (Lent-at tally (u .0 .tally))) ∷ []) (λ u. (5, mach (u .0 .before)) ∷ (6, vbool (u .0 .passed)) ∷ (7, vint w64 (u .0 .i)) ∷ [])
-      (record { i = 0; before = zeroRequest; passed = true; tally = tally₀; before-is = zero-is; size = refl; behind = refl; reached = sets-out head ys 0 n n true tally₀ (omega arith) (within .3) }, refl) refl (λ u round.
+      iterates ! 𝓣 (λ (u : (t : Turn head ys 0 (true, tally₀) n) × (t .i % 4 ≡ 0)). n - u .0 .i) (λ u. (1, ‵ (Lent-at tally (u .0 .tally))) ∷ []) (λ u. (5, mach (u .0 .before)) ∷ (6, vbool (u .0 .passed)) ∷ (7, vint w64 (u .0 .i)) ∷ [])
+      (record { i = 0; before = zeroRequest; passed = true; tally = tally₀; before-is = zero-is; size = refl; behind = refl; reached = sets-out head ys 0 n n true tally₀ (omega arith) (within .3) }, refl) refl (λ u turn.
       let i : ℕ = u .0 .i in
       computes ! refl refl tt refl (tt, tt) $
       computes ! refl refl tt refl (tt, tt) $
@@ -63,8 +52,8 @@ module _ {M : Type 1} (𝓤 : URA M) (H : Heap 𝓤) (A : Atoms 𝓤) (W : Given
       reads ! 𝓣 known-get t (i + 3) (omega (arith, within .1)) refl (λ c. (refl, (refl, tt))) refl (λ is.
       -- i += 4
       adds-last ! (fits (i + 4) (omega arith)) tt refl refl refl $
-      round .turns-to ! (record { i = i + 4; before = getD ys (i + 3) zeroRequest; passed = r; tally = left .1 .0; before-is = is; size = kept .1 .0 ∙ u .0 .size; behind = comes-next ys (i + 3) (i + 4) (omega arith); reached = turns-on (on .1) (within .0) 4 (i + 4) refl last told }, omega (arith, u .1)) (omega arith) refl)))
-      (λ over. round .breaks ! $
+      turn .continues ! (record { i = i + 4; before = getD ys (i + 3) zeroRequest; passed = r; tally = left .1 .0; before-is = is; size = kept .1 .0 ∙ u .0 .size; behind = comes-next ys (i + 3) (i + 4) (omega arith); reached = turns-on (on .1) (within .0) 4 (i + 4) refl last told }, omega (arith, u .1)) (omega arith) refl)))
+      (λ over. turn .breaks ! $
       copies ! refl refl (tt, tt) $
       gives ! refl refl $ leaves (vbool (u .0 .passed)) (u .0 .passed) (u .0 .tally, tt) (u .0 .size, tt) (of-flag W .makes (u .0 .passed) _ refl) (so 𝓤 (turns-over (u .0 .reached) (within .0) n (omega arith) over)))))
 

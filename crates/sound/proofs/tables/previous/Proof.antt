@@ -1,19 +1,12 @@
 -- `sound::tables::previous` meets its contract: a walk with a branch, and `table::get` on the `&[Request]`.
 -- Assumes nothing.
 use Rattle.walk.proofs.Prelude.{_≡_, refl, not, ℕ, _<_, _≤_, _-_, lt-trans, arith, List, [], _∷_, length, getD, eqb, eqb→eq, T, URA, w64, SProp, Memory, Routine, Heap, Tables, Atoms, Fun, Given, _$_, !, agg, lit, bin, and-then, no-more, first}
-use denote.Steps.{heard}
-use Rattle.walk.proofs.Enter.{shown, uint, so}
-use Rattle.walk.proofs.Proves.{Shape, Walk}
-use Rattle.walk.proofs.Locals.{var, gives, gives-within}
-use Rattle.walk.proofs.Steps.{branches-then, into-assign, skips-then}
+use Rattle.sound.proofs.Walking.{shown, uint, so, Shape, Walk, heard, var, gives, gives-within, branches-then, into-assign, skips-then, fit, proved, writes}
 use Rattle.spec.specs.declared.types.Request.{Request}
 use Rattle.spec.specs.Tables.{zeroRequest}
 use Rattle.table.proofs.Rows.{R, mach, lawful, zero-is}
 use Rattle.table.proofs.get as get
 use Rattle.sound.specs.Checks.{recordBefore}
-use Rattle.sound.proofs.Walking.{fit}
-use Rattle.sound.proofs.Walking.{proved}
-use Rattle.sound.proofs.Walking.{writes}
 use Rattle.sound.proofs.Calls.{of-request, Get, reads}
 use Rattle.sound.proofs.Turns.{comes-next}
 use Rattle.sound.proofs.Laws.{not-zero}

@@ -1,15 +1,8 @@
 -- `sound::tables::rest` meets its contract: a walk of `previous` and a loop, which calls `table::get` on the first slice and `step`
 -- on the other, and of `is_near`. A turn stands wherever the pass has come to (`Turn`).
 -- Assumes nothing.
-use denote.Steps.{heard}
 use Rattle.walk.proofs.Prelude.{refl, _∙_, _&&_, true, ℕ, _+_, _-_, lt-trans, lt-of-le-of-lt, le-trans, arith, add-one-le, add-one-dec, List, [], _∷_, getD, URA, w64, vbool, vint, SProp, Memory, Routine, Heap, Tables, Atoms, Fun, Given, ‵, _$_, !, true-lit, and-then, no-more, u16, bool, tripleOf}
-use Rattle.walk.proofs.Enter.{shown, lent, uint, boolean, so}
-use Rattle.walk.proofs.Proves.{Shape, Walk}
-use Rattle.walk.proofs.Inside.{Lent-at}
-use Rattle.walk.proofs.Locals.{var, vars, field-var, relends, gives}
-use Rattle.walk.proofs.At.{passed-on, mut-of}
-use Rattle.walk.proofs.Steps.{tests}
-use Rattle.walk.proofs.Slices.Loans.{number, flag}
+use Rattle.sound.proofs.Walking.{shown, lent, uint, boolean, so, Shape, Walk, heard, Lent-at, var, vars, field-var, relends, gives, passed-on, mut-of, tests, number, flag, fit, of-flag, iterates, proved, copies, computes, adds-last, asks, asks-for}
 use Rattle.spec.specs.declared.types.Request.{Request}
 use Rattle.spec.specs.Tables.{zeroRequest}
 use Rattle.table.proofs.Rows.{R, mach, lawful, request, deadline-fits}
@@ -17,10 +10,6 @@ use Rattle.table.proofs.Heads.{a-head, the-head}
 use Rattle.table.proofs.get as get
 use Rattle.sound.specs.Checks.{recordBefore, isNear}
 use Rattle.sound.proofs.Turns.{comes-next, sets-out, may-step, steps-on, asked-over}
-use Rattle.sound.proofs.Walking.{fit, of-flag}
-use Rattle.sound.proofs.Walking.{goes-round}
-use Rattle.sound.proofs.Walking.{proved}
-use Rattle.sound.proofs.Walking.{copies, computes, adds-last, asks, asks-for}
 use Rattle.sound.proofs.Calls.{Get, of-request, reads, Turn, goes-on}
 use Rattle.sound.proofs.record.is_near as is-near
 use Rattle.sound.proofs.tables.previous as previous
@@ -52,8 +41,8 @@ module _ {M : Type 1} (𝓤 : URA M) (H : Heap 𝓤) (A : Atoms 𝓤) (W : Given
       asks-for ! 𝓣 (0 ∷ []) (passed-on W t ∷ number W start (start-is .1) ∷ []) (of-request W) (recordBefore ys start) (λ c. known-previous) (λ c h. h) (so 𝓤 (le-trans (within .2) (within .1))) refl (λ c. vars ! (refl, (refl, tt))) (λ _. refl) (λ _ before-is.
       copies ! refl refl (tt, tt) $
       copies ! refl refl (tt, fit (start-is .1)) $
-      goes-round ! 𝓣 (λ (u : Turn head ys start (ok, tally₀) n). n - u .i) (λ u. (1, ‵ (Lent-at tally (u .tally))) ∷ []) (λ u. (7, mach (u .before)) ∷ (8, vbool (u .passed)) ∷ (9, vint w64 (u .i)) ∷ [])
-      (record { i = start; before = recordBefore ys start; passed = ok; tally = tally₀; before-is = before-is; size = refl; behind = refl; reached = sets-out head ys start n (n - start) ok tally₀ (omega (arith, within .2)) (within .3) }) refl (λ u round.
+      iterates ! 𝓣 (λ (u : Turn head ys start (ok, tally₀) n). n - u .i) (λ u. (1, ‵ (Lent-at tally (u .tally))) ∷ []) (λ u. (7, mach (u .before)) ∷ (8, vbool (u .passed)) ∷ (9, vint w64 (u .i)) ∷ [])
+      (record { i = start; before = recordBefore ys start; passed = ok; tally = tally₀; before-is = before-is; size = refl; behind = refl; reached = sets-out head ys start n (n - start) ok tally₀ (omega (arith, within .2)) (within .3) }) refl (λ u turn.
       let i : ℕ = u .i in
       computes ! refl refl tt refl (tt, tt) $
       computes ! refl refl tt refl (tt, tt) $
@@ -70,8 +59,8 @@ module _ {M : Type 1} (𝓤 : URA M) (H : Heap 𝓤) (A : Atoms 𝓤) (W : Given
       copies ! refl refl (lawful 𝓤 H A W .typed w _ is .0) $
       -- i += 1
       adds-last ! (lt-of-le-of-lt (add-one-le (on .0)) (n-is .1)) tt refl refl refl $
-      round .turns-to ! (record { i = i + 1; before = w; passed = r; tally = last .1 .0; before-is = is; size = kept .0 ∙ u .size; behind = comes-next ys i (i + 1) refl; reached = steps-on (on .1) (within .0) (u .behind) (on .0) (i + 1) refl told }) (add-one-dec n i (on .0)) refl)))
-      (λ over. round .breaks ! $
+      turn .continues ! (record { i = i + 1; before = w; passed = r; tally = last .1 .0; before-is = is; size = kept .0 ∙ u .size; behind = comes-next ys i (i + 1) refl; reached = steps-on (on .1) (within .0) (u .behind) (on .0) (i + 1) refl told }) (add-one-dec n i (on .0)) refl)))
+      (λ over. turn .breaks ! $
       -- let near = crate::record::is_near(head, before.deadline);
       asks-for ! 𝓣 [] (the-head W head head-is ∷ number W (u .before .deadline) (deadline-fits (u .before) (u .before-is)) ∷ []) (of-flag W) (isNear head (u .before .deadline)) (λ c. known-near) (λ c h. h) (so 𝓤 (within .0 .clock)) refl
       (λ c. and-then ! (var ! refl) (and-then ! (field-var ! refl refl refl) (no-more !))) (λ _. refl) (λ _ _.

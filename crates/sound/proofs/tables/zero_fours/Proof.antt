@@ -1,21 +1,13 @@
 -- `sound::tables::zero_fours` meets its contract: a walk with a loop, `table::get` on the `&[Request]` and `are_zero_four`, a
 -- covered function, on what it lands. A turn stands wherever the pass has come to (`Turn`) with fours left.
 -- Assumes nothing.
-use denote.Steps.{heard}
 use Rattle.walk.proofs.Prelude.{_≡_, refl, Bool, true, ℕ, _+_, _<_, _-_, _^_, _%_, _≤_, lt-of-le-of-lt, le-trans, arith, List, [], _∷_, length, getD, URA, w64, vbool, vint, SProp, emp, id⊢, Memory, Routine, Heap, Tables, Atoms, Fun, Given, _$_, !, true-lit, of-opd, bool, tripleOf}
-use Rattle.walk.proofs.Enter.{shown, uint, so}
-use Rattle.walk.proofs.Proves.{Shape, Walk}
-use Rattle.walk.proofs.Locals.{var, vars, gives}
-use Rattle.walk.proofs.Steps.{tests}
+use Rattle.sound.proofs.Walking.{shown, uint, so, Shape, Walk, heard, var, vars, gives, tests, fit, of-flag, iterates, proved, writes, copies, computes, adds, adds-last, asks-for}
 use Rattle.spec.specs.declared.types.Request.{Request}
 use Rattle.spec.specs.Tables.{zeroRequest}
 use Rattle.table.proofs.Rows.{R, request}
 use Rattle.table.proofs.get as get
 use Rattle.sound.proofs.Zeros.{areFourZero, areZero, Turn, goes-on, ended, four-on}
-use Rattle.sound.proofs.Walking.{fit, of-flag}
-use Rattle.sound.proofs.Walking.{goes-round}
-use Rattle.sound.proofs.Walking.{proved}
-use Rattle.sound.proofs.Walking.{writes, copies, computes, adds, adds-last, asks-for}
 use Rattle.sound.proofs.Calls.{Get, reads}
 use Rattle.sound.proofs.record.are_zero_four as four
 use Rattle.sound.proofs.tables.zero_fours as f
@@ -39,7 +31,7 @@ module _ {M : Type 1} (𝓤 : URA M) (H : Heap 𝓤) (A : Atoms 𝓤) (W : Given
       heard ! _ (λ within.
       writes ! (of-opd ! (true-lit !)) refl (tt, tt) $
       copies ! refl refl (tt, fit (start-is .1)) $
-      goes-round ! 𝓣 (λ (u : (t : Turn ys n all) × ((n - t .i) % 4 ≡ 0)). n - u .0 .i) (λ u. []) (λ u. (4, vbool (u .0 .zero)) ∷ (5, vint w64 (u .0 .i)) ∷ []) (record { zero = true; i = start; left = refl }, within .1) refl (λ u round.
+      iterates ! 𝓣 (λ (u : (t : Turn ys n all) × ((n - t .i) % 4 ≡ 0)). n - u .0 .i) (λ u. []) (λ u. (4, vbool (u .0 .zero)) ∷ (5, vint w64 (u .0 .i)) ∷ []) (record { zero = true; i = start; left = refl }, within .1) refl (λ u turn.
       let i : ℕ = u .0 .i in
       computes ! refl refl tt refl (tt, tt) $
       computes ! refl refl tt refl (tt, tt) $
@@ -65,8 +57,8 @@ module _ {M : Type 1} (𝓤 : URA M) (H : Heap 𝓤) (A : Atoms 𝓤) (W : Given
       (λ c. vars ! (refl, (refl, (refl, (refl, tt))))) (λ _. refl) (λ _ _.
       -- i += 4
       adds-last ! (fits (i + 4) (omega arith)) tt refl refl refl $
-      round .turns-to ! (record { zero = areFourZero ys i; i = i + 4; left = four-on ys n (within .0) i last (on .1) }, omega (arith, u .1)) (omega arith) refl))))))
-      (λ over. round .breaks ! $
+      turn .continues ! (record { zero = areFourZero ys i; i = i + 4; left = four-on ys n (within .0) i last (on .1) }, omega (arith, u .1)) (omega arith) refl))))))
+      (λ over. turn .breaks ! $
       copies ! refl refl (tt, tt) $
       gives ! refl refl $ leaves (vbool (u .0 .zero)) (u .0 .zero) tt tt (of-flag W .makes (u .0 .zero) _ refl) (so 𝓤 (ended (u .0) over)))))
 

@@ -2,12 +2,8 @@
 -- function, on what it lands. A turn stands wherever the pass has come to (`Turn`).
 -- Assumes nothing.
 use lib.ListN.{drop as dropN}
-use types.Kit.{drop}
 use Rattle.walk.proofs.Prelude.{refl, Bool, true, _&&_, ℕ, _+_, _-_, lt-of-le-of-lt, arith, add-one-le, add-one-dec, List, [], _∷_, length, getD, take-all, URA, w64, vbool, vint, SProp, id⊢, emp, Memory, Routine, Heap, Tables, Atoms, Fun, Given, _$_, !, of-opd, bool, tripleOf}
-use Rattle.walk.proofs.Enter.{shown, uint, boolean, so}
-use Rattle.walk.proofs.Proves.{Shape, Walk}
-use Rattle.walk.proofs.Locals.{var, vars, field-var, gives}
-use Rattle.walk.proofs.Steps.{tests}
+use Rattle.sound.proofs.Walking.{shown, uint, boolean, so, Shape, Walk, drop, var, vars, field-var, gives, tests, fit, of-flag, iterates, proved, writes, copies, computes, adds-last, asks-for}
 use Rattle.spec.specs.declared.types.Request.{Request}
 use Rattle.spec.specs.Tables.{zeroRequest}
 use Rattle.spec.specs.Every.{every}
@@ -15,10 +11,6 @@ use Rattle.spec.specs.Sound.{isZeroRequest}
 use Rattle.table.proofs.Rows.{R, request}
 use Rattle.table.proofs.get as get
 use Rattle.sound.proofs.Zeros.{Turn, goes-on, ended, one-on}
-use Rattle.sound.proofs.Walking.{fit, of-flag}
-use Rattle.sound.proofs.Walking.{goes-round}
-use Rattle.sound.proofs.Walking.{proved}
-use Rattle.sound.proofs.Walking.{writes, copies, computes, adds-last, asks-for}
 use Rattle.sound.proofs.Calls.{Get, reads}
 use Rattle.sound.proofs.record.is_zero as is-zero
 use Rattle.sound.proofs.tables.zero_rest as f
@@ -43,7 +35,7 @@ module _ {M : Type 1} (𝓤 : URA M) (H : Heap 𝓤) (A : Atoms 𝓤) (W : Given
       writes ! (of-opd ! (field-var ! refl refl refl)) refl (tt, fit (t .room .0)) $
       copies ! refl refl (tt, tt) $
       copies ! refl refl (tt, fit (start-is .1)) $
-      goes-round ! 𝓣 (λ (u : Turn ys n all). n - u .i) (λ u. []) (λ u. (5, vbool (u .zero)) ∷ (6, vint w64 (u .i)) ∷ []) (record { zero = ok; i = start; left = rw (take-all n ys (omega arith)) }) refl (λ u round.
+      iterates ! 𝓣 (λ (u : Turn ys n all). n - u .i) (λ u. []) (λ u. (5, vbool (u .zero)) ∷ (6, vint w64 (u .i)) ∷ []) (record { zero = ok; i = start; left = rw (take-all n ys (omega arith)) }) refl (λ u turn.
       computes ! refl refl tt refl (tt, tt) $
       computes ! refl refl tt refl (tt, tt) $
       tests ! (var ! refl)
@@ -55,8 +47,8 @@ module _ {M : Type 1} (𝓤 : URA M) (H : Heap 𝓤) (A : Atoms 𝓤) (W : Given
       asks-for ! 𝓣 [] (request W (getD ys (u .i) zeroRequest) is ∷ []) (of-flag W) _ (λ c. known-is-zero) (λ c h. h) (id⊢ 𝓤 (emp 𝓤)) refl (λ c. vars ! (refl, tt)) (λ _. refl) (λ _ _.
       -- i += 1
       adds-last ! (lt-of-le-of-lt (add-one-le (on .0)) (t .room .0)) tt refl refl refl $
-      round .turns-to ! (record { zero = isZeroRequest (getD ys (u .i) zeroRequest); i = u .i + 1; left = one-on ys n (omega arith) true (u .i) (u .i + 1) (on .0) refl (on .1) }) (add-one-dec n (u .i) (on .0)) refl)))
-      (λ over. round .breaks ! $
+      turn .continues ! (record { zero = isZeroRequest (getD ys (u .i) zeroRequest); i = u .i + 1; left = one-on ys n (omega arith) true (u .i) (u .i + 1) (on .0) refl (on .1) }) (add-one-dec n (u .i) (on .0)) refl)))
+      (λ over. turn .breaks ! $
       copies ! refl refl (tt, tt) $
       gives ! refl refl $ leaves (vbool (u .zero)) (u .zero) tt tt (of-flag W .makes (u .zero) _ refl) (so 𝓤 (ended u over))))
 
