@@ -1,6 +1,6 @@
 -- Numbers over the front of a slice, and what the parts of an exported call come to together. Assumes nothing.
 use Prim.Native.Nat.{ℕ, zero, suc, min}
-use mathlib.Core.Path.{_≡_, refl, sym, ap, _∙_}
+use mathlib.Core.Path.{_≡_, refl, sym, ap, subst, _∙_}
 use mathlib.Core.List.{List, [], _∷_, _++_}
 use native.Mathlib.Omega.{arith}
 use lib.ListN.{length, take, drop}
@@ -40,47 +40,44 @@ head-there (a ∷ b ∷ c ∷ d ∷ []) = refl
 head-there (a ∷ b ∷ c ∷ d ∷ e ∷ xs) = rw (take-nil (length xs))
 
 -- ---- a call
--- the head, the answer's values and its kind, each written as the call handed it back
-pub exports-given : (o : Outcome) (su se dr : List ℕ) (reply : Reply) (ws : List Request) (su′ se′ dr′ : List ℕ)
-    (head₀ head values₀ values : List ℕ) (kind : ℕ) → Gives o su se dr reply ws su′ se′ dr′
-    → (kind ≡ kindOf (reply .answer)) × (values ≡ written (valueNumbers (reply .answer)) values₀)
-    → head ≡ written (headNumbers (reply .head)) head₀ → Exported o head₀ values₀ su se dr kind head values ws su′ se′ dr′
-exports-given o su se dr reply ws su′ se′ dr′ head₀ head values₀ values kind g told h =
-    record {
-      kind-same = told .0 ∙ ap kindOf (g .answer-same);
-      values-same = told .1 ∙ ap (λ (a : Answer). written (valueNumbers a) values₀) (g .answer-same);
-      head-same = h ∙ ap (λ (x : Head). written (headNumbers x) head₀) (g .head-same);
-      waiting-same = g .waiting-same;
-      counts-same = g .counts-same;
-    }
+-- a report and a chart leave the state as it was, refused or not
+stays : {rs : List Refusal} {s : State} {accepted o : Outcome} → accepted .after ≡ s → Decided rs s accepted o → o .after ≡ s
+stays e (accepts z) = e
+stays e (refuses z) = refl
 
--- a report and a chart leave the state as it was, refused or not, and the head is not written
-module _ (head : List ℕ) (ws : List Request) (su se dr : List ℕ) (reply : Reply) (values₀ values : List ℕ) (kind : ℕ) where
+pub report-stays : (client : ℕ) (s : State) → reportOf client s .after ≡ s
+unfolding reportAccepted reportOf
+report-stays client s = stays refl (decided (reportRefusals client s) s (reportAccepted client s))
+
+pub chart-stays : (output : List ℕ) (s : State) → chartOf output s .after ≡ s
+unfolding chartAccepted chartOf
+chart-stays output s = stays refl (decided (chartRefusals output s) s (chartAccepted s))
+
+-- the call `of`, with the head h that was read, gave this reply, whose values were written
+module _ (of : State → Outcome) (head values₀ : List ℕ) {h : Head} (is-head : h ≡ headOf head) {ws ws′ : List Request}
+    {su se dr su′ se′ dr′ : List ℕ} {reply : Reply} {values : List ℕ} {kind : ℕ}
+    (gave : Gives (of (stateOf h ws su se dr)) su se dr reply ws′ su′ se′ dr′)
+    (told : (kind ≡ kindOf (reply .answer)) × (values ≡ written (valueNumbers (reply .answer)) values₀)) where
   abbrev s : State
   s = stateOf (headOf head) ws su se dr
 
-  stays : {rs : List Refusal} {accepted o : Outcome} → accepted .after ≡ s → Decided rs s accepted o → o .after ≡ s
-  stays e (accepts z) = e
-  stays e (refuses z) = refl
+  given : Gives (of s) su se dr reply ws′ su′ se′ dr′
+  given = subst (λ (x : Head). Gives (of (stateOf x ws su se dr)) su se dr reply ws′ su′ se′ dr′) is-head gave
 
-  exports-read : (o : Outcome) → o .after ≡ s → Gives o su se dr reply ws su se dr
-      → (kind ≡ kindOf (reply .answer)) × (values ≡ written (valueNumbers (reply .answer)) values₀)
-      → Exported o head values₀ su se dr kind head values ws su se dr
-  exports-read o e g told =
-      exports-given o su se dr reply ws su se dr head head values₀ values kind g told
-      (head-there head ∙ ap (λ (x : Head). written (headNumbers x) head)
-      (sym (g .head-same ∙ ap (λ (t : State). t .head) e)))
+  -- the head was written as well
+  pub exports-given : {head′ : List ℕ} → head′ ≡ written (headNumbers (reply .head)) head
+      → Exported (of s) head values₀ su se dr kind head′ values ws′ su′ se′ dr′
+  exports-given headed =
+      record {
+        kind-same = told .0 ∙ ap kindOf (given .answer-same);
+        values-same = told .1 ∙ ap (λ (a : Answer). written (valueNumbers a) values₀) (given .answer-same);
+        head-same = headed ∙ ap (λ (x : Head). written (headNumbers x) head) (given .head-same);
+        waiting-same = given .waiting-same;
+        counts-same = given .counts-same;
+      }
 
-  pub report-exports : (client : ℕ) → Gives (reportOf client s) su se dr reply ws su se dr
-      → (kind ≡ kindOf (reply .answer)) × (values ≡ written (valueNumbers (reply .answer)) values₀)
-      → Exported (reportOf client s) head values₀ su se dr kind head values ws su se dr
-  unfolding reportAccepted reportOf
-  report-exports client =
-      exports-read (reportOf client s) (stays refl (decided (reportRefusals client s) s (reportAccepted client s)))
-
-  pub chart-exports : (output : List ℕ) → Gives (chartOf output s) su se dr reply ws su se dr
-      → (kind ≡ kindOf (reply .answer)) × (values ≡ written (valueNumbers (reply .answer)) values₀)
-      → Exported (chartOf output s) head values₀ su se dr kind head values ws su se dr
-  unfolding chartAccepted chartOf
-  chart-exports output =
-      exports-read (chartOf output s) (stays refl (decided (chartRefusals output s) s (chartAccepted s)))
+  -- the state stays as it was, so the head need not be written
+  pub exports-read : ((t : State) → of t .after ≡ t) → Exported (of s) head values₀ su se dr kind head values ws′ su′ se′ dr′
+  exports-read same =
+      exports-given (head-there head ∙ ap (λ (x : Head). written (headNumbers x) head)
+      (sym (given .head-same ∙ ap (λ (t : State). t .head) (same s))))

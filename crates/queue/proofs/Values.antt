@@ -12,6 +12,8 @@ use denote.RattleType.{RattleType}
 use denote.Laws.{Is, Tells, Makes, Lawful}
 use denote.Struct.Laws as LL
 use denote.Enum.Laws as LE
+use Rattle.walk.proofs.Slices.Loans.{Param, value}
+use Rattle.decide.specs.declared.types.Reply.{Reply}
 use Rattle.decide.specs.declared.types.Edit.{Edit}
 use Rattle.decide.proofs.types.Reply as TR
 use Rattle.decide.proofs.types.Reply.Laws as TR′
@@ -59,3 +61,7 @@ module _ {M : Type 1} (𝓤 : URA M) (H : Heap 𝓤) (A : Atoms 𝓤) (W : Given
 
   pub decision-makes : Makes 𝓤 H A DecisionT (Is DecisionT)
   decision-makes = LE.makes TD.the-type TD′.the-plain 𝓤 H A
+
+-- a reply as a parameter of a call
+abbrev pub the-reply : {M : Type 1} {𝓤 : URA M} {H : Heap 𝓤} {A : Atoms 𝓤} (W : Given 𝓤 H A) (r : Reply) (w : Val) → Is ReplyT r (w ∷ []) → Param 𝓤 H A
+the-reply {𝓤 = 𝓤} {H} {A} W r w is = value ReplyT r (w ∷ []) (reply-makes 𝓤 H A W r (w ∷ []) is)
