@@ -1,11 +1,10 @@
 -- `exports::queue_open` and `exports::queue_submit` as one: the function `thin` hands two numbers to the library's call `callee`,
--- whose definition is `of`, and meets the contract that each of the two has at its callee. A walk of four calls. D is the type of
--- a request, as the code of each spells it.
+-- whose definition is `of`, and meets the contract that each of the two has at its callee. A walk of four calls.
 -- Assumes `Given`, and that each callee meets its contract.
 use mir.Syntax.{Opd}
 use types.Kit.{drop}
 use denote.Plain.{nothing-lawful, nothing-tells}
-use Rattle.walk.proofs.Prelude.{ℕ, refl, List, [], _∷_, URA, Name, Ty, Lifetime, Mutability, named, erased, imm, mut, w32, w64, tyInt, tyUnit, tyRef, Fn, Local, local, valueLocal, place, field, deref, copy, Body, seq, assign, addrOf, aggregate, call, return}
+use Rattle.walk.proofs.Prelude.{ℕ, suc, refl, List, [], _∷_, URA, Name, Ty, Mutability, named, erased, imm, mut, w32, w64, tyInt, tyUnit, tyRef, Fn, Local, local, valueLocal, place, field, deref, copy, Body, seq, assign, addrOf, aggregate, call, return}
 use Rattle.walk.proofs.Prelude.{vint, vunit, SProp, emp, Memory, Routine, Heap, Tables, Atoms, Fun, fact, Given, _$_, !, FmC, fmOf, lone, pointee, Nothing, uint-makes, u32, u64, now, sliceTy, tripleOf, Clauses, closing}
 use Rattle.spec.specs.Tables.{State}
 use Rattle.spec.specs.Calls.{Outcome}
@@ -32,36 +31,35 @@ use Rattle.exports.proofs.queue_open as f
 abbrev held : Ty → Local
 held T = local T valueLocal
 
-abbrev pointer-to : Mutability → Ty → Local
-pointer-to m T = held (tyRef erased m T)
+-- a parameter that is a slice, and the two locals by which a slice is lent again
+abbrev given : ℕ → Ty → Local
+given i T = held (sliceTy (tyRef (named i) mut T))
 
-abbrev slice-of : Lifetime → Mutability → Ty → Local
-slice-of ℓ m T = held (sliceTy (tyRef ℓ m T))
+abbrev again : Mutability → Ty → List Local → List Local
+again m T ls = held (tyRef erased m T) ∷ held (sliceTy (tyRef erased m T)) ∷ ls
 
 abbrev at : ℕ → Opd
 at i = copy (place i [])
 
--- the slice at i, of elements of T, is lent again at k, by way of the pointer at j
-abbrev lend : (i : ℕ) (T : Ty) (j k : ℕ) → Body → Body
-lend i T j k rest = seq (assign (place j []) (addrOf (place i (field 0 ∷ deref T ∷ [])))) (seq (assign (place k []) (aggregate (at j ∷ copy (place i (field 1 ∷ [])) ∷ []))) rest)
+-- the slice at i, of elements of T, is lent again at k + 1, by way of the pointer at k
+abbrev lend : (i : ℕ) (T : Ty) (k : ℕ) → Body → Body
+lend i T k rest = seq (assign (place k []) (addrOf (place i (field 0 ∷ deref T ∷ [])))) (seq (assign (place (suc k) []) (aggregate (at k ∷ copy (place i (field 1 ∷ [])) ∷ []))) rest)
 
-module _ (callee : Name) (of : ℕ → ℕ → State → Outcome) (D : Ty) where
-  abbrev pub thin : Fn
+module _ (callee : Name) (of : ℕ → ℕ → State → Outcome) where
+  abbrev thin : Fn
   thin = record {
     lifetimes = 6;
     outlives = [];
     params = 8;
     locals =
-        held (tyInt w64) ∷ slice-of (named 0) mut (tyInt w64) ∷ slice-of (named 1) mut (pointee (R .written)) ∷ slice-of (named 2) mut (tyInt w32) ∷ slice-of (named 3) mut (tyInt w32) ∷ slice-of (named 4) mut (tyInt w32)
-        ∷ held (tyInt w64) ∷ held (tyInt w64) ∷ slice-of (named 5) mut (tyInt w64) ∷ held (lone (HeadT .mir)) ∷ held (lone (ReplyT .mir))
-        ∷ pointer-to imm (tyInt w64) ∷ slice-of erased imm (tyInt w64) ∷ pointer-to mut (pointee (R .written)) ∷ slice-of erased mut (pointee (R .written))
-        ∷ pointer-to mut (tyInt w32) ∷ slice-of erased mut (tyInt w32) ∷ pointer-to mut (tyInt w32) ∷ slice-of erased mut (tyInt w32) ∷ pointer-to mut (tyInt w32) ∷ slice-of erased mut (tyInt w32)
-        ∷ held tyUnit ∷ pointer-to mut (tyInt w64) ∷ slice-of erased mut (tyInt w64) ∷ pointer-to mut (tyInt w64) ∷ slice-of erased mut (tyInt w64) ∷ [];
+        held (tyInt w64) ∷ given 0 (tyInt w64) ∷ given 1 (pointee (R .written)) ∷ given 2 (tyInt w32) ∷ given 3 (tyInt w32) ∷ given 4 (tyInt w32)
+        ∷ held (tyInt w64) ∷ held (tyInt w64) ∷ given 5 (tyInt w64) ∷ held (lone (HeadT .mir)) ∷ held (lone (ReplyT .mir))
+        ∷ again imm (tyInt w64) (again mut (pointee (R .written)) (again mut (tyInt w32) (again mut (tyInt w32) (again mut (tyInt w32) (held tyUnit ∷ again mut (tyInt w64) (again mut (tyInt w64) []))))));
     body =
-        lend 1 (tyInt w64) 11 12 (seq (call head-of.Symbol.name (at 12 ∷ []) (place 9 []))
-        (lend 2 D 13 14 (lend 3 (tyInt w32) 15 16 (lend 4 (tyInt w32) 17 18 (lend 5 (tyInt w32) 19 20 (seq (call callee (at 9 ∷ at 14 ∷ at 16 ∷ at 18 ∷ at 20 ∷ at 6 ∷ at 7 ∷ []) (place 10 []))
-        (lend 1 (tyInt w64) 22 23 (seq (call write-head.Symbol.name (at 23 ∷ at 10 ∷ []) (place 21 []))
-        (lend 8 (tyInt w64) 24 25 (seq (call write-values.Symbol.name (at 25 ∷ at 10 ∷ []) (place 0 [])) return))))))))));
+        lend 1 (tyInt w64) 11 (seq (call head-of.Symbol.name (at 12 ∷ []) (place 9 []))
+        (lend 2 (lone (R .mir)) 13 (lend 3 (tyInt w32) 15 (lend 4 (tyInt w32) 17 (lend 5 (tyInt w32) 19 (seq (call callee (at 9 ∷ at 14 ∷ at 16 ∷ at 18 ∷ at 20 ∷ at 6 ∷ at 7 ∷ []) (place 10 []))
+        (lend 1 (tyInt w64) 22 (seq (call write-head.Symbol.name (at 23 ∷ at 10 ∷ []) (place 21 []))
+        (lend 8 (tyInt w64) 24 (seq (call write-values.Symbol.name (at 25 ∷ at 10 ∷ []) (place 0 [])) return))))))))));
   }
 
   module _ {M : Type 1} (𝓤 : URA M) where
@@ -74,7 +72,7 @@ module _ (callee : Name) (of : ℕ → ℕ → State → Outcome) (D : Ty) where
           (now (a .1 .1 .0)) (now (a .1 .1 .1 .0)) (now (a .1 .1 .1 .1 .0)) r (now (e .1 .0)) (now (e .1 .1 .0)) (now (e .1 .1 .1 .0)) (now (e .1 .1 .1 .1 .0)));
     }
 
-    abbrev pub exported : Clauses 𝓤 f.ended
+    abbrev exported : Clauses 𝓤 f.ended
     exported κs a = record {
       ghost = Unit {0};
       requires = λ g. emp 𝓤;

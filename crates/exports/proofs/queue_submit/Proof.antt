@@ -1,24 +1,17 @@
 -- `exports::queue_submit` meets its contract: `Pair.antt`'s walk, with `queue::submit` for its callee. Assumes nothing.
 use types.Kit.{Given}
 use contract.Running.{givenOf}
-use denote.Memory.{pointee}
-use package.mir.Table.{spell}
-use mir.Syntax.{Ty}
 use Rattle.spec.specs.Calls.{submitOf}
-use Rattle.table.proofs.Rows.{R}
 use Rattle.walk.proofs.Proves.{proves}
 use Rattle.exports.proofs.Calls.{cites-numbers, cites-write-head}
 use Rattle.exports.proofs.Pair.{shape, walk}
 use Rattle.queue.proofs.submit as library
 use Rattle.exports.proofs.queue_submit as f
 
-abbrev D : Ty
-D = spell f.Code.Mir.table (pointee (R .written))
-
 pub queue-submit-spec : {M : Type 1} → f.Statement.statement M
 unfolding f.Code.routine
 queue-submit-spec 𝓤 H 𝓜 𝓖 𝓡 =
     let W : Given 𝓤 H (𝓖 .A) = givenOf 𝓤 H 𝓜 𝓖 in
-    proves 𝓤 H 𝓜 𝓖 𝓡 (shape library.Symbol.name submitOf D 𝓤 H (𝓖 .A) W (𝓜 .mem) (𝓡 .run)) f.Code.env f.Key.name (f.Code.unfolded 𝓤 H 𝓜 𝓡) (walk library.Symbol.name submitOf D 𝓤 H (𝓖 .A) W (𝓜 .mem) (𝓡 .run))
+    proves 𝓤 H 𝓜 𝓖 𝓡 (shape library.Symbol.name submitOf 𝓤 H (𝓖 .A) W (𝓜 .mem) (𝓡 .run)) f.Code.env f.Key.name (f.Code.unfolded 𝓤 H 𝓜 𝓡) (walk library.Symbol.name submitOf 𝓤 H (𝓖 .A) W (𝓜 .mem) (𝓡 .run))
     (cites-numbers 𝓤 H 𝓜 𝓖 𝓡 f.Code.env f.Code.calls-exports·numbers·head-of f.Code.calls-exports·numbers·write-values
     ((library.Symbol.routine, f.Code.calls-queue·submit, library.Met.met 𝓤 H 𝓜 𝓖 𝓡), cites-write-head 𝓤 H 𝓜 𝓖 𝓡 f.Code.env f.Code.calls-exports·numbers·write-head tt))
