@@ -1,3 +1,4 @@
 pub mod Calls
 pub mod Exporting
+pub mod Listed
 pub mod Pair
