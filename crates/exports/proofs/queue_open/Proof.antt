@@ -1,6 +1,5 @@
 -- `exports::queue_open` meets its contract: `Pair.antt`'s walk, with `queue::open` for its callee. Assumes nothing.
-use types.Kit.{Given}
-use contract.Running.{givenOf}
+use Rattle.walk.proofs.Prelude.{givenOf, Given}
 use Rattle.spec.specs.Calls.{openOf}
 use Rattle.walk.proofs.Proves.{proves}
 use Rattle.exports.proofs.Calls.{cites-numbers, cites-write-head}

@@ -1,6 +1,5 @@
 -- `exports::queue_submit` meets its contract: `Pair.antt`'s walk, with `queue::submit` for its callee. Assumes nothing.
-use types.Kit.{Given}
-use contract.Running.{givenOf}
+use Rattle.walk.proofs.Prelude.{givenOf, Given}
 use Rattle.spec.specs.Calls.{submitOf}
 use Rattle.walk.proofs.Proves.{proves}
 use Rattle.exports.proofs.Calls.{cites-numbers, cites-write-head}

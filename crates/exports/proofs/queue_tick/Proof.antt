@@ -2,7 +2,7 @@
 -- Assumes nothing.
 use types.Kit.{drop}
 use denote.Plain.{nothing-lawful, nothing-tells}
-use Rattle.walk.proofs.Prelude.{ℕ, refl, List, [], _∷_, URA, w64, vint, vunit, SProp, Memory, Routine, Heap, Tables, Atoms, Fun, givenOf, Given, _$_, !, FmC, fmOf, Nothing, uint-makes, u32, u64, tripleOf}
+use Rattle.walk.proofs.Prelude.{refl, List, [], _∷_, URA, w64, vint, vunit, SProp, Memory, Routine, Heap, Tables, Atoms, Fun, givenOf, Given, _$_, !, FmC, fmOf, Nothing, uint-makes, u32, u64, tripleOf}
 use Rattle.spec.specs.Calls.{tickOf}
 use Rattle.table.proofs.Rows.{R}
 use Rattle.table.proofs.Heads.{HeadT, the-head, head-val, head-tells, head-lawful}
