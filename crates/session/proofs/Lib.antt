@@ -1,4 +1,5 @@
 pub mod Answering
+pub mod Calling
 pub mod Going
 pub mod Leading
 pub mod Lending

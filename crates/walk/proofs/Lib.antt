@@ -4,6 +4,7 @@ pub mod Frees
 pub mod Inside
 pub mod Locals
 pub mod Loops
+pub mod Matches
 pub mod Prelude
 pub mod Proves
 pub mod Results
