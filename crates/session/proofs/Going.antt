@@ -12,7 +12,7 @@ use Rattle.spec.specs.declared.types.Frame.the-variants.{Open, Submit, Tick, Re
 use Rattle.spec.specs.declared.types.Head.{Head}
 use Rattle.spec.specs.declared.types.Request.{Request}
 use Rattle.spec.specs.Tables.{mostRecords, mostClients}
-use Rattle.frame.specs.Written.{mostBytes, replyBytes}
+use Rattle.frame.specs.Written.{mostBytes, replyBytes, CanDraw}
 use Rattle.columns.specs.Columns.{stateOf}
 use Rattle.decide.specs.declared.types.Reply.{Reply}
 use Rattle.session.specs.declared.types.Session.{Session}
@@ -25,7 +25,7 @@ use Rattle.session.specs.Feeding.{Next, Stepped}
 use Rattle.session.proofs.Lending.{fit-facts, up-most}
 use Rattle.session.proofs.Replied.{Replied}
 use Rattle.session.proofs.Replies.{replied}
-use Rattle.session.proofs.Stepping.{canWith, answered, next-fits, answers}
+use Rattle.session.proofs.Stepping.{canWith, answered, next-fits, next-room, answers}
 
 pub is-true : (b : Bool) → T b → b ≡ true
 is-true true h = refl
@@ -76,14 +76,17 @@ module _ (input : List ℕ) (fed : Fed) (ws : List Request) (su se dr st out : L
       (take (l .clients) su) (take (l .clients) se) (take (l .clients) dr) a zs us vs ds st′)
       (ws-long : length zs ≡ length (take (l .records) ws)) (su-long : length us ≡ length (take (l .clients) su))
       (se-long : length vs ≡ length (take (l .clients) se)) (dr-long : length ds ≡ length (take (l .clients) dr)) where
-    pub turn-replied : Replied (turn .frame) (fed .session) ws su se dr st a zs us vs ds st′
+    turn-replied : Replied (turn .frame) (fed .session) ws su se dr st a zs us vs ds st′
     turn-replied =
         replied (turn .frame) (fed .session) ws su se dr st fits a zs us vs ds st′ (rw (asks, heads, lends) at given)
         (rw lends at ws-long) (rw lends at su-long) (rw lends at se-long) (rw lends at dr-long)
 
-    pub turn-steps : (out′ : List ℕ) (put : ℕ) (r : Fed)
+    -- the reply can be written, and once it is, the turn is done
+    pub turn-goes : ((fed .put + mostBytes ≤ length out) × CanDraw (a .answer) st′)
+        × ((out′ : List ℕ) (put : ℕ) (r : Fed)
         → (fed .put ≤ put) × (put ≤ fed .put + mostBytes) × (take put out′ ≡ take (fed .put) out ++ replyBytes (a .answer) st′)
         → r ≡ answered fed turn a put
         → Stepped input fed ws su se dr st out r (zs ++ drop (l .records) ws) (us ++ drop (l .clients) su) (vs ++ drop (l .clients) se)
-        (ds ++ drop (l .clients) dr) out′
-    turn-steps out′ put r written is = rw lends (answers turn put goes next turn-replied written is)
+        (ds ++ drop (l .clients) dr) out′)
+    turn-goes =
+        ((next-room input fed ws su se dr st out turn goes next, turn-replied .draws), λ out′ put r written is. rw lends (answers turn put goes next turn-replied written is))
