@@ -3,20 +3,21 @@
 use Prim.Native.Nat.{ℕ}
 use mathlib.Core.Path.{_≡_, refl, sym, ap, subst, _∙_}
 use mathlib.Core.Bool.{false}
-use mathlib.Core.List.{List, [], _∷_, map}
+use mathlib.Core.List.{List, [], _∷_}
 use Rattle.spec.specs.declared.types.Request.{Request}
 use Rattle.spec.specs.declared.types.Counts.{Counts}
 use Rattle.spec.specs.Tables.{State}
 use Rattle.spec.specs.Every.{exists}
 use Rattle.spec.specs.Calls.{Outcome, openOf, submitOf, tickOf, reportOf, chartOf}
 use Rattle.spec.specs.Lists.{Call, opening, submit, tick, report, chart, outcomeOf, run, Event, history, isRefused, isOpened}
+use Rattle.spec.specs.Lists.{WithRefused, empty, own, refused as refused-among}
 use Rattle.spec.proofs.Demands.Demand1.{keeps-lengths, CountsGiven, counts-given}
 use Rattle.spec.proofs.Demands.Demand3.{Largest, largest-plan}
 use Rattle.columns.specs.Columns.{over}
 use Rattle.columns.proofs.Counting.{holds-rows}
 use Rattle.decide.specs.declared.types.Reply.{Reply}
 use Rattle.queue.specs.Gives.{Gives}
-use Rattle.queue.specs.Runs.{Lent, heldBy, Made, Ran, none, next}
+use Rattle.queue.specs.Runs.{Lent, heldBy, Made, Ran, none, next, refused}
 
 -- each call's contract says that it was made: the definition that it cites is the one that lists of calls go by
 module _ (before : Lent) (r : Reply) (ws : List Request) (su se dr : List ℕ) where
@@ -56,22 +57,28 @@ made-state c before r after m =
     let counts = holds-rows (m .gives .counts-same) (keeps-lengths c (heldBy before) .1) in
     λ i. record { head = head i; waitingTable = m .gives .waiting-same i; clientTable = counts i }
 
-abbrev callsOf : List Event → List Call
-callsOf es = map (λ e. e .call) es
+-- the calls of a list that were lent these tables
+unfoldable pub ownCalls : {from after : Lent} {es : List Event} → Ran from es after → List Call
+ownCalls none = []
+ownCalls (next c r ran m) = c ∷ ownCalls ran
+ownCalls (refused c r ran m e) = ownCalls ran
 
--- so a list of calls has the state and the answers of the definitions' calls
-pub ran-run : {from after : Lent} {es : List Event} → Ran from es after → heldBy after ≡ run (heldBy from) (callsOf es)
-unfolding run
+-- so a list of calls has the state and the answers of the definitions' calls, and refused ones among them
+pub ran-run : {from after : Lent} {es : List Event} (ran : Ran from es after) → heldBy after ≡ run (heldBy from) (ownCalls ran)
+unfolding run ownCalls
 ran-run none = refl
 ran-run (next {es} {before} {after} c r ran m) =
     made-state c before r after m ∙ ap (λ (s : State). outcomeOf c s .after) (ran-run ran)
+ran-run (refused c r ran m e) = ran-run ran
 
-pub ran-history : {from after : Lent} {es : List Event} → Ran from es after → es ≡ history (heldBy from) (callsOf es)
-unfolding history
-ran-history none = refl
-ran-history (next {es} {before} {after} c r ran m) =
+pub ran-history : {from after : Lent} {es : List Event} (ran : Ran from es after)
+    → WithRefused (history (heldBy from) (ownCalls ran)) es
+unfolding history ownCalls
+ran-history none = empty
+ran-history {from} (next {es} {before} {after} c r ran m) =
     let a = m .gives .answer-same ∙ ap (λ (s : State). outcomeOf c s .answer) (ran-run ran) in
-    cc (a, ran-history ran)
+    rw a (own (record { call = c; answer = outcomeOf c (run (heldBy from) (ownCalls ran)) .answer }) (ran-history ran))
+ran-history (refused c r ran m e) = refused-among (record { call = c; answer = r .answer }) e (ran-history ran)
 
 -- no contract is one that nothing meets: whatever the caller has, each call has a reply and leaves tables that meet its contract
 pub made-some : (c : Call) (before : Lent) → (r : Reply) × (after : Lent) × Made c before r after
@@ -104,7 +111,9 @@ made-some c before = (
         }
 
 -- so whatever calls are listed, there is a list of the library's calls that makes them
-pub ran-some : (from : Lent) (cs : List Call) → (es : List Event) × (after : Lent) × Ran from es after × (callsOf es ≡ cs)
+pub ran-some : (from : Lent) (cs : List Call)
+    → (es : List Event) × (after : Lent) × (ran : Ran from es after) × (ownCalls ran ≡ cs)
+unfolding ownCalls
 ran-some from [] = ([], from, none, refl)
 ran-some from (c ∷ cs) =
     let (es, before, ran, e) = ran-some from cs in
@@ -118,33 +127,23 @@ module _ (clients period : ℕ) (before from after : Lent) (r : Reply) (es : Lis
   start : State
   start = openOf clients period (heldBy before) .after
 
-  of-library : (Φ : List Event → State → Type 0)
-      → (isRefused (openOf clients period (heldBy before) .answer) ≡ false
-      → exists isOpened (history start (callsOf es)) ≡ false
-      → Φ (history start (callsOf es)) (run start (callsOf es)))
-      → Φ es (heldBy after)
+  of-library : (Φ : State → Type 0)
+      → ((cs : List Call) → isRefused (openOf clients period (heldBy before) .answer) ≡ false
+      → WithRefused (history start cs) es → exists isOpened es ≡ false → Φ (run start cs))
+      → Φ (heldBy after)
   unfolding outcomeOf start
   of-library Φ f =
-      subst (λ (es′ : List Event). Φ es′ (heldBy after)) (sym same-history)
-      (subst (Φ (history start (callsOf es))) (sym same-state)
-      (f (ap isRefused (sym (m .gives .answer-same)) ∙ accepted) (ap (exists isOpened) (sym same-history) ∙ none-opened)))
-    where
-      started : heldBy from ≡ start
-      started = made-state (opening clients period) before r from m
-
-      same-history : es ≡ history start (callsOf es)
-      same-history = ran-history ran ∙ ap (λ (s : State). history s (callsOf es)) started
-
-      same-state : heldBy after ≡ run start (callsOf es)
-      same-state = ran-run ran ∙ ap (λ (s : State). run s (callsOf es)) started
+      let started = made-state (opening clients period) before r from m in
+      subst Φ (sym (ran-run ran ∙ ap (λ (s : State). run s (ownCalls ran)) started))
+      (f (ownCalls ran) (ap isRefused (sym (m .gives .answer-same)) ∙ accepted) (rw started at (ran-history ran)) none-opened)
 
   -- "For every list of calls from open on, served plus waiting is as many as the largest plan has, even one made by somebody
   -- who knew the whole list beforehand."
   pub library-largest : Largest es (heldBy after)
   unfolding start
-  library-largest = of-library Largest (largest-plan clients period (heldBy before) (callsOf es))
+  library-largest = of-library (Largest es) (λ cs. largest-plan clients period (heldBy before) cs es)
 
   -- To be shut out: "counts in a report that the calls since open do not give"
   pub library-counts : CountsGiven period es (heldBy after)
   unfolding start
-  library-counts = of-library (CountsGiven period) (counts-given clients period (heldBy before) (callsOf es))
+  library-counts = of-library (CountsGiven period es) (λ cs. counts-given clients period (heldBy before) cs es)

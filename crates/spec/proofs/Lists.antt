@@ -2,3 +2,4 @@
 pub mod Trace
 pub mod Counts
 pub mod Largest
+pub mod Passing

@@ -2,6 +2,7 @@
 -- head is the last call made.
 -- Assumes nothing.
 use Prim.Native.Nat.{ℕ, _+_}
+use mathlib.Core.Path.{_≡_}
 use mathlib.Core.Bool.{Bool, true, false, not, cond, _&&_, _||_}
 use mathlib.Core.List.{List, [], _∷_, _++_, map}
 use lib.Dec.{eqb}
@@ -56,6 +57,14 @@ isRefused (Idle slot) = false
 isRefused (Reported client submitted served dropped waiting) = false
 isRefused (Charted count) = false
 isRefused (Refused number) = true
+
+-- The whole list of calls has refused calls in it that were lent other tables than the queue's, as in a session the open that names
+-- too many records and "gets refusal 4 in its place". "Each answers with its number only; head, tables and output stay unchanged.":
+-- the second list is the first with refused calls of any kind among its own, whatever tables these were lent
+pub data WithRefused : List Event → List Event → Type 0 where
+  empty : WithRefused [] []
+  own : {es fs : List Event} (e : Event) → WithRefused es fs → WithRefused (e ∷ es) (e ∷ fs)
+  refused : {es fs : List Event} (e : Event) → isRefused (e .answer) ≡ true → WithRefused es fs → WithRefused es (e ∷ fs)
 
 -- the number that an answer gives to a new request: kept and dropped name it
 abbrev pub newNumber : Answer → ℕ

@@ -21,7 +21,8 @@ use Rattle.spec.specs.Sound.{isSound}
 use Rattle.spec.specs.Refusals.{firstMatch, refusal4, chartRefusals}
 use Rattle.spec.specs.Calls.{Outcome, openOf, isPeriodStart, reportOf, reportAnswer, chartAccepted, chartOf, chartOutput}
 use Rattle.spec.specs.Frames.{field, valuesOf}
-use Rattle.spec.specs.Lists.{Call, chart, outcomeOf, run, Event, history, isRefused, isOpened, waitingBy, countsSince}
+use Rattle.spec.specs.Lists.{Call, chart, outcomeOf, run, Event, history, isRefused, WithRefused, isOpened, waitingBy}
+use Rattle.spec.specs.Lists.{countsSince}
 use Rattle.spec.proofs.Demands.Words.{FitsField, refusalsOf, FirstHolds, Ascending, Pairs, Finish, ChartFits}
 use Rattle.spec.proofs.Demands.Words.{LongestRuns}
 use Rattle.spec.proofs.Laws.Sound.{sound-test}
@@ -34,6 +35,7 @@ use Rattle.spec.proofs.Calls.Widths.{call-fits, segment-fits, count-fit
 use Rattle.spec.proofs.Calls.Latest.{latest-start, ready-chart, starts-latest, starts-drop, longest-runs}
 use Rattle.spec.proofs.Lists.Trace.{traced}
 use Rattle.spec.proofs.Lists.Counts.{counted, reported-counts}
+use Rattle.spec.proofs.Lists.Passing.{WithPassing, refused-pass, none-opened, same-waits, same-counts}
 
 -- ---- refused calls
 -- "Each is given whenever its condition holds and no earlier one does, and only then."
@@ -93,11 +95,11 @@ pub record CountsGiven (period : ℕ) (es : List Event) (s : State) : Type 0 whe
   pub reports : (c : ℕ) → isRefused (reportOf c s .answer) ≡ false
       → reportOf c s .answer ≡ reportAnswer c (countsSince period c es) (waitingBy c es)
 
--- the list is one of demand 3: from an accepted open on, with no other accepted open in it
-pub counts-given : (clients period : ℕ) (s : State) (cs : List Call) → isRefused (openOf clients period s .answer) ≡ false
+-- of a list whose calls are all lent the queue's tables
+counts-calls : (clients period : ℕ) (s : State) (cs : List Call) → isRefused (openOf clients period s .answer) ≡ false
     → exists isOpened (history (openOf clients period s .after) cs) ≡ false
     → CountsGiven period (history (openOf clients period s .after) cs) (run (openOf clients period s .after) cs)
-counts-given clients period s cs a h =
+counts-calls clients period s cs a h =
     let C = counted clients period s cs a h in
     let T = traced clients period s cs a h in
     let es = history (openOf clients period s .after) cs in
@@ -106,6 +108,25 @@ counts-given clients period s cs a h =
       counts = λ c l. C .counts-are c (omega (arith, T .ready .shape .clients));
       reports = λ c e. reported-counts period c es t T C e;
     }
+
+-- nothing of it depends on events that ask for nothing, serve nothing and drop nothing
+counts-same : (period : ℕ) {es fs : List Event} (s : State) → WithPassing es fs → CountsGiven period es s
+    → CountsGiven period fs s
+counts-same period s w C =
+    record {
+      counts = λ c l. C .counts c l ∙ sym (same-counts w period c);
+      reports = λ c e. rw (same-counts w period c, same-waits w c) (C .reports c e);
+    }
+
+-- the list is one of demand 3: from an accepted open on, with no other accepted open in it, and with refused calls of every kind
+pub counts-given : (clients period : ℕ) (s : State) (cs : List Call) (es : List Event)
+    → isRefused (openOf clients period s .answer) ≡ false
+    → WithRefused (history (openOf clients period s .after) cs) es
+    → exists isOpened es ≡ false
+    → CountsGiven period es (run (openOf clients period s .after) cs)
+counts-given clients period s cs es a w h =
+    let v = refused-pass w in
+    counts-same period (run (openOf clients period s .after) cs) v (counts-calls clients period s cs a (none-opened v h))
 
 -- "If it is now a multiple of the period": where a period starts, which the call and the counts since the last start ask alike. It is
 -- said of every period and every clock. 0 is a multiple of every period, but no tick leaves the clock at 0; of a period 0, which

@@ -18,13 +18,15 @@ use Rattle.spec.specs.Every.{exists}
 use Rattle.spec.specs.Tables.{State, waiting}
 use Rattle.spec.specs.Chart.{capacityOf}
 use Rattle.spec.specs.Calls.{Outcome, openOf}
-use Rattle.spec.specs.Lists.{asked, Call, run, Event, history, isRefused, isOpened, ticks, Booking, bookings}
+use Rattle.spec.specs.Lists.{asked, Call, run, Event, history, isRefused, WithRefused, isOpened, ticks, Booking, bookings}
 use Rattle.spec.specs.Lists.{servedRequests, waitingRequests, windows, slotFor, ownBookings, ownPlan}
 use Rattle.spec.proofs.Demands.Words.{Numbered}
 use Rattle.spec.proofs.Laws.Room.{capacity-one}
 use Rattle.spec.proofs.Laws.Accepted.{waiting-length}
 use Rattle.spec.proofs.Lists.Trace.{Traced, traced-open, waiting-as-many, served-as-many, along, accepted-open}
 use Rattle.spec.proofs.Lists.Largest.{Follows, queueOf, follows-open, follows-step, own-plan, as-many-both, slots-booked}
+use Rattle.spec.proofs.Lists.Passing.{WithPassing, refused-pass, none-opened, same-ticks, same-asked, same-bookings}
+use Rattle.spec.proofs.Lists.Passing.{same-served, same-waiting, same-plan}
 
 -- "no slot to two of them": with what a slot can take now, a plan is just an entry for each request that fits and shares no slot
 pub plans-are : (head : Head) (R : List Window) (P : List Slot) → Plan (capacityOf head) R P ↔ (Fits R P × Distinct P)
@@ -72,14 +74,40 @@ largest-of es s T B =
       largest = λ P p. omega (arith, largest heads (queueOf es s) B P p, as-many-both es s T B);
     }
 
--- "The list starts from the head and tables that an accepted open left, whatever its arguments and whatever lengths of table it took."
--- Arguments in the list are free, refused calls of every kind are in it, and it may be empty. "A later accepted open begins another
--- list", so no open in it is accepted
-pub largest-plan : (clients period : ℕ) (s : State) (cs : List Call) → isRefused (openOf clients period s .answer) ≡ false
+-- of a list whose calls are all lent the queue's tables
+largest-calls : (clients period : ℕ) (s : State) (cs : List Call) → isRefused (openOf clients period s .answer) ≡ false
     → exists isOpened (history (openOf clients period s .after) cs) ≡ false
     → Largest (history (openOf clients period s .after) cs) (run (openOf clients period s .after) cs)
-largest-plan clients period s cs a h =
+largest-calls clients period s cs a h =
     let b = along Follows follows-step (openOf clients period s .after) cs h
     (accepted-open (λ (o : Outcome). Traced [] (o .after)) clients period s a (traced-open clients period s))
     (accepted-open (λ (o : Outcome). Follows [] (o .after)) clients period s a (λ r. follows-open clients period s)) in
     largest-of (history (openOf clients period s .after) cs) (run (openOf clients period s .after) cs) (b .0) (b .1)
+
+-- nothing of it depends on events that ask for nothing, serve nothing and drop nothing
+largest-same : {es fs : List Event} (s : State) → WithPassing es fs → Largest es s → Largest fs s
+largest-same s w L =
+    record {
+      clock = L .clock ∙ sym (same-ticks w);
+      last = L .last ∙ sym (ap length (same-asked w));
+      numbered = subst Numbered (sym (same-asked w)) (L .numbered);
+      held = λ f. rw (same-waiting w) (L .held f);
+      counted = rw (same-waiting w) (L .counted);
+      served-once = rw (same-served w, same-bookings w) (L .served-once);
+      reached = rw (same-asked w, same-plan w s) (L .reached);
+      as-many = rw (same-plan w s, same-served w, same-waiting w) (L .as-many);
+      in-place = rw (same-bookings w) (L .in-place);
+      largest = λ P p. rw (same-served w, same-waiting w) (L .largest P (rw (same-asked w) at p));
+    }
+
+-- "The list starts from the head and tables that an accepted open left, whatever its arguments and whatever lengths of table it took."
+-- Arguments in the list are free, and it may be empty. Refused calls of every kind are in it, of those lent the queue's tables and of
+-- others. "A later accepted open begins another list", so no open in it is accepted
+pub largest-plan : (clients period : ℕ) (s : State) (cs : List Call) (es : List Event)
+    → isRefused (openOf clients period s .answer) ≡ false
+    → WithRefused (history (openOf clients period s .after) cs) es
+    → exists isOpened es ≡ false
+    → Largest es (run (openOf clients period s .after) cs)
+largest-plan clients period s cs es a w h =
+    let v = refused-pass w in
+    largest-same (run (openOf clients period s .after) cs) v (largest-calls clients period s cs a (none-opened v h))
