@@ -12,6 +12,8 @@ use lib.Seq.{take-add, take-suc, getD-take, getD-drop}
 use Rattle.spec.specs.Tables.{State}
 use Rattle.spec.specs.Frames.{lineFeed, frameOf}
 use Rattle.spec.specs.Session.{Text, inFront, read, textOf, reply, replies}
+use Rattle.spec.proofs.Lines.Digits.{Clean}
+use Rattle.spec.proofs.Lines.Printed.{text-first}
 use Rattle.frame.specs.Lines.{NoFeed, Ends, slice}
 use Rattle.session.specs.Standing.{stateAfter}
 
@@ -61,10 +63,13 @@ text-clean [] h = refl
 text-clean (b ∷ xs) h = rw (front-clean b xs h, text-clean xs (behind-clean b xs h))
 
 -- and with a line feed behind them they are a line
+clean : (xs : List ℕ) → NoFeed xs 0 (length xs) → Clean xs
+clean [] h = tt
+clean (b ∷ xs) h = (front-clean b xs h, clean xs (behind-clean b xs h))
+
 pub text-line : (xs : List ℕ) → NoFeed xs 0 (length xs) → textOf (xs ++ (lineFeed ∷ [])) ≡ ended xs
 unfolding textOf
-text-line [] h = refl
-text-line (b ∷ xs) h = rw (front-clean b xs h, text-line xs (behind-clean b xs h))
+text-line xs h = text-first xs [] (clean xs h)
 
 -- a line that is begun has none
 begun-front : (b : ℕ) (t : Text) (p : List ℕ) → read b t ≡ begun (b ∷ p) → (eqb b lineFeed ≡ false) × (t ≡ begun p)

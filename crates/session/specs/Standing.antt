@@ -2,7 +2,7 @@
 -- is remembered. Assumes nothing.
 use Prim.Native.Nat.{ℕ, _<_}
 use mathlib.Core.Bool.{Bool, true, false, cond, _&&_}
-use mathlib.Core.List.{List, [], _∷_, _++_}
+use mathlib.Core.List.{List, [], _++_}
 use mathlib.Core.Path.{_≡_}
 use lib.Dec.{leb}
 use lib.ListN.{length, take}
@@ -12,8 +12,8 @@ use Rattle.spec.specs.declared.types.Answer.{Answer}
 use Rattle.spec.specs.declared.types.Request.{Request}
 use Rattle.spec.specs.Tables.{mostRecords, mostClients, State}
 use Rattle.spec.specs.Lists.{isRefused}
-use Rattle.spec.specs.Frames.{frameOf}
-use Rattle.spec.specs.Session.{textOf, reply, replies}
+use Rattle.spec.specs.Session.{textOf, replies}
+unfoldable pub use Rattle.spec.specs.Session.{stateAfter}
 use Rattle.columns.specs.Columns.{stateOf}
 use Rattle.session.specs.declared.types.Session.{Session}
 
@@ -69,11 +69,6 @@ longestFrame = 22
 abbrev pub Begun : Bool → List ℕ → Type 0
 Begun false p = p ≡ []
 Begun true p = (longestFrame < length p) × (textOf p ≡ record { lines = []; rest = p })
-
--- the state after each line's answer
-unfoldable pub stateAfter : State → List (List ℕ) → State
-stateAfter s [] = s
-stateAfter s (line ∷ lines) = stateAfter (reply (frameOf line) s .after) lines
 
 -- from a state, with the line p begun, the characters i lead to a state, a line begun as skip says, and the answers o
 pub record Reached (s₀ : State) (p i : List ℕ) (s : State) (skip : Bool) (o : List ℕ) : Type 0 where

@@ -5,3 +5,4 @@ pub mod Sessions
 pub mod Refusals
 pub mod Damaged
 pub mod Reading
+pub mod Printed

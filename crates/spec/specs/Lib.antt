@@ -9,3 +9,4 @@ pub mod Calls
 pub mod Lists
 pub mod Frames
 pub mod Session
+pub mod Printed

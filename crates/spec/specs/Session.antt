@@ -91,6 +91,11 @@ unfoldable pub replies : State → List (List ℕ) → List ℕ
 replies s [] = []
 replies s (line ∷ lines) = reply (frameOf line) s .bytes ++ replies (reply (frameOf line) s .after) lines
 
+-- the state after each line's answer
+unfoldable pub stateAfter : State → List (List ℕ) → State
+stateAfter s [] = s
+stateAfter s (line ∷ lines) = stateAfter (reply (frameOf line) s .after) lines
+
 -- "a last line without its line feed gets refusal 1"
 abbrev pub atEnd : List ℕ → List ℕ
 atEnd [] = []
@@ -99,3 +104,7 @@ atEnd (b ∷ bs) = answerLine (Refused 1)
 -- the output for an input. "Empty input prints nothing."
 unfoldable pub session : List ℕ → List ℕ
 session input = replies atStart (textOf input .lines) ++ atEnd (textOf input .rest)
+
+-- the state that it leaves
+unfoldable pub sessionState : List ℕ → State
+sessionState input = stateAfter atStart (textOf input .lines)

@@ -118,15 +118,21 @@ counts-same period s w C =
       reports = λ c e. rw (same-counts w period c, same-waits w c) (C .reports c e);
     }
 
+pub counts-passing : (clients period : ℕ) (s : State) (cs : List Call) (es : List Event)
+    → isRefused (openOf clients period s .answer) ≡ false
+    → WithPassing (history (openOf clients period s .after) cs) es
+    → exists isOpened es ≡ false
+    → CountsGiven period es (run (openOf clients period s .after) cs)
+counts-passing clients period s cs es a w h =
+    counts-same period (run (openOf clients period s .after) cs) w (counts-calls clients period s cs a (none-opened w h))
+
 -- the list is one of demand 3: from an accepted open on, with no other accepted open in it, and with refused calls of every kind
 pub counts-given : (clients period : ℕ) (s : State) (cs : List Call) (es : List Event)
     → isRefused (openOf clients period s .answer) ≡ false
     → WithRefused (history (openOf clients period s .after) cs) es
     → exists isOpened es ≡ false
     → CountsGiven period es (run (openOf clients period s .after) cs)
-counts-given clients period s cs es a w h =
-    let v = refused-pass w in
-    counts-same period (run (openOf clients period s .after) cs) v (counts-calls clients period s cs a (none-opened v h))
+counts-given clients period s cs es a w h = counts-passing clients period s cs es a (refused-pass w) h
 
 -- "If it is now a multiple of the period": where a period starts, which the call and the counts since the last start ask alike. It is
 -- said of every period and every clock. 0 is a multiple of every period, but no tick leaves the clock at 0; of a period 0, which

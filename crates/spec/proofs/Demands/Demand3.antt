@@ -100,6 +100,14 @@ largest-same s w L =
       largest = λ P p. rw (same-served w, same-waiting w) (L .largest P (rw (same-asked w) at p));
     }
 
+pub largest-passing : (clients period : ℕ) (s : State) (cs : List Call) (es : List Event)
+    → isRefused (openOf clients period s .answer) ≡ false
+    → WithPassing (history (openOf clients period s .after) cs) es
+    → exists isOpened es ≡ false
+    → Largest es (run (openOf clients period s .after) cs)
+largest-passing clients period s cs es a w h =
+    largest-same (run (openOf clients period s .after) cs) w (largest-calls clients period s cs a (none-opened w h))
+
 -- "The list starts from the head and tables that an accepted open left, whatever its arguments and whatever lengths of table it took."
 -- Arguments in the list are free, and it may be empty. Refused calls of every kind are in it, of those lent the queue's tables and of
 -- others. "A later accepted open begins another list", so no open in it is accepted
@@ -108,6 +116,4 @@ pub largest-plan : (clients period : ℕ) (s : State) (cs : List Call) (es : Lis
     → WithRefused (history (openOf clients period s .after) cs) es
     → exists isOpened es ≡ false
     → Largest es (run (openOf clients period s .after) cs)
-largest-plan clients period s cs es a w h =
-    let v = refused-pass w in
-    largest-same (run (openOf clients period s .after) cs) v (largest-calls clients period s cs a (none-opened v h))
+largest-plan clients period s cs es a w h = largest-passing clients period s cs es a (refused-pass w) h

@@ -26,7 +26,7 @@ pub data WithPassing : List Event → List Event → Type 0 where
   passing : {es fs : List Event} (e : Event) → Passing e → WithPassing es fs → WithPassing es (e ∷ fs)
 
 -- refused calls are such events
-refused-event : (c : Call) (a : Answer) → isRefused a ≡ true → Passing (event c a)
+pub refused-event : (c : Call) (a : Answer) → isRefused a ≡ true → Passing (event c a)
 refused-event c Opened r = absurd (true≢false (sym r))
 refused-event c (Kept number place) r = absurd (true≢false (sym r))
 refused-event c (Dropped number victim client) r = absurd (true≢false (sym r))

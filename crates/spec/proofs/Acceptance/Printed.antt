@@ -1,0 +1,88 @@
+-- What is read off a session, computed for one input: its list since the last accepted open has an open in the middle that names too
+-- many records, a line that is no frame, and a chart with its segment. Assumes nothing.
+use Prim.Native.Nat.{ℕ}
+use mathlib.Core.Path.{_≡_, refl}
+use mathlib.Core.Bool.{Bool, true}
+use mathlib.Core.List.{List, [], _∷_, _++_, map}
+use Rattle.spec.specs.declared.types.Answer.{Answer}
+use Rattle.spec.specs.declared.types.Answer.the-variants.{Kept, Dropped, Served, Charted, Refused}
+use Rattle.spec.specs.Every.{exists, select}
+use Rattle.spec.specs.Calls.{chartOutput}
+use Rattle.spec.specs.Lists.{Call, opening, submit, tick, chart, Event, isOpened, ticks, Asked, asked, bookings, victims}
+use Rattle.spec.specs.Lists.{servedRequests, waitingRequests}
+use Rattle.spec.specs.Frames.{digitOf, characterOf, numberFrom, digits, frameWith, frameOf, field, kindOf, valuesOf, fieldDigits}
+use Rattle.spec.specs.Frames.{lineOf, segmentLines}
+use Rattle.spec.specs.Session.{textOf, atStart, blank, reply, replies, session}
+use Rattle.spec.specs.Printed.{answerWith, answersIn, callsBy, eventsFrom, eventsIn, sinceOpen, periodSet}
+use Rattle.spec.proofs.Acceptance.Computed.{calls}
+
+-- ---- the input
+abbrev openLine : ℕ → ℕ → ℕ → List ℕ
+openLine clients period records = lineOf 0x01 (field 2 clients ∷ field 4 period ∷ field 2 records ∷ [])
+
+abbrev submitLine : ℕ → ℕ → List ℕ
+submitLine client deadline = lineOf 0x02 (field 2 client ∷ field 8 deadline ∷ [])
+
+-- a session of its own first; the line 010002000000640801 and one of kind 06 between two submits; "a last line without its line feed"
+abbrev input : List ℕ
+input =
+    openLine 1 7 2
+    ++ submitLine 0 9
+    ++ openLine 2 100 8
+    ++ submitLine 0 1
+    ++ submitLine 1 2
+    ++ openLine 2 100 2049
+    ++ lineOf 0x06 []
+    ++ submitLine 1 1
+    ++ lineOf 0x05 []
+    ++ lineOf 0x03 []
+    ++ digits 2 0x03
+
+-- ---- what is read off it
+pub record Shown : Type 0 where
+  pub opened : Bool
+  pub period : ℕ
+  pub list : List Event
+  pub served : List ℕ
+  pub waits : List ℕ
+
+abbrev numbers : List Asked → List ℕ
+numbers rs = map (λ (a : Asked). a .request .number) rs
+
+abbrev shown : List Event → Shown
+shown es =
+    record {
+      opened = exists isOpened es;
+      period = periodSet es;
+      list = sinceOpen es;
+      served = numbers (servedRequests (sinceOpen es));
+      waits = numbers (waitingRequests (sinceOpen es));
+    }
+
+abbrev answered : Call → Answer → Event
+answered c a = record { call = c; answer = a }
+
+abbrev expected : Shown
+expected =
+    record {
+      opened = true;
+      period = 100;
+      list =
+          answered tick (Served 0 1 0)
+          ∷ answered (chart blank) (Charted 1)
+          ∷ answered (submit 1 1) (Dropped 3 3 1)
+          ∷ answered (opening 2 100) (Refused 4)
+          ∷ answered (submit 1 2) (Kept 2 1)
+          ∷ answered (submit 0 1) (Kept 1 0)
+          ∷ [];
+      served = 1 ∷ [];
+      waits = 2 ∷ [];
+    }
+
+unfoldable lines : Unit {0}
+unfolding digits characterOf digitOf numberFrom frameWith frameOf kindOf valuesOf fieldDigits lineOf segmentLines textOf
+lines = tt
+
+pub read-off : shown (eventsIn input (session input)) ≡ expected
+unfolding calls chartOutput lines atStart reply replies session answerWith answersIn callsBy eventsFrom eventsIn sinceOpen periodSet exists select ticks asked bookings victims servedRequests waitingRequests
+read-off = refl

@@ -1,0 +1,52 @@
+-- Demand 3 and the counts, of a session: what holds of the list that its input and the lines that it prints show. Statements; that it
+-- is such a list stands in Lines/SinceOpen. Assumes nothing.
+use Prim.Native.Nat.{ℕ, _+_}
+use mathlib.Core.Path.{_≡_, subst}
+use mathlib.Core.Bool.{true, false}
+use mathlib.Core.List.{List}
+use lib.ListN.{length}
+use Rattle.spec.specs.Every.{exists}
+use Rattle.spec.specs.Tables.{State}
+use Rattle.spec.specs.Calls.{openOf}
+use Rattle.spec.specs.Lists.{Call, run, Event, history, isRefused, isOpened}
+use Rattle.spec.specs.Session.{textOf, session, sessionState}
+use Rattle.spec.specs.Printed.{answersIn, eventsIn, sinceOpen, periodSet}
+use Rattle.spec.proofs.Demands.Demand1.{CountsGiven, counts-passing}
+use Rattle.spec.proofs.Demands.Demand3.{Largest, largest-passing}
+use Rattle.spec.proofs.Lists.Passing.{WithPassing}
+use Rattle.spec.proofs.Lines.Printed.{unended, session-answered}
+use Rattle.spec.proofs.Lines.SinceOpen.{since-opened}
+
+-- "One frame a line": each line gets one answer, and so does "a last line without its line feed"
+pub each-answered : (input : List ℕ)
+    → length (answersIn (textOf (session input) .lines)) ≡ length (textOf input .lines) + unended (textOf input .rest)
+each-answered input = session-answered input
+
+-- for every input for which an open was accepted
+module _ (input : List ℕ) (opened : exists isOpened (eventsIn input (session input)) ≡ true) where
+  abbrev list : List Event
+  list = sinceOpen (eventsIn input (session input))
+
+  abbrev period : ℕ
+  period = periodSet (eventsIn input (session input))
+
+  -- what holds of every list from an accepted open on holds of the session's
+  of-session : (Φ : State → Type 0)
+      → ((clients : ℕ) (before : State) (cs : List Call) → isRefused (openOf clients period before .answer) ≡ false
+      → WithPassing (history (openOf clients period before .after) cs) list → exists isOpened list ≡ false
+      → Φ (run (openOf clients period before .after) cs))
+      → Φ (sessionState input)
+  of-session Φ f =
+      let F = since-opened input opened in
+      subst Φ (F .state) (f (F .clients) (F .before) (F .calls) (F .accepted) (F .passed) (F .none-opened))
+
+  -- "For every list of calls from open on, served plus waiting is as many as the largest plan has, even one made by somebody who knew
+  -- the whole list beforehand.": the list is what the input and the printed lines show since the last accepted open
+  pub session-largest : Largest (sinceOpen (eventsIn input (session input))) (sessionState input)
+  session-largest = of-session (Largest list) (λ clients before cs. largest-passing clients period before cs list)
+
+  -- To be shut out: "counts in a report that the calls since open do not give"
+  pub session-counts :
+      CountsGiven (periodSet (eventsIn input (session input))) (sinceOpen (eventsIn input (session input))) (sessionState input)
+  session-counts =
+      of-session (CountsGiven period list) (λ clients before cs. counts-passing clients period before cs list)
