@@ -1,6 +1,6 @@
 -- What feeding a session a part of its input comes to. Assumes nothing.
 use Prim.Native.Nat.{ℕ, zero, suc, _+_, _≤_, _<_}
-use mathlib.Core.Bool.{Bool, true, false, _&&_}
+use mathlib.Core.Bool.{Bool, true, false, cond, _&&_}
 use mathlib.Core.List.{List, [], _∷_, _++_}
 use mathlib.Core.Path.{_≡_}
 use lib.Dec.{leb}
@@ -11,7 +11,7 @@ use Rattle.spec.specs.Tables.{State}
 use Rattle.spec.specs.Frames.{frameOf, answerLine}
 use Rattle.spec.specs.Session.{textOf}
 use Rattle.frame.specs.Lines.{NoFeed, slice}
-use Rattle.frame.specs.Written.{mostBytes}
+use Rattle.frame.specs.Written.{longestLine, mostBytes}
 use Rattle.session.specs.declared.types.Session.{Session}
 use Rattle.session.specs.declared.types.Fed.{Fed}
 use Rattle.session.specs.declared.types.Turn.{Turn}
@@ -118,3 +118,7 @@ abbrev pub owed : Bool → ℕ → List ℕ
 owed true n = answerLine (Refused 1)
 owed false zero = []
 owed false (suc n) = answerLine (Refused 1)
+
+-- what of it is put in an output that has so much room: all, or nothing where some answer's line would have no room
+abbrev pub owedIn : ℕ → Bool → ℕ → List ℕ
+owedIn room skip left = cond (leb longestLine room) (owed skip left) []

@@ -22,10 +22,10 @@ ghost use Rattle.spec.specs.declared.types.Answer.the-variants.{Refused};
 ghost use Rattle.spec.specs.Lists.{isRefused};
 ghost use Rattle.frame.specs.Digits.{digitTable};
 ghost use Rattle.frame.specs.Lines.{NoFeed, Ends};
-ghost use Rattle.frame.specs.Written.{longestLine, mostBytes, CanDraw, replyBytes};
+ghost use Rattle.frame.specs.Written.{mostBytes, CanDraw, replyBytes};
 ghost use Rattle.session.specs.Standing.{doFit, upTo, recordsFor, clientsFor, recordsAfter};
 ghost use Rattle.session.specs.Parts.{atStart};
-ghost use Rattle.session.specs.Feeding.{can, Whole, None, Next, owed};
+ghost use Rattle.session.specs.Feeding.{can, Whole, None, Next, owedIn};
 
 // Before the first line: no tables.
 pub fn start() -> Session
@@ -299,10 +299,10 @@ pub(crate) fn answered(fed: Fed, turn: Turn, reply: Reply, put: usize) -> Fed
     }
 }
 
-// At the end of the input: a line that has no line feed is refused, where the output has room for an answer.
+// At the end of the input: a line that has no line feed is refused, where the output has room for any answer's line.
 pub fn finish(session: Session, left: usize, out: &mut [u8]) -> usize
     ensures { λ r. ⌜ (r ≤ length (now (out .entry)))
-        × (longestLine ≤ length (now (out .entry)) → take r (now (out .exit)) ≡ owed (session .skip) left) ⌝ }
+        × (take r (now (out .exit)) ≡ owedIn (length (now (out .entry))) (session .skip) left) ⌝ }
 {
     if out.len() < answers::LONGEST_LINE {
         return 0;
