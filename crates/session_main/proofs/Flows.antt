@@ -1,9 +1,11 @@
--- The program's loop: where it stands between two parts of the input. Assumes nothing.
+-- The program's loop: where it stands before a read and before a feed. Assumes nothing.
 use Prim.Native.Nat.{ℕ, zero, suc, _+_, _-_, _≤_, _<_}
-use mathlib.Core.Bool.{Bool, true, false, false≢true}
+use mathlib.Core.Bool.{Bool, true, false, false≢true, not, cond, _&&_}
 use mathlib.Core.List.{List, [], _∷_, _++_, append-nil}
-use mathlib.Core.Path.{_≡_, refl, sym, ap, _∙_}
+use mathlib.Core.Path.{_≡_, refl, sym, ap, _∙_, subst}
 use native.Mathlib.Omega.{arith}
+use borrow.Author.Tests.{eqb-true, eqb-false}
+use lib.Dec.{eqb}
 use lib.ListN.{length, take, drop, length-append, length-take, length-drop}
 use lib.Seq.{length-take-le, take-length, take-append-le, drop-append-le, take-add, drop-drop, drop-at}
 use Rattle.spec.specs.declared.types.Request.{Request}
@@ -13,11 +15,13 @@ use Rattle.session.specs.declared.types.Fed.{Fed}
 use Rattle.frame.specs.Lines.{NoFeed}
 use Rattle.frame.specs.Written.{mostBytes}
 use Rattle.session.specs.Standing.{doFit, longestFrame}
-use Rattle.session.specs.Feeding.{FedBy, Left, can}
+use Rattle.session.specs.Feeding.{FedBy, Left, can, owed}
 use Rattle.session.proofs.Parts.{parts-together, no-feed-left, feeds-on}
 use Rattle.session.specs.Parts.{atStart, Lent, Through, begins, goes}
 use Rattle.session_main.specs.declared.flow.Flow.{Flow}
-use Rattle.session_main.specs.Flowing.{ReadsOn, Onward, GoesOn, Reserved, first, Served}
+use Rattle.session_main.specs.declared.system.Got.{Got}
+use Rattle.session_main.specs.Flowing.{bufferLength, deliveredBy, isFailed, atFirst, afterRead, afterFeed, afterWrite, CanRead, Reads, ReadsOn, toWrite, GoesOn, Reserved, first, amount, AllDeliver, Delivers, Write, handedTo, AllWritten, Writes, Handed, Served}
+use Rattle.session_main.proofs.Answering.{at-most, failed-none}
 
 -- ---- an input of which more is read
 -- what was cut from it can still be cut from it
@@ -41,23 +45,6 @@ through-more input more (begins e) = begins e
 through-more input more (goes {used} part r out calls cut made) =
     goes part r out (through-more input more calls) (part-more part used input more cut) made
 
--- ---- reading on keeps what is still to be fed, and the turns do not grow
-module _ {flow : Flow} {buffer buffer′ : List ℕ} {r : Flow} (reads : ReadsOn flow buffer buffer′ r) where
-  pub reads-kept : flow .have ≤ r .have
-  reads-kept =
-      elim (value (r .ended)) [
-        | is-true e ↦ omega (arith, reads .ends e .0)
-        | is-false e ↦ omega (arith, reads .goes e .0)
-      ]
-
-  pub reads-falls : r .turns ≤ flow .turns
-  reads-falls =
-      elim (value (r .ended)) [
-        | is-true e ↦ omega (arith, reads .ends e .1)
-        | is-false e ↦ omega (arith, reads .goes e .1)
-      ]
-
--- ---- the loop
 -- what is left of the front of the buffer
 drop-take : (n have : ℕ) (buffer : List ℕ) → n ≤ have → have ≤ length buffer
     → drop n (take have buffer) ≡ take (have - n) (drop n buffer)
@@ -66,151 +53,335 @@ drop-take n have buffer h k =
     ap (drop n) (rw all at (take-add n (have - n) buffer))
     ∙ drop-at (take n buffer) (take (have - n) (drop n buffer)) n (length-take-le n buffer (omega arith))
 
+-- ---- what was read and written so far
 -- what is still to be fed stands at the front of the buffer: all that is read and not used. The tables, with so many start slots,
--- do for the session, and each turn used some of the input or read some
-pub record Flows (begun : Lent) (starts : ℕ) (flow : Flow) (buffer : List ℕ) (ws : List Request) (submitted served dropped : List ℕ) : Type 0 where
+-- do for the session
+pub record Stands (begun : Lent) (slots : ℕ) (flow : Flow) (buffer : List ℕ) (ws : List Request) (submitted served dropped : List ℕ) : Type 0 where
   pub input : List ℕ
   pub used : ℕ
   pub answers : List ℕ
+  pub reads : List Got
+  pub writes : List Write
   pub through :
       Through begun input used answers
       (record { session = flow .session; waitingTable = ws; submitted = submitted; served = served; dropped = dropped })
   pub read : used ≤ length input
   pub front : take (flow .have) buffer ≡ drop used input
   pub within : flow .have ≤ length buffer
-  pub fits : doFit (flow .session) (length ws) (length submitted) (length served) (length dropped) starts ≡ true
-  pub ended : flow .ended ≡ true → NoFeed input used (length input) × (flow .turns ≡ 0)
-  pub failed : flow .failed ≡ true → flow .turns ≡ 0
-  pub spent : flow .ended ≡ false → flow .failed ≡ false → largest64 ≤ flow .turns + used + length input
+  pub fits : doFit (flow .session) (length ws) (length submitted) (length served) (length dropped) slots ≡ true
+  pub long : amount reads ≡ length input
+  pub delivers : Delivers (flow .ended) (flow .unreadable) reads
+  pub written : Writes (flow .unwritten) writes
 
-pub flows-begin : (flow : Flow) (ws : List Request) (submitted served dropped starts buffer out : List ℕ)
-    → flow ≡ record { session = atStart; have = 0; turns = largest64; ended = false; failed = false }
+-- one, where lines may be left that the turn before had no room to answer: that turn used some of the buffer
+abbrev spare : Bool → ℕ
+spare true = 1
+spare false = 0
+
+-- before a read: where no lines are left, the beginning of a frame at most is still to be fed
+pub record Flows (begun : Lent) (slots : ℕ) (flow : Flow) (buffer : List ℕ) (ws : List Request) (submitted served dropped : List ℕ) : Type 0 where
+  pub stands : Stands begun slots flow buffer ws submitted served dropped
+  pub handed : Handed (flow .ended) (stands .input) (stands .answers) (handedTo (stands .writes))
+  pub begun-left : flow .full ≡ false → (flow .have ≤ longestFrame) × NoFeed (stands .input) (stands .used) (length (stands .input))
+  pub ends : flow .ended ≡ true → flow .turns ≡ 0
+  pub fails : flow .unwritten ≡ true → flow .turns ≡ 0
+  pub spent : flow .ended ≡ false → flow .unwritten ≡ false
+      → largest64 + spare (flow .full) ≤ flow .turns + stands .used + length (stands .input)
+
+-- before a feed: more was read, or lines were left, or the input is at its end
+pub record Feeds (begun : Lent) (slots : ℕ) (flow : Flow) (buffer : List ℕ) (ws : List Request) (submitted served dropped : List ℕ) : Type 0 where
+  pub stands : Stands begun slots flow buffer ws submitted served dropped
+  pub handed : handedTo (stands .writes) ≡ stands .answers
+  pub whole : flow .ended ≡ true → NoFeed (stands .input) (stands .used) (length (stands .input))
+  pub going : 0 < flow .turns
+  pub good : flow .unwritten ≡ false
+  pub spent : flow .ended ≡ false → largest64 + 1 ≤ flow .turns + stands .used + length (stands .input)
+
+pub flows-begin : {flow : Flow} {ws : List Request} {submitted served dropped starts buffer out : List ℕ} → flow ≡ atFirst
     → Reserved ws submitted served dropped starts buffer out
     → Flows (first ws submitted served dropped) (length starts) flow buffer ws submitted served dropped
-flows-begin flow ws submitted served dropped starts buffer out e reserved =
-    record {
-      input = [];
-      used = 0;
-      answers = [];
-      through = rw e (begins refl);
-      read = omega arith;
-      front = rw e;
-      within = rw e (omega arith);
-      fits = rw e (reserved .fits);
-      ended = λ h. absurd (false≢true (sym (ap (λ (f : Flow). f .ended) e) ∙ h));
-      failed = λ h. absurd (false≢true (sym (ap (λ (f : Flow). f .failed) e) ∙ h));
-      spent = λ _ _. rw e (omega arith);
-    }
+flows-begin {flow} {ws} {submitted} {served} {dropped} {starts} {buffer} {out} e reserved =
+    subst (λ (flow : Flow). Flows (first ws submitted served dropped) (length starts) flow buffer ws submitted served dropped) (sym e)
+    (record {
+      stands =
+          record {
+            input = [];
+            used = 0;
+            answers = [];
+            reads = [];
+            writes = [];
+            through = begins refl;
+            read = omega arith;
+            front = refl;
+            within = omega arith;
+            fits = reserved .fits;
+            long = refl;
+            delivers = (refl, tt);
+            written = tt;
+          };
+      handed = refl;
+      begun-left = λ _. (omega arith, λ k h l g. absurd (omega arith));
+      ends = λ h. absurd (false≢true h);
+      fails = λ h. absurd (false≢true h);
+      spent = λ _ _. omega arith;
+    })
 
--- where n of these characters are used
-module _ {begun : Lent} {starts : ℕ} {flow : Flow} {buffer : List ℕ} {ws : List Request} {submitted served dropped : List ℕ}
-    (flows : Flows begun starts flow buffer ws submitted served dropped) (n : ℕ) (h : n ≤ flow .have) where
-  abbrev left : ℕ
-  left = flow .have - n
+-- a turn is made only where the loop has not stopped
+not-stopped : (turns : ℕ) (b : Bool) → (b ≡ true → turns ≡ 0) → 0 < turns → b ≡ false
+not-stopped turns true none going = absurd (omega (arith, none refl))
+not-stopped turns false none going = refl
 
-  read-on : flows .used + n ≤ length (flows .input)
-  read-on =
-      omega (
-        arith,
-        ap length (flows .front),
-        flows .read,
-        flows .within,
-        length-take (flow .have) buffer,
-        length-drop (flows .used) (flows .input),
-      )
+some : (n : ℕ) → eqb n 0 ≡ false → 0 < n
+some zero e = absurd (eqb-false 0 0 e refl)
+some (suc n) e = omega arith
 
-  -- the others stand in front of what is read next
-  front-on : (have′ : ℕ) (buffer′ : List ℕ) → take left buffer′ ≡ take left (drop n buffer) → left ≤ have′
-      → take have′ buffer′ ≡ drop (flows .used + n) (flows .input ++ take (have′ - left) (drop left buffer′))
-  front-on have′ buffer′ unused kept =
-      let all : left + (have′ - left) ≡ have′ = omega arith in
-      rw all at (take-add left (have′ - left) buffer′)
-      ∙ ap (λ (l : List ℕ). l ++ take (have′ - left) (drop left buffer′))
-      (unused ∙ sym (drop-take n (flow .have) buffer h (flows .within)) ∙ ap (drop n) (flows .front)
-      ∙ drop-drop n (flows .used) (flows .input))
-      ∙ sym (drop-append-le (flows .used + n) (flows .input) (take (have′ - left) (drop left buffer′)) read-on)
+-- ---- a read
+module _ {begun : Lent} {slots : ℕ} {flow : Flow} {buffer : List ℕ} {ws : List Request} {submitted served dropped : List ℕ}
+    (flows : Flows begun slots flow buffer ws submitted served dropped) (buffer-long : length buffer ≡ bufferLength) (going : 0 < flow .turns) where
+  -- what `read_on` asks
+  pub can-read : CanRead (flow .full) flow
+  can-read = go (flow .full) (flows .begun-left)
+    where
+      go : (full : Bool) → (full ≡ false → (flow .have ≤ longestFrame) × NoFeed (flows .stands .input) (flows .stands .used) (length (flows .stands .input)))
+          → CanRead full flow
+      go true left = tt
+      go false left = omega (arith, left refl .0)
 
--- ---- a turn
-module _ (begun : Lent) (slots : ℕ) (flow : Flow) (fed : Fed) (buffer : List ℕ) (ws ws′ : List Request)
-    (submitted served dropped starts out submitted′ served′ dropped′ out′ : List ℕ)
-    (flows : Flows begun slots flow buffer ws submitted served dropped) (slots-are : length starts ≡ slots)
+  -- it may go on
+  open-input : flow .ended ≡ false
+  open-input = not-stopped (flow .turns) (flow .ended) (flows .ends) going
+
+  good-output : flow .unwritten ≡ false
+  good-output = not-stopped (flow .turns) (flow .unwritten) (flows .fails) going
+
+  handed-all : handedTo (flows .stands .writes) ≡ flows .stands .answers
+  handed-all = rw open-input at (flows .handed)
+
+  all-deliver : AllDeliver (flows .stands .reads)
+  all-deliver = subst (λ (ended : Bool). Delivers ended (flow .unreadable) (flows .stands .reads)) open-input (flows .stands .delivers) .1
+
+  -- lines are left
+  reads-none : flow .full ≡ true → Feeds begun slots flow buffer ws submitted served dropped
+  reads-none full =
+      record {
+        stands = flows .stands;
+        handed = handed-all;
+        whole = λ e. absurd (false≢true (sym open-input ∙ e));
+        going = going;
+        good = good-output;
+        spent = λ e. subst (λ (full : Bool). largest64 + spare full ≤ flow .turns + flows .stands .used + length (flows .stands .input)) full (flows .spent e good-output);
+      }
+
+  -- none are left, and this was read
+  module _ (none : flow .full ≡ false) (buffer′ : List ℕ) (long′ : length buffer′ ≡ length buffer) (got : Got)
+      (kept : take (flow .have) buffer′ ≡ take (flow .have) buffer) (room : flow .have + deliveredBy got ≤ length buffer) where
+    abbrev more : List ℕ
+    more = take (deliveredBy got) (drop (flow .have) buffer′)
+
+    more-long : length more ≡ deliveredBy got
+    more-long = length-take-le (deliveredBy got) (drop (flow .have) buffer′) (omega (arith, room, long′, length-drop (flow .have) buffer′))
+
+    read-delivers : (ended : Bool) → eqb (deliveredBy got) 0 ≡ ended → Delivers ended (isFailed got) (got ∷ flows .stands .reads)
+    read-delivers true e = (eqb-true (deliveredBy got) 0 e, refl, all-deliver)
+    read-delivers false e = (no-failure (isFailed got) refl, (some (deliveredBy got) e, all-deliver))
+      where
+        no-failure : (failed : Bool) → isFailed got ≡ failed → failed ≡ false
+        no-failure true f = absurd (eqb-false (deliveredBy got) 0 e (failed-none (got .answer) f))
+        no-failure false f = refl
+
+    reads-some : Feeds begun slots (afterRead flow got) buffer′ ws submitted served dropped
+    reads-some =
+        let stands = flows .stands in
+        let input : List ℕ = stands .input in
+        record {
+          stands =
+              record {
+                input = input ++ more;
+                used = stands .used;
+                answers = stands .answers;
+                reads = got ∷ stands .reads;
+                writes = stands .writes;
+                through = through-more input more (stands .through);
+                read = omega (arith, stands .read, length-append input more);
+                front =
+                    take-add (flow .have) (deliveredBy got) buffer′
+                    ∙ ap (λ (l : List ℕ). l ++ more) (kept ∙ stands .front)
+                    ∙ sym (drop-append-le (stands .used) input more (stands .read));
+                within = omega (arith, room, long′);
+                fits = stands .fits;
+                long = omega (arith, stands .long, more-long, length-append input more);
+                delivers = read-delivers (eqb (deliveredBy got) 0) refl;
+                written = stands .written;
+              };
+          handed = handed-all;
+          whole =
+              λ e.
+              let nothing : more ≡ [] = ap (λ (n : ℕ). take n (drop (flow .have) buffer′)) (eqb-true (deliveredBy got) 0 e) in
+              rw (nothing, append-nil input) (flows .begun-left none .1);
+          going = going;
+          good = good-output;
+          spent =
+              λ e.
+              omega (arith, some (deliveredBy got) e, more-long, length-append input more, flows .spent open-input good-output);
+        }
+
+  pub reads-on : (buffer′ : List ℕ) (r : Flow) → ReadsOn (flow .full) flow buffer buffer′ r → length buffer′ ≡ length buffer
+      → Feeds begun slots r buffer′ ws submitted served dropped × (r .turns ≡ flow .turns)
+  reads-on buffer′ r reads long′ = go (flow .full) refl reads
+    where
+      go : (full : Bool) → flow .full ≡ full → ReadsOn full flow buffer buffer′ r
+          → Feeds begun slots r buffer′ ws submitted served dropped × (r .turns ≡ flow .turns)
+      go true full same = rw (same .0, same .1) (reads-none full, refl)
+      go false full read =
+          let room : flow .have < bufferLength = subst (λ (full : Bool). CanRead full flow) full can-read in
+          subst (λ (r : Flow). Feeds begun slots r buffer′ ws submitted served dropped × (r .turns ≡ flow .turns)) (sym (read .is)) (
+            reads-some full buffer′ long′ (read .got) (read .behind .0)
+                (omega (arith, room, buffer-long, at-most (bufferLength - flow .have) (read .got .answer) (read .behind .1))),
+            refl,
+          )
+
+-- ---- the turns left after a write
+stops : (written ended : Bool) (turns : ℕ) → ended ≡ true → cond (written && not ended) turns 0 ≡ 0
+stops true true turns e = refl
+stops true false turns e = absurd (false≢true e)
+stops false ended turns e = refl
+
+fails : (written ended : Bool) (turns : ℕ) → not written ≡ true → cond (written && not ended) turns 0 ≡ 0
+fails true ended turns e = absurd (false≢true e)
+fails false ended turns e = refl
+
+goes-on : (written ended : Bool) (turns : ℕ) → ended ≡ false → not written ≡ false → cond (written && not ended) turns 0 ≡ turns
+goes-on true true turns e h = absurd (false≢true (sym e))
+goes-on true false turns e h = refl
+goes-on false ended turns e h = absurd (false≢true (sym h))
+
+falls : (written ended : Bool) (turns : ℕ) → 0 < turns → cond (written && not ended) (turns - 1) 0 < turns
+falls true true turns h = h
+falls true false turns h = omega arith
+falls false ended turns h = h
+
+-- ---- a feed, and the write of its answers
+module _ {begun : Lent} {slots : ℕ} {flow : Flow} {fed : Fed} {buffer : List ℕ} {ws ws′ : List Request}
+    {submitted served dropped starts out submitted′ served′ dropped′ out′ : List ℕ}
+    (feeds : Feeds begun slots flow buffer ws submitted served dropped) (slots-are : length starts ≡ slots)
     (f : FedBy (flow .session) (take (flow .have) buffer) ws submitted served dropped starts out
     fed ws′ submitted′ served′ dropped′ out′) where
   do-fit : doFit (flow .session) (length ws) (length submitted) (length served) (length dropped) (length starts) ≡ true
-  do-fit = rw slots-are (flows .fits)
+  do-fit = rw slots-are (feeds .stands .fits)
 
-  -- what `go_on` asks of what was fed
-  pub feeds-onward : longestFrame < length buffer → mostBytes ≤ length out → Onward (fed .full) flow fed buffer
-  feeds-onward frame-fits answer-fits = go (fed .full) (feeds-on f do-fit answer-fits) (f .left)
-    where
-      go : (full : Bool) → (full ≡ true → 0 < fed .used)
-          → Left full (take (flow .have) buffer) (fed .used)
-          (can fed (length ws) (length submitted) (length served) (length dropped) (length starts) (length out))
-          → Onward full flow fed buffer
-      go true some cannot = some refl
-      go false some left = omega (arith, left .0, length-take-le (flow .have) buffer (flows .within))
+  pub fed-within : fed .used ≤ flow .have
+  fed-within = omega (arith, f .within, length-take-le (flow .have) buffer (feeds .stands .within))
 
-  -- a turn is made only where the loop has not stopped
-  not-stopped : (b : Bool) → (b ≡ true → flow .turns ≡ 0) → 0 < flow .turns → b ≡ false
-  not-stopped true none going = absurd (omega (arith, none refl))
-  not-stopped false none going = refl
+  abbrev stands : Stands begun slots flow buffer ws submitted served dropped
+  stands = feeds .stands
 
-  pub flows-on : (r : Flow) (buffer′ : List ℕ) → GoesOn flow fed buffer buffer′ r → length buffer′ ≡ length buffer → 0 < flow .turns
-      → Flows begun slots r buffer′ ws′ submitted′ served′ dropped′
-  flows-on r buffer′ g e going =
-      let n : fed .used ≤ flow .have = omega (arith, f .within, length-take (flow .have) buffer) in
-      let part : List ℕ = take (flow .have) buffer in
-      let left : ℕ = flow .have - fed .used in
-      let more : List ℕ = take (r .have - left) (drop left buffer′) in
-      record {
-        input = flows .input ++ more;
-        used = flows .used + fed .used;
-        answers = flows .answers ++ take (fed .put) out′;
-        through =
-            goes part fed out′ (through-more (flows .input) more (flows .through))
-            (part-more part (flows .used) (flows .input) more
-            (sym (take-length part) ∙ ap (take (length part)) (flows .front)))
-            (record { session-kept = g .session-same; starts = starts; out₀ = out; fed = f });
-        read = omega (arith, read-on flows (fed .used) n, length-append (flows .input) more);
-        front = front-on flows (fed .used) n (r .have) buffer′ (g .unused) (g .kept);
-        within = omega (arith, e, g .within);
-        fits =
-            rw (g .session-same, f .long .waiting-long, f .long .submitted-long, f .long .served-long, f .long .dropped-long, sym slots-are)
-            (f .fits do-fit);
-        ended =
-            λ h.
-            let none : r .have - left ≡ 0 = omega (arith, g .ends h .1) in (
-              rw (none, append-nil (flows .input)) (no-feed-left (flows .input) (flows .used) (flows .front) f (g .ends h .0)),
-              g .ends h .2,
-            );
-        failed = g .fails;
-        spent =
-            λ h k.
-            omega (
-              arith,
-              n,
-              e,
-              g .kept,
-              g .within,
-              g .goes h k .0,
-              g .goes h k .1,
-              flows .spent (not-stopped (flow .ended) (λ x. flows .ended x .1) going) (not-stopped (flow .failed) (flows .failed) going),
-              length-append (flows .input) more,
-              length-take (r .have - left) (drop left buffer′),
-              length-drop left buffer′,
-            );
-      }
+  abbrev input : List ℕ
+  input = stands .input
 
-pub flows-end : (flow : Flow) (slots : ℕ) (buffer : List ℕ) (ws₀ ws : List Request)
-    (submitted₀ served₀ dropped₀ submitted served dropped : List ℕ)
+  have-is : flow .have ≡ length input - stands .used
+  have-is =
+      omega (arith, ap length (stands .front), stands .within, length-take (flow .have) buffer, length-drop (stands .used) input)
+
+  module _ (answer-fits : mostBytes ≤ length out) {r : Flow} {buffer′ out″ : List ℕ} (on : GoesOn flow fed buffer out′ buffer′ out″ r)
+      (buffer-long : length buffer′ ≡ length buffer) where
+    abbrev w : Write
+    w = record { out = out″; receipt = on .receipt }
+
+    all-written : AllWritten (stands .writes)
+    all-written = subst (λ (unwritten : Bool). Writes unwritten (stands .writes)) (feeds .good) (stands .written)
+
+    writes-on : (written : Bool) → on .receipt .written ≡ written → Writes (not written) (w ∷ stands .writes)
+    writes-on true e = (e, all-written)
+    writes-on false e = (e, all-written)
+
+    handed-on : (ended : Bool) → flow .ended ≡ ended → take (on .receipt .asked) out″ ≡ toWrite ended flow fed out′
+        → Handed ended input (stands .answers ++ take (fed .put) out′) (handedTo (w ∷ stands .writes))
+    handed-on true e h =
+        rw (h, feeds .handed)
+        (ap (λ (n : ℕ). stands .answers ++ owed (flow .session .skip) n) have-is
+        ∙ parts-together input (stands .through) (feeds .whole e))
+    handed-on false e h = rw (h, feeds .handed)
+
+    left-on : fed .full ≡ false → (flow .have - fed .used ≤ longestFrame) × NoFeed input (stands .used + fed .used) (length input)
+    left-on e =
+        let left =
+        subst
+        (λ (full : Bool). Left full (take (flow .have) buffer) (fed .used)
+        (can fed (length ws) (length submitted) (length served) (length dropped) (length starts) (length out))) e (f .left)
+        in (
+          omega (arith, left .0, length-take-le (flow .have) buffer (stands .within)),
+          no-feed-left input (stands .used) (stands .front) f e,
+        )
+
+    -- a turn that leaves lines used some of the buffer
+    spare-used : (full : Bool) → fed .full ≡ full → spare full ≤ fed .used
+    spare-used true e = omega (arith, feeds-on f do-fit answer-fits e)
+    spare-used false e = omega arith
+
+    abbrev written : Bool
+    written = on .receipt .written
+
+    pub feeds-through : Flows begun slots r buffer′ ws′ submitted′ served′ dropped′ × (r .turns < flow .turns)
+    feeds-through =
+        let part : List ℕ = take (flow .have) buffer in
+        subst (λ (r : Flow). Flows begun slots r buffer′ ws′ submitted′ served′ dropped′ × (r .turns < flow .turns)) (sym (on .is)) (
+          record {
+            stands =
+                record {
+                  input = input;
+                  used = stands .used + fed .used;
+                  answers = stands .answers ++ take (fed .put) out′;
+                  reads = stands .reads;
+                  writes = w ∷ stands .writes;
+                  through =
+                      goes part fed out′ (stands .through) (sym (take-length part) ∙ ap (take (length part)) (stands .front))
+                      (record { session-kept = refl; starts = starts; out₀ = out; fed = f });
+                  read = omega (arith, stands .read, fed-within, have-is);
+                  front =
+                      on .unused ∙ sym (drop-take (fed .used) (flow .have) buffer fed-within (stands .within))
+                      ∙ ap (drop (fed .used)) (stands .front) ∙ drop-drop (fed .used) (stands .used) input;
+                  within = omega (arith, buffer-long, stands .within);
+                  fits =
+                      rw (f .long .waiting-long, f .long .submitted-long, f .long .served-long, f .long .dropped-long, sym slots-are)
+                      (f .fits do-fit);
+                  long = stands .long;
+                  delivers = stands .delivers;
+                  written = writes-on written refl;
+                };
+            handed = handed-on (flow .ended) refl (on .handed);
+            begun-left = left-on;
+            ends = λ e. stops written (flow .ended) (flow .turns - 1) e;
+            fails = λ e. fails written (flow .ended) (flow .turns - 1) e;
+            spent =
+                λ e h.
+                omega (
+                  arith,
+                  goes-on written (flow .ended) (flow .turns - 1) e h,
+                  feeds .spent e,
+                  feeds .going,
+                  spare-used (fed .full) refl,
+                );
+          },
+          falls written (flow .ended) (flow .turns) (feeds .going),
+        )
+
+-- ---- the end
+pub flows-end : {flow : Flow} {slots : ℕ} {buffer : List ℕ} {ws₀ ws : List Request}
+    {submitted₀ served₀ dropped₀ submitted served dropped : List ℕ}
     → Flows (first ws₀ submitted₀ served₀ dropped₀) slots flow buffer ws submitted served dropped → flow .turns ≡ 0
     → Served ws₀ submitted₀ served₀ dropped₀ ws submitted served dropped flow
-flows-end flow slots buffer ws₀ ws submitted₀ served₀ dropped₀ submitted served dropped flows over =
+flows-end flows over =
+    let stands = flows .stands in
     record {
-      input = flows .input;
-      used = flows .used;
-      answers = flows .answers;
-      through = flows .through;
-      all = λ h. parts-together (flows .input) (flows .through) (flows .ended h .0);
-      stops = λ h k. omega (arith, over, flows .spent h k, flows .read);
+      input = stands .input;
+      used = stands .used;
+      answers = stands .answers;
+      reads = stands .reads;
+      writes = stands .writes;
+      through = stands .through;
+      long = stands .long;
+      delivers = stands .delivers;
+      handed = flows .handed;
+      written = stands .written;
+      stops = λ h k. omega (arith, over, flows .spent h k, stands .read);
     }

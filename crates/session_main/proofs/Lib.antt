@@ -1,2 +1,3 @@
+pub mod Answering
 pub mod Flows
 pub mod Values

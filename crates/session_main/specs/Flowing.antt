@@ -1,69 +1,207 @@
--- What happens between two parts of the input, and what the program's tables then hold. Assumes nothing.
-use Prim.Native.Nat.{ℕ, _+_, _-_, _≤_, _<_}
-use mathlib.Core.Bool.{Bool, true, false}
-use mathlib.Core.List.{List, _++_}
+-- What the program does between two parts of the input, and what it has then read, fed and handed to the write.
+--
+-- Two lines of the program are outside of every proof, since no contract says what a system call does: in src/system.rt the call of
+-- `read`, whose contract tells how much it may deliver and not that this is the next of standard input, and the call of `write_all`,
+-- whose answer says whether all is written and whose contract says nothing. tests/src/bin/session.rs shows both: a program that
+-- reads or writes something else, or less, fails its first session; one that takes a failed write or read for a good one fails in
+-- `try_unread_answers` or `try_unreadable_inputs`. Assumes nothing.
+use Prim.Native.Nat.{ℕ, zero, suc, _+_, _-_, _≤_, _<_}
+use mathlib.Core.Bool.{Bool, true, false, not, cond, _&&_}
+use mathlib.Core.List.{List, [], _∷_, _++_}
 use mathlib.Core.Path.{_≡_}
+use lib.Dec.{eqb}
+use lib.IntN.{ℤ, pos, negsuc}
 use lib.ListN.{length, take, drop}
+use Rattle.libc.specs.Io.{Moved}
 use Rattle.spec.specs.declared.types.Request.{Request}
 use Rattle.session.specs.declared.types.Fed.{Fed}
 use Rattle.spec.specs.Session.{session as sessionOf}
 use Rattle.columns.specs.Columns.{largest64}
 use Rattle.frame.specs.Written.{mostBytes}
-use Rattle.session.specs.Standing.{doFit, longestFrame}
+use Rattle.session.specs.Standing.{doFit}
 use Rattle.session.specs.Feeding.{owed}
 use Rattle.session.specs.Parts.{atStart, Lent, Through}
 use Rattle.session_main.specs.declared.flow.Flow.{Flow}
+use Rattle.session_main.specs.declared.system.Got.{Got}
+use Rattle.session_main.specs.declared.system.Receipt.{Receipt}
 
--- more is read behind what is still to be fed; where there is no more, the input is at its end
-pub record ReadsOn (flow : Flow) (buffer buffer′ : List ℕ) (r : Flow) : Type 0 where
-  pub session-same : r .session ≡ flow .session
-  pub unused : take (flow .have) buffer′ ≡ take (flow .have) buffer
-  pub within : r .have ≤ length buffer
-  pub failed-not : r .failed ≡ false
-  pub ends : r .ended ≡ true → (r .have ≡ flow .have) × (r .turns ≡ 0)
-  pub goes : r .ended ≡ false → (flow .have < r .have) × (r .turns ≡ flow .turns)
+-- ---- a read
+-- the characters that the buffer has room for: fewer than the output has (`mostBytes`), so that neither is taken for the other
+abbrev pub bufferLength : ℕ
+bufferLength = 65536
 
--- what the loop needs of a call of `feed` to go on: it used some of the buffer, or, where no line is left, there is room to read
-abbrev pub Onward : Bool → Flow → Fed → List ℕ → Type 0
-Onward true flow fed buffer = 0 < fed .used
-Onward false flow fed buffer = flow .have < fed .used + length buffer
+-- how many characters a read put in the buffer
+abbrev pub amountOf : ℤ → ℕ
+amountOf (pos n) = n
+amountOf (negsuc n) = 0
 
--- the session goes on as it was fed; what was not used of the buffer stands in front of what is fed next; a turn less is left
-pub record GoesOn (flow : Flow) (fed : Fed) (buffer buffer′ : List ℕ) (r : Flow) : Type 0 where
-  pub session-same : r .session ≡ fed .session
+abbrev pub deliveredBy : Got → ℕ
+deliveredBy got = amountOf (got .answer)
+
+-- whether it failed
+abbrev pub isNegative : ℤ → Bool
+isNegative (pos n) = false
+isNegative (negsuc n) = true
+
+abbrev pub isFailed : Got → Bool
+isFailed got = isNegative (got .answer)
+
+-- a read changes only what stands behind the first `have` characters, and delivers no more than there is room for
+abbrev pub ReadBehind : ℕ → List ℕ → List ℕ → Got → Type 0
+ReadBehind have buffer buffer′ got = (take have buffer′ ≡ take have buffer) × Moved (bufferLength - have) (got .answer)
+
+-- ---- the steps of a turn
+abbrev pub atFirst : Flow
+atFirst =
+    record {
+      session = atStart;
+      have = 0;
+      put = 0;
+      turns = largest64;
+      full = false;
+      ended = false;
+      unreadable = false;
+      unwritten = false;
+    }
+
+-- a read that delivers nothing is the input's end, or failed
+abbrev pub afterRead : Flow → Got → Flow
+afterRead flow got =
+    record {
+      session = flow .session;
+      have = flow .have + deliveredBy got;
+      put = flow .put;
+      turns = flow .turns;
+      full = flow .full;
+      ended = eqb (deliveredBy got) 0;
+      unreadable = isFailed got;
+      unwritten = flow .unwritten;
+    }
+
+abbrev pub afterFeed : Flow → Fed → ℕ → Flow
+afterFeed flow fed n =
+    record {
+      session = fed .session;
+      have = flow .have - fed .used;
+      put = n;
+      turns = flow .turns - 1;
+      full = fed .full;
+      ended = flow .ended;
+      unreadable = flow .unreadable;
+      unwritten = flow .unwritten;
+    }
+
+-- the program goes on unless the input is at its end or the write failed
+abbrev pub afterWrite : Flow → Receipt → Flow
+afterWrite flow receipt =
+    record {
+      session = flow .session;
+      have = flow .have;
+      put = 0;
+      turns = cond (receipt .written && not (flow .ended)) (flow .turns) 0;
+      full = flow .full;
+      ended = flow .ended;
+      unreadable = flow .unreadable;
+      unwritten = not (receipt .written);
+    }
+
+-- ---- reading on
+-- unless lines are left, there is room behind what is still to be fed
+abbrev pub CanRead : Bool → Flow → Type 0
+CanRead true flow = Unit {0}
+CanRead false flow = flow .have < bufferLength
+
+pub record Reads (flow : Flow) (buffer buffer′ : List ℕ) (r : Flow) : Type 0 where
+  pub got : Got
+  pub behind : ReadBehind (flow .have) buffer buffer′ got
+  pub is : r ≡ afterRead flow got
+
+-- where lines are left nothing is read
+abbrev pub ReadsOn : Bool → Flow → List ℕ → List ℕ → Flow → Type 0
+ReadsOn true flow buffer buffer′ r = (r ≡ flow) × (buffer′ ≡ buffer)
+ReadsOn false flow buffer buffer′ r = Reads flow buffer buffer′ r
+
+-- ---- going on
+-- what is written next: the answers, or what is owed at the end of the input
+abbrev pub toWrite : Bool → Flow → Fed → List ℕ → List ℕ
+toWrite true flow fed out = owed (flow .session .skip) (flow .have)
+toWrite false flow fed out = take (fed .put) out
+
+abbrev pub Puts : Bool → Flow → Fed → List ℕ → List ℕ → ℕ → Type 0
+Puts ended flow fed out out′ n = (n ≤ length out) × (take n out′ ≡ toWrite ended flow fed out)
+
+-- that is handed to the write, and what was not used of the buffer stands in front of what is read next
+pub record GoesOn (flow : Flow) (fed : Fed) (buffer out buffer′ out′ : List ℕ) (r : Flow) : Type 0 where
+  pub receipt : Receipt
+  pub handed : take (receipt .asked) out′ ≡ toWrite (flow .ended) flow fed out
+  pub is : r ≡ afterWrite (afterFeed flow fed (receipt .asked)) receipt
   pub unused : take (flow .have - fed .used) buffer′ ≡ take (flow .have - fed .used) (drop (fed .used) buffer)
-  pub kept : flow .have - fed .used ≤ r .have
-  pub within : r .have ≤ length buffer
-  pub falls : r .turns < flow .turns
-  pub ends : r .ended ≡ true → (fed .full ≡ false) × (r .have ≡ flow .have - fed .used) × (r .turns ≡ 0)
-  pub fails : r .failed ≡ true → r .turns ≡ 0
-  -- otherwise some of the buffer was used or some was read
-  pub goes : r .ended ≡ false → r .failed ≡ false
-      → (flow .turns ≡ r .turns + 1) × (flow .have < r .have + fed .used + fed .used)
 
+-- ---- the program
 -- what the program needs for each turn to use or read something: tables for every session, room for an answer, and room to read
--- behind the longest beginning of a frame
 pub record Reserved (ws : List Request) (submitted served dropped starts buffer out : List ℕ) : Type 0 where
   pub fits : doFit atStart (length ws) (length submitted) (length served) (length dropped) (length starts) ≡ true
   pub answer-fits : mostBytes ≤ length out
-  pub frame-fits : longestFrame < length buffer
+  pub buffer-long : length buffer ≡ bufferLength
 
 -- the tables that the program begins with, and where the session then stands
 abbrev pub first : List Request → List ℕ → List ℕ → List ℕ → Lent
 first ws submitted served dropped =
     record { session = atStart; waitingTable = ws; submitted = submitted; served = served; dropped = dropped }
 
+-- the reads, the last one first: how much they delivered, and that each delivered something, but for the last where the input ends
+abbrev pub amount : List Got → ℕ
+amount [] = 0
+amount (got ∷ reads) = amount reads + deliveredBy got
+
+abbrev pub AllDeliver : List Got → Type 0
+AllDeliver [] = Unit {0}
+AllDeliver (got ∷ reads) = (0 < deliveredBy got) × AllDeliver reads
+
+abbrev pub Delivers : Bool → Bool → List Got → Type 0
+Delivers false unreadable reads = (unreadable ≡ false) × AllDeliver reads
+Delivers true unreadable [] = ⊥
+Delivers true unreadable (got ∷ reads) = (deliveredBy got ≡ 0) × (isFailed got ≡ unreadable) × AllDeliver reads
+
+-- the writes, the last one first: what was handed to them, one behind the other, and that each is said to be done, but for the last
+-- where the program stops for it
+pub record Write : Type 0 where
+  pub out : List ℕ
+  pub receipt : Receipt
+
+abbrev pub handedTo : List Write → List ℕ
+handedTo [] = []
+handedTo (w ∷ writes) = handedTo writes ++ take (w .receipt .asked) (w .out)
+
+abbrev pub AllWritten : List Write → Type 0
+AllWritten [] = Unit {0}
+AllWritten (w ∷ writes) = (w .receipt .written ≡ true) × AllWritten writes
+
+abbrev pub Writes : Bool → List Write → Type 0
+Writes false writes = AllWritten writes
+Writes true [] = ⊥
+Writes true (w ∷ writes) = (w .receipt .written ≡ false) × AllWritten writes
+
+-- what was handed to the write: the answers so far, and at the input's end the whole session's, with the last line's
+abbrev pub Handed : Bool → List ℕ → List ℕ → List ℕ → Type 0
+Handed true input answers handed = handed ≡ sessionOf input
+Handed false input answers handed = handed ≡ answers
+
 -- from the tables ws₀ .. dropped₀ the program came to ws .. dropped by feeding a session one input from its start, part behind
--- part, nothing left out and nothing twice; which input that is, no contract says
+-- part, nothing left out and nothing twice, and it handed the answers to the write, in order; which input that is, no contract says
 pub record Served (ws₀ : List Request) (submitted₀ served₀ dropped₀ : List ℕ) (ws : List Request)
     (submitted served dropped : List ℕ) (r : Flow) : Type 0 where
   pub input : List ℕ
   pub used : ℕ
   pub answers : List ℕ
+  pub reads : List Got
+  pub writes : List Write
   pub through :
       Through (first ws₀ submitted₀ served₀ dropped₀) input used answers
       (record { session = r .session; waitingTable = ws; submitted = submitted; served = served; dropped = dropped })
-  -- at the input's end the answers and what is owed are the session's
-  pub all : r .ended ≡ true → answers ++ owed (r .session .skip) (length input - used) ≡ sessionOf input
-  -- and it stops at no other place, unless a write failed, before the input has 2⁶³ characters
-  pub stops : r .ended ≡ false → r .failed ≡ false → largest64 ≤ length input + length input
+  pub long : amount reads ≡ length input
+  pub delivers : Delivers (r .ended) (r .unreadable) reads
+  pub handed : Handed (r .ended) input answers (handedTo writes)
+  pub written : Writes (r .unwritten) writes
+  -- it stops at the input's end, where a read or a write is said to have failed, and otherwise not before the input has 2⁶³ characters
+  pub stops : r .ended ≡ false → r .unwritten ≡ false → largest64 ≤ length input + length input

@@ -1,39 +1,138 @@
-// Between two parts of the input: the answers are written, what was not used stays in front, and more is read behind it.
-use libc::STDIN_FILENO;
-use libc::STDOUT_FILENO;
+// A turn of the program: more of the input is read behind what is still to be fed, and when that is fed, its answers are written.
+use crate::system;
+use crate::system::Got;
+use crate::system::Receipt;
 use session::turns;
 use session::types::Fed;
 use session::types::Session;
-ghost use mathlib.Core.Bool.{false};
+ghost use mathlib.Core.Bool.{cond, _||_};
 ghost use mathlib.Core.Path.{_≡_};
 ghost use Prim.Native.Nat.{_+_, _-_, _<_, _≤_};
 ghost use lib.ListN.{length, take, drop};
-ghost use Rattle.columns.specs.Columns.{largest64};
-ghost use Rattle.session.specs.Parts.{atStart};
-ghost use Rattle.session_main.specs.Flowing.{ReadsOn, Onward, GoesOn};
+ghost use Rattle.frame.specs.Written.{mostBytes};
+ghost use Rattle.session_main.specs.Flowing.{bufferLength, atFirst, afterRead, afterFeed, afterWrite, deliveredBy, CanRead, ReadsOn, Puts, GoesOn};
 
-// Where the program stands: the first `have` characters of the buffer are still to be fed. A loop that reads to the end of the input
-// needs a number that falls, since nothing says that the input ends: `turns`, which starts at the largest; 0 ends the program.
+// Where the program stands. A loop that reads to the end of the input needs a number that falls, since nothing says that the input
+// ends: `turns`, which starts at the largest; 0 ends the program.
 pub struct Flow {
     pub session: Session,
+    // So many characters at the front of the buffer are still to be fed.
     pub have: usize,
+    // So many characters at the front of the output are written next.
+    pub put: usize,
     pub turns: u64,
-    // The input is at its end, and no whole line of it is left.
+    // Lines may be left: they are answered before more is read.
+    pub full: bool,
+    // A read delivered nothing: the input is at its end, or cannot be read.
     pub ended: bool,
+    // The input cannot be read.
+    pub unreadable: bool,
     // Answers could not be written.
-    pub failed: bool,
+    pub unwritten: bool,
 }
 
 pub(crate) fn start() -> Flow
-    ensures { λ r. ⌜ r ≡ record { session = atStart; have = 0; turns = largest64; ended = false; failed = false } ⌝ }
+    ensures { λ r. ⌜ r ≡ atFirst ⌝ }
 {
     let session = turns::start();
     Flow {
         session,
         have: 0,
+        put: 0,
         turns: u64::MAX,
+        full: false,
         ended: false,
-        failed: false,
+        unreadable: false,
+        unwritten: false,
+    }
+}
+
+// What follows from a read.
+fn after_read(flow: Flow, got: Got) -> Flow
+    requires { ⌜ flow .have + deliveredBy got ≤ bufferLength ⌝ }
+    ensures { λ r. ⌜ r ≡ afterRead flow got ⌝ }
+{
+    let session = flow.session;
+    let more = system::delivered(got);
+    let unreadable = system::is_failed(got);
+    Flow {
+        session,
+        have: flow.have + more,
+        put: flow.put,
+        turns: flow.turns,
+        full: flow.full,
+        ended: more == 0,
+        unreadable,
+        unwritten: flow.unwritten,
+    }
+}
+
+// Reads more of the input behind what is still to be fed, unless lines are left.
+pub(crate) fn read_on(flow: Flow, buffer: &mut [u8]) -> Flow
+    requires { ⌜ (length (now buffer) ≡ bufferLength) × CanRead (flow .full) flow ⌝ }
+    ensures { λ r. ⌜ ReadsOn (flow .full) flow (now (buffer .entry)) (now (buffer .exit)) r ⌝ }
+{
+    if flow.full {
+        return flow;
+    }
+    let got = system::read_behind(buffer, flow.have);
+    after_read(flow, got)
+}
+
+// How much of the output is written next: the answers to what was fed or, at the end of the input, what is owed for a line without
+// its line feed.
+fn put_next(flow: Flow, fed: Fed, out: &mut [u8]) -> usize
+    requires { ⌜ (mostBytes ≤ length (now out)) × (fed .put ≤ length (now out)) ⌝ }
+    ensures { λ r. ⌜ Puts (flow .ended) flow fed (now (out .entry)) (now (out .exit)) r ⌝ }
+{
+    if flow.ended {
+        let session = flow.session;
+        return turns::finish(session, flow.have, out);
+    }
+    fed.put
+}
+
+// What follows from feeding, where the first n characters of the output are to be written.
+fn after_feed(flow: Flow, fed: Fed, n: usize) -> Flow
+    requires { ⌜ (0 < flow .turns) × (fed .used ≤ flow .have) ⌝ }
+    ensures { λ r. ⌜ r ≡ afterFeed flow fed n ⌝ }
+{
+    let session = fed.session;
+    Flow {
+        session,
+        have: flow.have - fed.used,
+        put: n,
+        turns: flow.turns - 1,
+        full: fed.full,
+        ended: flow.ended,
+        unreadable: flow.unreadable,
+        unwritten: flow.unwritten,
+    }
+}
+
+fn turns_left(goes: bool, turns: u64) -> u64
+    ensures { λ r. ⌜ r ≡ cond goes turns 0 ⌝ }
+{
+    if goes { turns } else { 0 }
+}
+
+// What follows from a write, which was asked for what was to be written.
+fn after_write(flow: Flow, receipt: Receipt) -> Flow
+    requires { ⌜ receipt .asked ≡ flow .put ⌝ }
+    ensures { λ r. ⌜ r ≡ afterWrite flow receipt ⌝ }
+{
+    let session = flow.session;
+    let written = system::is_written(receipt);
+    let turns = turns_left(written & !flow.ended, flow.turns);
+    Flow {
+        session,
+        have: flow.have,
+        put: 0,
+        turns,
+        full: flow.full,
+        ended: flow.ended,
+        unreadable: flow.unreadable,
+        unwritten: !written,
     }
 }
 
@@ -49,83 +148,30 @@ fn carry(buffer: &mut [u8], from: usize, n: usize)
     }
 }
 
-// Reads into the part, and hands back how many characters it got: none at the end of the input, and none where the read fails. A
-// part without room would look like the end.
-fn read_some(part: &mut [u8]) -> usize
-    requires { ⌜ 0 < length (now part) ⌝ }
-    ensures { λ r. ⌜ r ≤ length (now (part .entry)) ⌝ }
-{
-    let got = libc::read(STDIN_FILENO, part);
-    io::count(got, part)
-}
-
-// Writes the first n characters, and hands back whether they are written.
-fn write_front(out: &[u8], n: usize) -> bool
-    requires { ⌜ n ≤ length (now out) ⌝ }
-{
-    io::write_all(STDOUT_FILENO, &out[..n])
-}
-
-// At the end of the input: what is owed for a line without its line feed.
-fn last(session: Session, left: usize, out: &mut [u8]) {
-    let n = turns::finish(session, left, out);
-    write_front(out, n);
-}
-
-// Reads more of the input behind what is still to be fed, which stays; where there is no more, the program ends.
-fn read_on(flow: Flow, buffer: &mut [u8], out: &mut [u8]) -> Flow
-    requires { ⌜ flow .have < length (now buffer) ⌝ }
-    ensures { λ r. ⌜ ReadsOn flow (now (buffer .entry)) (now (buffer .exit)) r ⌝ }
-{
-    let session = flow.session;
-    let have = flow.have;
-    let more = read_some(&mut buffer[have..]);
-    if more == 0 {
-        last(session, have, out);
-        return Flow {
-            session,
-            have,
-            turns: 0,
-            ended: true,
-            failed: false,
-        };
-    }
-    Flow {
-        session,
-        have: have + more,
-        turns: flow.turns,
-        ended: false,
-        failed: false,
-    }
-}
-
-// Writes the answers and gets more of the input, if all whole lines are answered.
+// When the front of the buffer is fed: what was not used of it goes to the front, and the answers are written.
 pub(crate) fn go_on(flow: Flow, fed: Fed, buffer: &mut [u8], out: &mut [u8]) -> Flow
-    requires { ⌜ (0 < flow .turns) × (flow .have ≤ length (now buffer)) × (fed .used ≤ flow .have) × (fed .put ≤ length (now out))
-        × Onward (fed .full) flow fed (now buffer) ⌝ }
-    ensures { λ r. ⌜ GoesOn flow fed (now (buffer .entry)) (now (buffer .exit)) r ⌝ }
+    requires { ⌜ (0 < flow .turns) × (length (now buffer) ≡ bufferLength) × (flow .have ≤ bufferLength) × (fed .used ≤ flow .have)
+        × (mostBytes ≤ length (now out)) × (fed .put ≤ length (now out)) ⌝ }
+    ensures { λ r. ⌜ GoesOn flow fed (now (buffer .entry)) (now (out .entry)) (now (buffer .exit)) (now (out .exit)) r ⌝ }
 {
-    let session = fed.session;
-    let have = flow.have - fed.used;
-    carry(buffer, fed.used, have);
-    if !write_front(out, fed.put) {
-        return Flow {
-            session,
-            have,
-            turns: 0,
-            ended: false,
-            failed: true,
-        };
+    let n = put_next(flow, fed, out);
+    let next = after_feed(flow, fed, n);
+    carry(buffer, fed.used, next.have);
+    let receipt = system::write_front(out, next.put);
+    after_write(next, receipt)
+}
+
+// Says what kept the program from the end of the input, and hands back whether there was something to say.
+pub(crate) fn say_why(flow: Flow) -> bool
+    ensures { λ r. ⌜ r ≡ flow .unwritten || flow .unreadable ⌝ }
+{
+    if flow.unwritten {
+        system::say(b"session_main: the answers could not be written, the session is over\n");
+        return true;
     }
-    let next = Flow {
-        session,
-        have,
-        turns: flow.turns - 1,
-        ended: false,
-        failed: false,
-    };
-    if fed.full {
-        return next;
+    if flow.unreadable {
+        system::say(b"session_main: the input could not be read, the session is over\n");
+        return true;
     }
-    read_on(next, buffer, out)
+    false
 }

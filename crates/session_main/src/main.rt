@@ -1,6 +1,7 @@
 // The session program: it reads lines from standard input and answers them on standard output. `session::feed` answers them; here are
 // the tables, the buffers and the loop.
 mod flow;
+mod system;
 
 use flow::Flow;
 use frame::answers::MOST_BYTES;
@@ -9,7 +10,10 @@ use spec::bounds::MOST_RECORDS;
 use spec::types::Request;
 ghost use Rattle.session_main.specs.Flowing.{Reserved, Served};
 
-// Feeds the session part by part, until the input ends or a write fails, and hands back where that was.
+// The characters that the buffer has room for.
+const BUFFER: usize = 65536;
+
+// Feeds the session part by part, until the input ends or a read or a write fails, and hands back where that was.
 fn serve(
     waiting: &mut [Request],
     submitted: &mut [u32],
@@ -25,9 +29,10 @@ fn serve(
 {
     let mut flow = flow::start();
     while flow.turns > 0 {
+        let read = flow::read_on(flow, buffer);
         let fed = session::feed(
-            flow.session,
-            &buffer[..flow.have],
+            read.session,
+            &buffer[..read.have],
             waiting,
             submitted,
             served,
@@ -35,7 +40,7 @@ fn serve(
             starts,
             out,
         );
-        let next = flow::go_on(flow, fed, buffer, out);
+        let next = flow::go_on(read, fed, buffer, out);
         flow = next;
     }
     flow
@@ -53,9 +58,9 @@ fn main() {
     let mut served = [0u32; MOST_CLIENTS];
     let mut dropped = [0u32; MOST_CLIENTS];
     let mut starts = [0u64; MOST_RECORDS];
-    let mut buffer = [0u8; 65536];
+    let mut buffer = [0u8; BUFFER];
     let mut out = [0u8; 4 * MOST_BYTES];
-    serve(
+    let flow = serve(
         &mut waiting,
         &mut submitted,
         &mut served,
@@ -64,4 +69,5 @@ fn main() {
         &mut buffer,
         &mut out,
     );
+    flow::say_why(flow);
 }

@@ -8,7 +8,7 @@ use std::env::{args, current_exe};
 use std::fs::{write, File};
 use std::io::{self, Read, Write};
 use std::os::fd::OwnedFd;
-use std::os::unix::net::UnixDatagram;
+use std::os::unix::net::{UnixDatagram, UnixStream};
 use std::os::unix::process::ExitStatusExt;
 use std::path::PathBuf;
 use std::process::{exit, Child, Command, ExitStatus, Stdio};
@@ -130,6 +130,12 @@ const DOCUMENT_OUT: &str = "\
 
 fn document(s: &mut Session) {
     s.raw(DOCUMENT_IN).answer(DOCUMENT_OUT);
+}
+
+// With a line begun behind it.
+fn document_and_more(s: &mut Session) {
+    document(s);
+    s.raw("03").refused(1);
 }
 
 fn nothing(_: &mut Session) {}
@@ -688,6 +694,10 @@ const CASES: [Case; 27] = [
 
 const SIGPIPE: i32 = 13;
 
+// What the program says where it could not write, and where it could not read.
+const UNWRITTEN: &str = "session_main: the answers could not be written, the session is over\n";
+const UNREADABLE: &str = "session_main: the input could not be read, the session is over\n";
+
 const LIMIT: Duration = Duration::from_secs(60);
 
 // Inputs up to this length are fed in pieces too.
@@ -733,9 +743,20 @@ struct Program {
 }
 
 // The command is gone afterwards, and with it this side's copies of what it was given.
-fn start(mut command: Command) -> Child {
-    let started = command.stdout(Stdio::piped()).stderr(Stdio::piped()).spawn();
+fn start_to(mut command: Command, output: impl Into<Stdio>) -> Child {
+    let started = command.stdout(output).stderr(Stdio::piped()).spawn();
     or_fail("the program", started)
+}
+
+fn start(command: Command) -> Child {
+    start_to(command, Stdio::piped())
+}
+
+// Two ends, of which the second hands back an error where it would have to wait.
+fn half_hasty() -> (UnixStream, UnixStream) {
+    let (ours, theirs) = or_fail("two sockets", UnixStream::pair());
+    or_fail("a socket that does not wait", theirs.set_nonblocking(true));
+    (ours, theirs)
 }
 
 // Reads to the end in a thread, so that the program never waits for a reader.
@@ -813,15 +834,19 @@ impl Program {
         Ended { status, output, errors }
     }
 
-    // The program ended by itself and without a message.
-    fn hold_quiet(&self, ended: &Ended) {
-        if !ended.status.success() || !ended.errors.is_empty() {
+    // The program ended by itself, and said this on standard error.
+    fn hold_said(&self, said: &str, ended: &Ended) {
+        if !ended.status.success() || ended.errors != said.as_bytes() {
             fail(format!("{}: {}, {}", self.case, ended.status, shown(&ended.errors)));
         }
     }
 
     fn hold(&self, session: &Session, ended: &Ended) {
-        self.hold_quiet(ended);
+        self.hold_said("", ended);
+        self.hold_answers(session, ended);
+    }
+
+    fn hold_answers(&self, session: &Session, ended: &Ended) {
         let mut left = &ended.output[..];
         for (i, (line, answer)) in session.lines.iter().zip(&session.answers).enumerate() {
             let Some(rest) = left.strip_prefix(&answer[..]) else {
@@ -936,7 +961,7 @@ impl Program {
         }
     }
 
-    // Nobody reads the answers. The signal for that may end the program, and where it is ignored, the failed write.
+    // Nobody reads the answers. The signal for that may end the program, without a word, and where it is ignored, the failed write.
     fn try_unread_answers(&mut self) {
         let input = frames::open(1, 100, 1) + "\n" + &"03\n".repeat(1_000_000);
         let ways = [
@@ -959,12 +984,33 @@ impl Program {
             }
             let ended = self.end(child);
             if ended.status.signal() != Some(SIGPIPE) || !ended.errors.is_empty() {
-                self.hold_quiet(&ended);
+                self.hold_said(UNWRITTEN, &ended);
             }
         }
     }
 
-    // A read that fails is the input's end.
+    // The answers are read only when the program has ended, and it does not wait for that: those that had room came.
+    fn try_slow_reader(&mut self) {
+        let mut session = Session::default();
+        many_ticks(&mut session);
+        self.sessions += 1;
+        self.name("a slow reader", "through a socket that does not wait");
+        or_fail("the file for inputs", write(&self.scratch, session.lines.concat()));
+        let mut command = self.command();
+        command.stdin(or_fail("the file for inputs", File::open(&self.scratch)));
+        let (mut ours, theirs) = half_hasty();
+        let child = start_to(command, OwnedFd::from(theirs));
+        let ended = self.end(child);
+        self.hold_said(UNWRITTEN, &ended);
+        let mut came = vec![];
+        or_fail("what the program wrote", ours.read_to_end(&mut came));
+        let answers = session.answers.concat();
+        if came.is_empty() || came.len() == answers.len() || !answers.starts_with(&came) {
+            fail(format!("{}: {} characters came, {}", self.case, came.len(), shown(&came)));
+        }
+    }
+
+    // A read that fails ends the session as the input's end does, and the program says so.
     fn try_unreadable_inputs(&mut self) {
         for (way, script) in [
             ("closed", "exec \"$0\" <&-"),
@@ -975,7 +1021,26 @@ impl Program {
             self.name("unreadable input", way);
             let child = start(self.by_shell(script));
             let ended = self.end(child);
-            self.hold(&Session::default(), &ended);
+            self.hold_said(UNREADABLE, &ended);
+            self.hold_answers(&Session::default(), &ended);
+        }
+    }
+
+    // More of the input is to come, and the program does not wait for it.
+    fn try_hasty_reads(&mut self) {
+        for fill in [nothing, document, document_and_more] {
+            let mut session = Session::default();
+            fill(&mut session);
+            self.sessions += 1;
+            self.name("more to come", "through a socket that does not wait");
+            let (mut ours, theirs) = half_hasty();
+            or_fail("the first part of the input", ours.write_all(&session.lines.concat()));
+            let mut command = self.command();
+            command.stdin(OwnedFd::from(theirs));
+            let child = start(command);
+            let ended = self.end(child);
+            self.hold_said(UNREADABLE, &ended);
+            self.hold_answers(&session, &ended);
         }
     }
 }
@@ -1000,7 +1065,9 @@ fn main() {
     program.try_last_lines();
     program.try_buffer_ends();
     program.try_unread_answers();
+    program.try_slow_reader();
     program.try_unreadable_inputs();
+    program.try_hasty_reads();
     println!(
         "{} sessions, run {} times: all as document 01 says",
         program.sessions, program.runs

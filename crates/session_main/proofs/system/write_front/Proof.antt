@@ -1,14 +1,14 @@
--- `session_main::flow::write_front` meets its contract. Assumes nothing.
+-- `session_main::system::write_front` meets its contract. Assumes nothing.
 use mathlib.Core.Path.{sym}
 use borrow.Author.Needs.{needs}
 use lib.Seq.{length-take-le}
-use Rattle.session_main.proofs.flow.write_front.Statement.{statement}
-use Rattle.session_main.proofs.flow.write_front.Tie as tie
+use Rattle.session_main.proofs.system.write_front.Statement.{statement}
+use Rattle.session_main.proofs.system.write_front.Tie as tie
 
 slice-aggregate-write-all : tie.Need-slice-aggregate-write-all
 slice-aggregate-write-all c =
     let start = c .before .before in
-    sym (length-take-le (start .args .n) (start .args .out .now) (start .pre))
+    sym (length-take-le (start .args .n) (start .args .out .now) (start .pre .1))
 
 write-all-requires : tie.Need-write-all-requires
 write-all-requires c κs = search needs
