@@ -1,7 +1,7 @@
 -- Laws of what a read answers: a number of characters, or less than 0. Assumes nothing.
 use Prim.Native.Nat.{ℕ, _-_, _≤_, _<_, _^_}
-use mathlib.Core.Bool.{Bool, true, false, false≢true}
-use mathlib.Core.Path.{_≡_, refl, sym}
+use mathlib.Core.Bool.{true, false, false≢true}
+use mathlib.Core.Path.{_≡_, refl}
 use native.Mathlib.Omega.{arith}
 use borrow.Author.Tests.{ltb-false, le-ltb}
 use lib.Dec.{T}

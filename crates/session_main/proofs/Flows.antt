@@ -9,7 +9,6 @@ use lib.Dec.{eqb}
 use lib.ListN.{length, take, drop, length-append, length-take, length-drop}
 use lib.Seq.{length-take-le, take-length, take-append-le, drop-append-le, take-add, drop-drop, drop-at}
 use Rattle.spec.specs.declared.types.Request.{Request}
-use Rattle.spec.proofs.Laws.Every.{is-true, is-false, value}
 use Rattle.columns.specs.Columns.{largest64}
 use Rattle.session.specs.declared.types.Fed.{Fed}
 use Rattle.frame.specs.Lines.{NoFeed}
@@ -17,10 +16,10 @@ use Rattle.frame.specs.Written.{mostBytes}
 use Rattle.session.specs.Standing.{doFit, longestFrame}
 use Rattle.session.specs.Feeding.{FedBy, Left, can, owed}
 use Rattle.session.proofs.Parts.{parts-together, no-feed-left, feeds-on}
-use Rattle.session.specs.Parts.{atStart, Lent, Through, begins, goes}
+use Rattle.session.specs.Parts.{Lent, Through, begins, goes}
 use Rattle.session_main.specs.declared.flow.Flow.{Flow}
 use Rattle.session_main.specs.declared.system.Got.{Got}
-use Rattle.session_main.specs.Flowing.{bufferLength, deliveredBy, isFailed, atFirst, afterRead, afterFeed, afterWrite, CanRead, Reads, ReadsOn, toWrite, GoesOn, Reserved, first, amount, AllDeliver, Delivers, Write, handedTo, AllWritten, Writes, Handed, Served}
+use Rattle.session_main.specs.Flowing.{bufferLength, deliveredBy, isFailed, atFirst, afterRead, CanRead, ReadsOn, toWrite, GoesOn, Reserved, first, amount, AllDeliver, Delivers, Write, handedTo, AllWritten, Writes, Handed, Served}
 use Rattle.session_main.proofs.Answering.{at-most, failed-none}
 
 -- ---- an input of which more is read

@@ -1,3 +1,5 @@
 pub mod Answering
 pub mod Flows
+pub mod Lending
+pub mod Turns
 pub mod Values

@@ -5,7 +5,7 @@
 -- whose answer says whether all is written and whose contract says nothing. tests/src/bin/session.rs shows both: a program that
 -- reads or writes something else, or less, fails its first session; one that takes a failed write or read for a good one fails in
 -- `try_unread_answers` or `try_unreadable_inputs`. Assumes nothing.
-use Prim.Native.Nat.{ℕ, zero, suc, _+_, _-_, _≤_, _<_}
+use Prim.Native.Nat.{ℕ, _+_, _-_, _≤_, _<_}
 use mathlib.Core.Bool.{Bool, true, false, not, cond, _&&_}
 use mathlib.Core.List.{List, [], _∷_, _++_}
 use mathlib.Core.Path.{_≡_}

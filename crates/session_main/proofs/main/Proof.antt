@@ -1,35 +1,28 @@
 -- `session_main::main` meets its contract, which asks nothing but that it ends: a walk that makes the arrays, lends them, and says
 -- where the program stopped.
 -- Assumes nothing.
-use Rattle.walk.proofs.Prelude.{_≡_, refl, sym, subst, ℕ, _<_, _^_, List, [], _∷_, arith, length, replicate, length-replicate, lit<, URA, w64, w8, w32, tyArray, vint, vunit, vbool, bool, SProp, emp, id⊢, froom, Memory, Routine, Heap, Tables, Atoms, Fun, fact, givenOf, Given, ‵, _$_, !, rewrite, use1, agg, stop, from, addr, lit, of-opd, and-then, no-more, unit-lit, FmC, fmOf, Nothing, uint-makes, uint-lawful, uint-copy, u8, u32, u64, Room, tripleOf, lone}
-use mathlib.Core.Bool.{_||_}
-use mir.Syntax.{Width, Body, seq, assign, place, int, repeat, tyInt}
-use mir.Val.{bits}
-use base.Fml.{ftrue}
-use lib.Dec.{lt→ltb}
-use prog.Wp.{Env, Spot, Calls, Loops, spotOf}
-use types.Kit.{Item, nth, Post, Goal, runs, Step, step, drop}
-use types.Run.{Walks, Finds}
-use denote.RattleType.{RattleType}
-use denote.Plain.{UInt, nothing-makes, bool-lawful, bool-tells}
+use types.Kit.{drop}
+use Rattle.walk.proofs.Prelude.{_≡_, refl, sym, subst, ℕ, List, [], _∷_, arith, length, replicate, length-replicate, lit<, URA, w64, w8, w32, vunit, vbool, bool, SProp, emp, id⊢, Memory, Routine, Heap, Tables, Atoms, Fun, givenOf, Given, ‵, _$_, !, rewrite, agg, stop, from, addr, lit, of-opd, and-then, no-more, unit-lit, FmC, fmOf, Nothing, u8, u32, u64, Room, tripleOf}
+use denote.Plain.{nothing-makes, bool-lawful, bool-tells}
 use Rattle.spec.specs.declared.types.Request.{Request}
 use Rattle.spec.specs.Tables.{zeroRequest}
 use Rattle.table.proofs.Rows.{R, mach, vals, lawful, copy, makes, zero-is}
 use Rattle.walk.proofs.Enter.{so}
 use Rattle.walk.proofs.Proves.{Shape, Walk, proves}
-use Rattle.walk.proofs.Locals.{back, puts, var, vars, sets, gets-told, gives}
-use Rattle.walk.proofs.At.{takes-out, puts-back, calls-at, calls-now}
+use Rattle.walk.proofs.Locals.{var, vars, sets, gets-told, gives}
+use Rattle.walk.proofs.At.{takes-out, calls-at, calls-now}
 use Rattle.walk.proofs.Steps.{big-lit}
 use Rattle.walk.proofs.Slices.Loans.{Param, loan, bound}
-use Rattle.walk.proofs.Slices.Arrays.{Held-array, array-room, array-lent, repeats}
+use Rattle.walk.proofs.Slices.Arrays.{Held-array, array-lent, repeats}
 use Rattle.session.specs.Standing.{doFit}
-use Rattle.session_main.specs.Flowing.{bufferLength, Reserved, Served}
+use Rattle.session_main.specs.Flowing.{bufferLength, Reserved}
+use Rattle.session_main.proofs.Lending.{lends-slice, zeros, zeros-long, zeroes, all-zeros, ends-array}
 use Rattle.session_main.proofs.Values.{FlowT, flow-val, flow-tells, flow-lawful, the-flow}
 use Rattle.session_main.proofs.serve as serve
 use Rattle.session_main.proofs.flow.say_why as say-why
 use Rattle.session_main.proofs.main as f
 
--- the arrays' elements, shut, so that no check computes on them
+-- the waiting records, shut, so that no check computes on them
 records : List Request
 records = replicate 2048 zeroRequest
 
@@ -41,17 +34,6 @@ records-long : length records ≡ 2048
 unfolding records
 records-long = length-replicate {A = Request} 2048 zeroRequest
 
-zeros : ℕ → List ℕ
-zeros n = replicate n 0
-
-zeros-is : (n : ℕ) → replicate n 0 ≡ zeros n
-unfolding zeros
-zeros-is n = refl
-
-zeros-long : (n : ℕ) → length (zeros n) ≡ n
-unfolding zeros
-zeros-long n = length-replicate {A = ℕ} n 0
-
 -- which are as long as the program needs
 reserved : Reserved records (zeros 256) (zeros 256) (zeros 256) (zeros 2048) (zeros 65536) (zeros 286748)
 unfolding doFit
@@ -61,31 +43,6 @@ reserved =
       answer-fits = omega (arith, zeros-long 286748);
       buffer-long = zeros-long bufferLength;
     }
-
--- ---- arrays of zeros
-module _ {M : Type 1} {𝓤 : URA M} {H : Heap 𝓤} {A : Atoms 𝓤} {K : Type 0} {W : Given 𝓤 H A} {Γ : List (Item 𝓤)} where
-  -- where the local x stands
-  stands : K → {E : Env 𝓤 H} {x : ℕ} {sp : Spot 𝓤 H} → spotOf 𝓤 H E x ≡ sp → Finds K W Γ E (place x []) sp
-  stands t {E} {sp = sp} e = from t (subst (λ (s : Spot 𝓤 H). Walks K W Γ E s [] sp) (sym e) (stop t))
-
-module _ {M : Type 1} {𝓤 : URA M} {H : Heap 𝓤} {A : Atoms 𝓤} {K : Type 0} {W : Given 𝓤 H A} {Γ : List (Item 𝓤)} where
-  -- `x = [0; n]`, at a local array x
-  zeroes : K → {E : Env 𝓤 H} {C : Calls 𝓤 H} {Λ : Loops 𝓤 H} {q : Post 𝓤 H} {rest : Body} {x n l : ℕ} {w : Width} → 0 < 2 ^ bits w
-      → nth 𝓤 H A (back x Γ) Γ ≡ ‵ (froom (tyArray (tyInt w) n) l 0) → spotOf 𝓤 H E x ≡ (tyArray (tyInt w) n, l, 0)
-      → Step K W (‵ (Held-array (UInt w) n l (zeros n)) ∷ puts H A x (‵ ftrue) Γ) (runs C Λ E rest q)
-      Γ (runs C Λ E (seq (assign (place x []) (repeat (int w 0) n)) rest) q)
-  zeroes t {E} {x = x} {n} {l} {w} fits room spot = step (λ s.
-      takes-out t x room $ repeats t (UInt w) (uint-lawful 𝓤 H A W w) (uint-copy 𝓤 H A W w) (uint-makes 𝓤 H A W w) n 0 (vint w 0) (refl, fits) l (lit t (lt→ltb 0 (2 ^ bits w) fits)) (stands t spot) (
-      rewrite t 0 (λ (xs : List ℕ). ‵ (Held-array (UInt w) n l xs)) (zeros-is n) refl $ s))
-
-  -- the local array x is room again
-  ends-array : K → (x : ℕ) (S : RattleType) (n l : ℕ) (xs : List (S .Denot)) {G : Goal 𝓤 H}
-      → Step K W (puts H A x (‵ (froom (tyArray (lone (S .mir)) n) l 0)) Γ) G (‵ (Held-array S n l xs) ∷ Γ) G
-  ends-array t x S n l xs = step (λ s. use1 W (‵ (froom (tyArray (lone (S .mir)) n) l 0)) (array-room W S n l xs) $ puts-back t x $ s)
-
--- lent whole
-abbrev all-zeros : {M : Type 1} {𝓤 : URA M} {H : Heap 𝓤} {A : Atoms 𝓤} (W : Given 𝓤 H A) (w : Width) (n l : ℕ) → Room (UInt w) n → Param 𝓤 H A
-all-zeros W w n l room = loan (array-lent W (UInt w) n l tt (zeros n) (subst (Room (UInt w)) (sym (zeros-long n)) room) (zeros-long n))
 
 module _ {M : Type 1} (𝓤 : URA M) (H : Heap 𝓤) (A : Atoms 𝓤) (W : Given 𝓤 H A) (mem : Memory → SProp 𝓤) (run : Routine → Fun 𝓤) where
   abbrev shape : Shape W
@@ -116,21 +73,20 @@ module _ {M : Type 1} (𝓤 : URA M) (H : Heap 𝓤) (A : Atoms 𝓤) (W : Given
       takes-out ! 1 refl $ repeats ! R (lawful 𝓤 H A W) (copy 𝓤 H A W) (makes 𝓤 H A W) 2048 zeroRequest (mach zeroRequest) zero-is l₁ (var ! refl) (from ! (stop !)) (
       rewrite ! 0 (λ (xs : List Request). ‵ (Held-array R 2048 l₁ xs)) records-is refl $
       zeroes ! (lit< tt) refl refl $ zeroes ! (lit< tt) refl refl $ zeroes ! (lit< tt) refl refl $ zeroes ! (lit< tt) refl refl $ zeroes ! (lit< tt) refl refl $ zeroes ! (lit< tt) refl refl $
-      sets ! (addr ! (from ! (stop !))) refl (tt, tt) $ sets ! (agg ! (and-then ! (var ! refl) (and-then ! (big-lit ! (record { fits = lit< tt })) (no-more !)))) refl (tt, (tt, (record { fits = lit< tt }, tt))) $
-      sets ! (addr ! (from ! (stop !))) refl (tt, tt) $ sets ! (agg ! (and-then ! (var ! refl) (and-then ! (lit ! tt) (no-more !)))) refl (tt, (tt, (record { fits = lit< tt }, tt))) $
-      sets ! (addr ! (from ! (stop !))) refl (tt, tt) $ sets ! (agg ! (and-then ! (var ! refl) (and-then ! (lit ! tt) (no-more !)))) refl (tt, (tt, (record { fits = lit< tt }, tt))) $
-      sets ! (addr ! (from ! (stop !))) refl (tt, tt) $ sets ! (agg ! (and-then ! (var ! refl) (and-then ! (lit ! tt) (no-more !)))) refl (tt, (tt, (record { fits = lit< tt }, tt))) $
-      sets ! (addr ! (from ! (stop !))) refl (tt, tt) $ sets ! (agg ! (and-then ! (var ! refl) (and-then ! (big-lit ! (record { fits = lit< tt })) (no-more !)))) refl (tt, (tt, (record { fits = lit< tt }, tt))) $
-      sets ! (addr ! (from ! (stop !))) refl (tt, tt) $ sets ! (agg ! (and-then ! (var ! refl) (and-then ! (big-lit ! (record { fits = lit< tt })) (no-more !)))) refl (tt, (tt, (record { fits = lit< tt }, tt))) $
-      sets ! (addr ! (from ! (stop !))) refl (tt, tt) $ sets ! (agg ! (and-then ! (var ! refl) (and-then ! (big-lit ! (record { fits = lit< tt })) (no-more !)))) refl (tt, (tt, (record { fits = lit< tt }, tt))) $
+      lends-slice ! (addr ! (from ! (stop !))) (lit< tt) refl refl (big-lit ! (record { fits = lit< tt })) $
+      lends-slice ! (addr ! (from ! (stop !))) (lit< tt) refl refl (lit ! tt) $
+      lends-slice ! (addr ! (from ! (stop !))) (lit< tt) refl refl (lit ! tt) $
+      lends-slice ! (addr ! (from ! (stop !))) (lit< tt) refl refl (lit ! tt) $
+      lends-slice ! (addr ! (from ! (stop !))) (lit< tt) refl refl (big-lit ! (record { fits = lit< tt })) $
+      lends-slice ! (addr ! (from ! (stop !))) (lit< tt) refl refl (big-lit ! (record { fits = lit< tt })) $
+      lends-slice ! (addr ! (from ! (stop !))) (lit< tt) refl refl (big-lit ! (record { fits = lit< tt })) $
       -- let flow = serve(&mut waiting, &mut submitted, &mut served, &mut dropped, &mut starts, &mut buffer, &mut out);
       let ps : List (Param 𝓤 H A) = loan (array-lent W R 2048 l₁ tt records (subst (Room R) (sym records-long) (lit< tt, lit< tt)) records-long) ∷ all-zeros W w32 256 l₂ (lit< tt, lit< tt) ∷ all-zeros W w32 256 l₃ (lit< tt, lit< tt) ∷ all-zeros W w32 256 l₄ (lit< tt, lit< tt) ∷ all-zeros W w64 2048 l₅ (lit< tt, lit< tt) ∷ all-zeros W w8 65536 l₆ (lit< tt, lit< tt) ∷ all-zeros W w8 286748 l₇ (lit< tt, lit< tt) ∷ [] in
-      calls-at ! fm (6 ∷ 5 ∷ 4 ∷ 3 ∷ 2 ∷ 1 ∷ 0 ∷ []) ps (fact 𝓤 (Reserved records (zeros 256) (zeros 256) (zeros 256) (zeros 2048) (zeros 65536) (zeros 286748))) (so 𝓤 reserved) FlowT (λ r last. Served records (zeros 256) (zeros 256) (zeros 256) (last .0) (last .1 .0) (last .1 .1 .0) (last .1 .1 .1 .0) r)
-      (λ c. known-serve (bound W ps c)) refl (λ c. vars ! (refl, (refl, (refl, (refl, (refl, (refl, (refl, tt)))))))) (λ w flow last served kept.
+      calls-at ! fm (6 ∷ 5 ∷ 4 ∷ 3 ∷ 2 ∷ 1 ∷ 0 ∷ []) ps _ (so 𝓤 reserved) FlowT _ (λ c. known-serve (bound W ps c)) refl (λ c. vars ! (refl, (refl, (refl, (refl, (refl, (refl, (refl, tt)))))))) (λ w flow last served kept.
       gets-told ! FlowT (flow-lawful 𝓤 H A W) flow-val flow-tells w flow refl refl (λ flow-is.
       -- flow::say_why(flow);
       let ps′ : List (Param 𝓤 H A) = the-flow W flow flow-is ∷ [] in
-      calls-now ! fm [] ps′ bool (λ r last. r ≡ flow .unwritten || flow .unreadable) (λ c. known-say-why (bound W ps′ c)) refl (λ c. vars ! (refl, tt)) (λ w′ said last′ told kept′.
+      calls-now ! fm [] ps′ bool _ (λ c. known-say-why (bound W ps′ c)) refl (λ c. vars ! (refl, tt)) (λ w′ said last′ told kept′.
       gets-told ! bool (bool-lawful 𝓤 H A W) vbool bool-tells w′ said refl refl (λ said-is.
       sets ! (of-opd ! (unit-lit !)) refl (tt, tt) $
       ends-array ! 7 u8 286748 l₇ (last .1 .1 .1 .1 .1 .1 .0) $ ends-array ! 6 u8 65536 l₆ (last .1 .1 .1 .1 .1 .0) $ ends-array ! 5 u64 2048 l₅ (last .1 .1 .1 .1 .0) $ ends-array ! 4 u32 256 l₄ (last .1 .1 .1 .0) $ ends-array ! 3 u32 256 l₃ (last .1 .1 .0) $ ends-array ! 2 u32 256 l₂ (last .1 .0) $ ends-array ! 1 R 2048 l₁ (last .0) $

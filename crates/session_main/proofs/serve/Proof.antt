@@ -1,36 +1,28 @@
 -- `session_main::serve` meets its contract: a walk with a loop, which reads on, feeds the front of the buffer and goes on. A turn
 -- stands where what was fed are parts of one input (`Flows`).
 -- Assumes nothing.
-use prog.Wp.{Env, Spot, spotOf}
-use lib.ListN.{length}
-use mir.Syntax.{Ty, Lifetime, Mutability}
-use types.Run.{Walks, Rv}
-use types.Part.{Part}
-use Rattle.walk.proofs.Prelude.{_≡_, refl, sym, _∙_, subst, ap, ℕ, _<_, _≤_, List, [], _∷_, take, URA, fullShare, Val, vptr, vint, w64, SProp, Lft, Share, Lfts, Shares, fat, Memory, Routine, Heap, Tables, Out, Wp, afterSeq, afterBlock, afterTurn, atReturn, Atoms, Fun, fact, givenOf, Given, Item, Sq, runs, anyQ, atRet, ‵, _$_, ! }
-use Rattle.walk.proofs.Prelude.{named, tyRef, deref, field, place, addrOf, sliceTy, sliceVal, agg, look-in, sub, whole, addr, hop, fld, from, stop, lit, of-opd, bin, and-then, no-more, first, blocks, exec, Below, again, loops, FmC, fmOf, Is, RattleType, u8, u32, u64, Room, Triple, tripleOf, WellFounded, InvImage·wf, Nat·lt-wfRel, T, not, ltb, ltb→lt, nltb→le, arith}
-use mir.Val.{vstruct, vcons, vnil}
+use prog.Wp.{Env}
+use prog.Routine.{Name}
 use denote.Steps.{heard}
-use types.Kit.{nth, drop}
+use Rattle.walk.proofs.Prelude.{_≡_, refl, sym, _∙_, subst, ℕ, _<_, List, [], _∷_, length, URA, Val, SProp, Lft, Share, Lfts, Shares, Memory, Routine, Heap, Tables, Out, Wp, afterSeq, afterBlock, afterTurn, atReturn, Atoms, Fun, givenOf, Given, Item, Sq, runs, anyQ, atRet, ‵, _$_, !, sliceVal, lit, of-opd, bin, no-more, first, blocks, exec, Below, again, loops, FmC, fmOf}
+use Rattle.walk.proofs.Prelude.{and-then, RattleType, u8, u32, u64, Contract, Triple, tripleOf, ltb→lt}
 use Rattle.walk.proofs.Enter.{Blocks, envAt, Slice, ref, Leaves, lent, so}
 use Rattle.walk.proofs.Proves.{Shape, Walk, proves}
 use Rattle.walk.proofs.Inside.{Lent-at}
 use Rattle.walk.proofs.Frees.{Held, holds, empty}
 use Rattle.walk.proofs.Steps.{tests}
-use Rattle.walk.proofs.Locals.{standing, back, var, vars, field-var, sets, resets-last, relends, gets, gets-told, empties, gives}
+use Rattle.walk.proofs.Locals.{standing, var, vars, field-var, sets, resets-last, relends, gets, gets-told, empties, gives}
 use Rattle.walk.proofs.At.{mut-of, calls-at, calls-now}
-use Rattle.walk.proofs.Slices.Again.{slice-cell}
-use Rattle.walk.proofs.Slices.Lent.{of-slice}
-use Rattle.walk.proofs.Slices.Loans.{Param, loan, bound}
-use Rattle.walk.proofs.Slices.Parts.{part-shared, room-less}
+use Rattle.walk.proofs.Slices.Loans.{Param, bound}
 use Rattle.spec.specs.declared.types.Request.{Request}
 use Rattle.frame.specs.Written.{mostBytes}
 use Rattle.table.proofs.Rows.{R}
-use Rattle.session.specs.Feeding.{FedBy}
 use Rattle.session.proofs.Values.{FedT, fed-lawful}
-use Rattle.session_main.specs.declared.flow.Flow.{Flow}
-use Rattle.session_main.specs.Flowing.{bufferLength, atFirst, CanRead, ReadsOn, GoesOn, Reserved, first as tables, Served}
+use Rattle.session_main.specs.Flowing.{bufferLength, Reserved}
+use Rattle.session_main.proofs.Lending.{points, lends-slice, front-of}
 use Rattle.session_main.proofs.Values.{FlowT, flow-val, flow-vals, flow-tells, flow-lawful, flow-makes, have-fits, the-flow, the-session, the-fed}
-use Rattle.session_main.proofs.Flows.{Flows, Feeds, flows-begin, can-read, reads-on, fed-within, feeds-through, flows-end}
+use Rattle.session_main.proofs.Flows.{flows-begin, can-read, reads-on, fed-within, feeds-through, flows-end}
+use Rattle.session_main.proofs.Turns.{Turns, Nearer, Nearer-wf, as-long, none-left}
 use Rattle.session_main.proofs.flow.start as start
 use Rattle.session_main.proofs.flow.read_on as read-on
 use Rattle.session.proofs.feed as feed
@@ -38,50 +30,16 @@ use Rattle.session_main.proofs.flow.go_on as go-on
 use Rattle.session_main.proofs.serve as f
 use Rattle.session_main.proofs.serve.Code.Mir as code
 
--- ---- where a turn of the loop stands
-record Turns (ws₀ : List Request) (su₀ se₀ dr₀ st₀ bu₀ out₀ : List ℕ) : Type 0 where
-  pub flow : Flow
-  pub ws : List Request
-  pub su : List ℕ
-  pub se : List ℕ
-  pub dr : List ℕ
-  pub st : List ℕ
-  pub bu : List ℕ
-  pub out : List ℕ
-  pub flow-is : Is FlowT flow (flow-vals flow)
-  pub ws-long : length ws ≡ length ws₀
-  pub su-long : length su ≡ length su₀
-  pub se-long : length se ≡ length se₀
-  pub dr-long : length dr ≡ length dr₀
-  pub st-long : length st ≡ length st₀
-  pub bu-long : length bu ≡ length bu₀
-  pub out-long : length out ≡ length out₀
-  pub so : Flows (tables ws₀ su₀ se₀ dr₀) (length st₀) flow bu ws su se dr
-
-module _ {ws : List Request} {su se dr st bu out : List ℕ} where
-  abbrev Nearer : Turns ws su se dr st bu out → Turns ws su se dr st bu out → Type 0
-  Nearer u t = u .flow .turns < t .flow .turns
-
-  Nearer-wf : WellFounded Nearer
-  Nearer-wf = InvImage·wf (λ (t : Turns ws su se dr st bu out). t .flow .turns) (Nat·lt-wfRel .wf)
-
-as-long : {m n : ℕ} (k : ℕ) → m ≡ n → k ≤ n → k ≤ m
-as-long k e h = omega arith
-
-none-left : (turns : ℕ) → T (not (ltb 0 turns)) → turns ≡ 0
-none-left turns h = omega (arith, nltb→le 0 turns h)
-
--- the address of the elements of the slice in the local x
-points : {M : Type 1} {𝓤 : URA M} {H : Heap 𝓤} {A : Atoms 𝓤} {K : Type 0} {W : Given 𝓤 H A} {Γ : List (Item 𝓤)} {E : Env 𝓤 H} → K
-    → {x : ℕ} {ℓ : Lifetime} {m : Mutability} {τ D : Ty} {bx b o n : ℕ} → spotOf 𝓤 H E x ≡ (sliceTy (tyRef ℓ m τ), bx, 0)
-    → nth 𝓤 H A (back x Γ) Γ ≡ slice-cell 𝓤 ℓ m τ bx b o n → Rv K W Γ E (addrOf (place x (field 0 ∷ deref D ∷ []))) (vptr b o)
-points {𝓤 = 𝓤} {H} {A} {K} {W} {Γ} {E} t {x} {ℓ} {m} {τ} {D} {bx} {b} {o} {n} spot cell =
-    addr t (from t (subst (λ (s : Spot 𝓤 H). Walks K W Γ E s (field 0 ∷ deref D ∷ []) (D, b, o)) (sym spot)
-    (fld t refl (hop t (look-in t (back x Γ)
-    (subst (λ (i : Item 𝓤). Part K W i fullShare (tyRef ℓ m τ) bx 0 (vptr b o) (λ v. ‵ (fat fullShare (sliceTy (tyRef ℓ m τ)) bx 0 (vstruct (vcons v (vcons (vint w64 n) vnil))))))
-    (sym cell) (sub t 0 refl (whole t)))) (stop t)))))
-
 module _ {M : Type 1} (𝓤 : URA M) (H : Heap 𝓤) (A : Atoms 𝓤) (W : Given 𝓤 H A) (mem : Memory → SProp 𝓤) (run : Routine → Fun 𝓤) where
+  abbrev reading : Name × Contract 𝓤
+  reading = (read-on.Symbol.name, tripleOf 𝓤 H A read-on.signature (read-on.spec 𝓤 H A mem run))
+
+  abbrev feeding : Name × Contract 𝓤
+  feeding = (feed.Symbol.name, tripleOf 𝓤 H A feed.signature (feed.spec 𝓤 H A mem run))
+
+  abbrev going-on : Name × Contract 𝓤
+  going-on = (go-on.Symbol.name, tripleOf 𝓤 H A go-on.signature (go-on.spec 𝓤 H A mem run))
+
   abbrev shape : Shape W
   shape = record {
     params = lent R ∷ lent u32 ∷ lent u32 ∷ lent u32 ∷ lent u64 ∷ lent u8 ∷ lent u8 ∷ [];
@@ -89,15 +47,10 @@ module _ {M : Type 1} (𝓤 : URA M) (H : Heap 𝓤) (A : Atoms 𝓤) (W : Given
     clauses = f.clauses 𝓤 H A mem run;
     code = f.Code.function;
     lies = λ κs a. refl;
-    callees =
-        (start.Symbol.name, tripleOf 𝓤 H A start.signature (start.spec 𝓤 H A mem run))
-        ∷ (read-on.Symbol.name, tripleOf 𝓤 H A read-on.signature (read-on.spec 𝓤 H A mem run))
-        ∷ (feed.Symbol.name, tripleOf 𝓤 H A feed.signature (feed.spec 𝓤 H A mem run))
-        ∷ (go-on.Symbol.name, tripleOf 𝓤 H A go-on.signature (go-on.spec 𝓤 H A mem run))
-        ∷ [];
+    callees = (start.Symbol.name, tripleOf 𝓤 H A start.signature (start.spec 𝓤 H A mem run)) ∷ reading ∷ feeding ∷ going-on ∷ [];
   }
 
-  module _ (𝓣 : Tables 𝓤 H) (known-read-on : Triple 𝓤 (𝓣 .C read-on.Symbol.name) (tripleOf 𝓤 H A read-on.signature (read-on.spec 𝓤 H A mem run))) (known-feed : Triple 𝓤 (𝓣 .C feed.Symbol.name) (tripleOf 𝓤 H A feed.signature (feed.spec 𝓤 H A mem run))) (known-go-on : Triple 𝓤 (𝓣 .C go-on.Symbol.name) (tripleOf 𝓤 H A go-on.signature (go-on.spec 𝓤 H A mem run)))
+  module _ (𝓣 : Tables 𝓤 H) (known-read-on : Triple 𝓤 (𝓣 .C (reading .0)) (reading .1)) (known-feed : Triple 𝓤 (𝓣 .C (feeding .0)) (feeding .1)) (known-go-on : Triple 𝓤 (𝓣 .C (going-on .0)) (going-on .1))
       (κs : Lfts 7) (qs : Shares 7) (waiting : Slice R (κs .0) (qs .0)) (submitted : Slice u32 (κs .1 .0) (qs .1 .0)) (served : Slice u32 (κs .1 .1 .0) (qs .1 .1 .0)) (dropped : Slice u32 (κs .1 .1 .1 .0) (qs .1 .1 .1 .0)) (starts : Slice u64 (κs .1 .1 .1 .1 .0) (qs .1 .1 .1 .1 .0)) (buffer : Slice u8 (κs .1 .1 .1 .1 .1 .0) (qs .1 .1 .1 .1 .1 .0)) (out : Slice u8 (κs .1 .1 .1 .1 .1 .1 .0) (qs .1 .1 .1 .1 .1 .1 .0))
       (reserved : Reserved (waiting .list) (submitted .list) (served .list) (dropped .list) (starts .list) (buffer .list) (out .list)) (Q : Val → SProp 𝓤)
       (leaves : Leaves (shape .params) FlowT W (f.clauses 𝓤 H A mem run) κs qs (ref waiting, (ref submitted, (ref served, (ref dropped, (ref starts, (ref buffer, (ref out, tt))))))) tt Q) (bs : Blocks (f.Code.function .locals)) where
@@ -132,20 +85,16 @@ module _ {M : Type 1} (𝓤 : URA M) (H : Heap 𝓤) (A : Atoms 𝓤) (W : Given
         -- let read = flow::read_on(flow, buffer);
         relends ! (buffer .room .0) refl refl refl $
         let ps₁ : List (Param 𝓤 H A) = the-flow W (t .flow) (t .flow-is) ∷ mut-of W buffer (t .bu) (t .bu-long) ∷ [] in
-        calls-at ! fm (5 ∷ []) ps₁ (fact 𝓤 ((length (t .bu) ≡ bufferLength) × CanRead (t .flow .full) (t .flow))) (so 𝓤 (buffer-long, can-read (t .so) buffer-long going)) FlowT (λ r last. ReadsOn (t .flow .full) (t .flow) (t .bu) (last .1 .0) r)
-        (λ c. known-read-on (bound W ps₁ c)) refl (λ c. vars ! (refl, (refl, tt))) (λ w₁ read last₁ reads kept₁.
+        calls-at ! fm (5 ∷ []) ps₁ _ (so 𝓤 (buffer-long, can-read (t .so) buffer-long going)) FlowT _ (λ c. known-read-on (bound W ps₁ c)) refl (λ c. vars ! (refl, (refl, tt))) (λ w₁ read last₁ reads kept₁.
         gets-told ! FlowT (flow-lawful 𝓤 H A W) flow-val flow-tells w₁ read refl refl (λ read-is.
         let bu₁ : List ℕ = last₁ .1 .0 in
         let bu₁-long : length bu₁ ≡ length (buffer .list) = kept₁ .0 ∙ t .bu-long in
-        let fed-so : Feeds (tables (waiting .list) (submitted .list) (served .list) (dropped .list)) (length (starts .list)) read bu₁ (t .ws) (t .su) (t .se) (t .dr) × (read .turns ≡ t .flow .turns) = reads-on (t .so) buffer-long going bu₁ read reads (kept₁ .0) in
-        let room₁ : Room u8 (length bu₁) = subst (Room u8) (sym bu₁-long) (buffer .room) in
+        let fed-so = reads-on (t .so) buffer-long going bu₁ read reads (kept₁ .0) in
         -- let fed = session::feed(read.session, &buffer[..read.have], waiting, submitted, served, dropped, starts, out);
-        sets ! (points ! refl refl) refl (tt, tt) $
-        sets ! (agg ! (and-then ! (var ! refl) (and-then ! (field-var ! refl refl refl) (no-more !)))) refl (tt, (tt, (record { fits = have-fits read read-is }, tt))) $
+        lends-slice ! (points ! refl refl) (have-fits read read-is) refl refl (field-var ! refl refl refl) $
         relends ! (waiting .room .0) refl refl refl $ relends ! (submitted .room .0) refl refl refl $ relends ! (served .room .0) refl refl refl $ relends ! (dropped .room .0) refl refl refl $ relends ! (starts .room .0) refl refl refl $ relends ! (out .room .0) refl refl refl $
-        let ps₂ : List (Param 𝓤 H A) = the-session W read read-is ∷ loan (part-shared W (of-slice W u8 (named 0) (κs .1 .1 .1 .1 .1 .0) (qs .1 .1 .1 .1 .1 .0) (buffer .ghost) (buffer .block) (buffer .offset) bu₁ (length (buffer .list)) room₁ bu₁-long) (read .have) (fed-so .0 .stands .within) (room-less u8 room₁ (fed-so .0 .stands .within))) ∷ mut-of W waiting (t .ws) (t .ws-long) ∷ mut-of W submitted (t .su) (t .su-long) ∷ mut-of W served (t .se) (t .se-long) ∷ mut-of W dropped (t .dr) (t .dr-long) ∷ mut-of W starts (t .st) (t .st-long) ∷ mut-of W out (t .out) (t .out-long) ∷ [] in
-        calls-now ! fm (5 ∷ 0 ∷ 1 ∷ 2 ∷ 3 ∷ 4 ∷ 6 ∷ []) ps₂ FedT (λ r last. FedBy (read .session) (take (read .have) bu₁) (t .ws) (t .su) (t .se) (t .dr) (t .st) (t .out) r (last .1 .1 .0) (last .1 .1 .1 .0) (last .1 .1 .1 .1 .0) (last .1 .1 .1 .1 .1 .0) (last .1 .1 .1 .1 .1 .1 .1 .0))
-        (λ c. known-feed (bound W ps₂ c)) refl (λ c. and-then ! (field-var ! refl refl refl) (vars ! (refl, (refl, (refl, (refl, (refl, (refl, (refl, tt))))))))) (λ w₂ fed last₂ is-fed kept₂.
+        let ps₂ : List (Param 𝓤 H A) = the-session W read read-is ∷ front-of W buffer bu₁ bu₁-long (read .have) (fed-so .0 .stands .within) ∷ mut-of W waiting (t .ws) (t .ws-long) ∷ mut-of W submitted (t .su) (t .su-long) ∷ mut-of W served (t .se) (t .se-long) ∷ mut-of W dropped (t .dr) (t .dr-long) ∷ mut-of W starts (t .st) (t .st-long) ∷ mut-of W out (t .out) (t .out-long) ∷ [] in
+        calls-now ! fm (5 ∷ 0 ∷ 1 ∷ 2 ∷ 3 ∷ 4 ∷ 6 ∷ []) ps₂ FedT _ (λ c. known-feed (bound W ps₂ c)) refl (λ c. and-then ! (field-var ! refl refl refl) (vars ! (refl, (refl, (refl, (refl, (refl, (refl, (refl, tt))))))))) (λ w₂ fed last₂ is-fed kept₂.
         gets ! FedT (fed-lawful 𝓤 H A W) w₂ fed refl refl (λ fed-is.
         let ws₁ : List Request = last₂ .1 .1 .0 in
         let su₁ : List ℕ = last₂ .1 .1 .1 .0 in
@@ -154,13 +103,10 @@ module _ {M : Type 1} (𝓤 : URA M) (H : Heap 𝓤) (A : Atoms 𝓤) (W : Given
         let out₁ : List ℕ = last₂ .1 .1 .1 .1 .1 .1 .1 .0 in
         let long = kept₂ .1 in
         let out₁-long : length out₁ ≡ length (out .list) = long .1 .1 .1 .1 .1 .0 ∙ t .out-long in
-        let within : fed .used ≤ read .have = fed-within (fed-so .0) (t .st-long) is-fed in
         -- let next = flow::go_on(read, fed, buffer, out);
         relends ! (buffer .room .0) refl refl refl $ relends ! (out .room .0) refl refl refl $
         let ps₃ : List (Param 𝓤 H A) = the-flow W read read-is ∷ the-fed W fed w₂ fed-is ∷ mut-of W buffer bu₁ bu₁-long ∷ mut-of W out out₁ out₁-long ∷ [] in
-        calls-at ! fm (5 ∷ 6 ∷ []) ps₃ (fact 𝓤 ((0 < read .turns) × (length bu₁ ≡ bufferLength) × (read .have ≤ bufferLength) × (fed .used ≤ read .have) × (mostBytes ≤ length out₁) × (fed .put ≤ length out₁)))
-        (so 𝓤 (fed-so .0 .going, bu₁-long ∙ reserved .buffer-long, as-long (read .have) (sym (bu₁-long ∙ reserved .buffer-long)) (fed-so .0 .stands .within), within, as-long mostBytes out₁-long (reserved .answer-fits), as-long (fed .put) (long .1 .1 .1 .1 .1 .0) (is-fed .room))) FlowT (λ r last. GoesOn read fed bu₁ out₁ (last .1 .1 .0) (last .1 .1 .1 .0) r)
-        (λ c. known-go-on (bound W ps₃ c)) refl (λ c. vars ! (refl, (refl, (refl, (refl, tt))))) (λ w₃ next last₃ on kept₃.
+        calls-at ! fm (5 ∷ 6 ∷ []) ps₃ _ (so 𝓤 (fed-so .0 .going, bu₁-long ∙ reserved .buffer-long, as-long (read .have) (sym (bu₁-long ∙ reserved .buffer-long)) (fed-so .0 .stands .within), fed-within (fed-so .0) (t .st-long) is-fed, as-long mostBytes out₁-long (reserved .answer-fits), as-long (fed .put) (long .1 .1 .1 .1 .1 .0) (is-fed .room))) FlowT _ (λ c. known-go-on (bound W ps₃ c)) refl (λ c. vars ! (refl, (refl, (refl, (refl, tt))))) (λ w₃ next last₃ on kept₃.
         gets-told ! FlowT (flow-lawful 𝓤 H A W) flow-val flow-tells w₃ next refl refl (λ next-is.
         -- flow = next
         resets-last ! (of-opd ! (var ! refl)) refl (flow-lawful 𝓤 H A W .typed next (flow-vals next) next-is .0) $
@@ -177,7 +123,7 @@ module _ {M : Type 1} (𝓤 : URA M) (H : Heap 𝓤) (A : Atoms 𝓤) (W : Given
   walk 𝓣 known-start known-read-on known-feed known-go-on κs qs waiting submitted served dropped starts buffer out g Q leaves bs =
       heard ! (Reserved (waiting .list) (submitted .list) (served .list) (dropped .list) (starts .list) (buffer .list) (out .list)) (λ reserved.
       -- let mut flow = flow::start();
-      calls-now ! (fmOf 𝓤 H (W .laws) 𝓣) [] [] FlowT (λ r last. r ≡ atFirst) (λ c. known-start (bound W [] c)) refl (λ c. no-more !) (λ w flow last starts-so kept.
+      calls-now ! (fmOf 𝓤 H (W .laws) 𝓣) [] [] FlowT _ (λ c. known-start (bound W [] c)) refl (λ c. no-more !) (λ w flow last starts-so kept.
       gets-told ! FlowT (flow-lawful 𝓤 H A W) flow-val flow-tells w flow refl refl (λ flow-is.
       first ! $ blocks ! $ loops ! 𝓣 Nearer Nearer-wf (At 𝓣 known-read-on known-feed known-go-on κs qs waiting submitted served dropped starts buffer out reserved Q leaves bs) (turns 𝓣 known-read-on known-feed known-go-on κs qs waiting submitted served dropped starts buffer out reserved Q leaves bs)
       (record { flow = flow; ws = waiting .list; su = submitted .list; se = served .list; dr = dropped .list; st = starts .list; bu = buffer .list; out = out .list; flow-is = flow-is; ws-long = refl; su-long = refl; se-long = refl; dr-long = refl; st-long = refl; bu-long = refl; out-long = refl; so = flows-begin starts-so reserved }))))

@@ -1,5 +1,4 @@
 -- `session_main::system::is_failed` meets its contract. Assumes nothing.
-use mathlib.Core.Path.{_≡_}
 use lib.IntN.{ℤ}
 use mir.Syntax.{w64}
 use mir.Facts.{toZ-ofZ}
