@@ -1,7 +1,7 @@
 // The chart's start slots, and its segments one after the other.
 ghost use mathlib.Core.Path.{_≡_};
 ghost use mathlib.Core.List.{_∷_, _++_};
-ghost use Prim.Native.Nat.{ℕ, _-_, _<_, _≤_, min};
+ghost use Prim.Native.Nat.{ℕ, _+_, _-_, _<_, _≤_, min};
 ghost use lib.ListN.{length, getD, take, drop};
 ghost use Rattle.spec.specs.Chart.{segmentsOf};
 ghost use Rattle.columns.specs.Columns.{largest64};
@@ -45,7 +45,7 @@ pub struct Run {
     pub next: usize,
 }
 
-// The segment that begins with the interval of the start slot at the index i.
+// The segment that begins with the interval of the start slot at the index i: it has as many of them as slots.
 pub fn segment_at(starts: &[u64], n: usize, i: usize) -> Run
     requires { ⌜ (i < n) × (n ≤ length (now starts)) × ((k : ℕ) → k < n → getD (now starts) k 0 < largest64) ⌝ }
     ensures { λ r. ⌜
@@ -53,6 +53,7 @@ pub fn segment_at(starts: &[u64], n: usize, i: usize) -> Run
         ≡ segment (r .left) (r .right) ∷ segmentsOf (drop (r .next) (take n (now (starts .entry)))))
         × (i < r .next)
         × (r .next ≤ n)
+        × (r .next ≡ i + (r .right - r .left))
         ⌝ }
 {
     let left = starts[i];

@@ -1,21 +1,22 @@
 -- The first refusal that matches, and when each does. Assumes nothing.
 use Prim.Native.Nat.{ℕ, suc, _+_, _≤_, _<_}
-use mathlib.Core.Path.{_≡_, refl, sym, ap, _∙_}
+use mathlib.Core.Path.{_≡_, refl, ap}
 use mathlib.Core.Logic.{_≢_}
 use mathlib.Core.Bool.{Bool, true, false, cond, not, and-false}
 use mathlib.Core.List.{List, [], _∷_}
 use native.Mathlib.Omega.{arith}
 use borrow.Author.Tests.{le-ltb, lt-ltb, lt-leb, eq-eqb, ne-eqb}
-use lib.ListN.{getD}
-use Rattle.spec.specs.Tables.{mostAhead, mostCounted, zeroCounts, State}
-use Rattle.spec.specs.Refusals.{submitRefusals, tickRefusals, reportRefusals, chartRefusals, Refusal, firstMatch, refusal4}
+use lib.Dec.{eqb}
+use lib.ListN.{length, getD, length-replicate}
+use Rattle.spec.specs.Tables.{mostAhead, mostCounted, zeroRequest, zeroCounts, State}
+use Rattle.spec.specs.Refusals.{openRefusals, submitRefusals, tickRefusals, reportRefusals, chartRefusals, Refusal, firstMatch, refusal4}
 use Rattle.spec.specs.Refusals.{refusal5, refusal6, refusal7, refusal8, refusal9, refusal10, refusal11, refusal12}
 use Rattle.spec.proofs.Laws.Sound.{within-test}
-use Rattle.spec.proofs.Laws.Accepted.{none-match}
 use Rattle.sound.specs.Checks.{tablesRefusal}
+use Rattle.decide.specs.Matches.{ofTables, openMatch, submitMatch, tickMatch, reportMatch, chartMatch}
 
 -- the refusals of a call behind 4 and 5: those of document 01's list from 6 on
-abbrev submitOwn : ℕ → ℕ → State → List Refusal
+abbrev pub submitOwn : ℕ → ℕ → State → List Refusal
 submitOwn client deadline s =
     refusal6 client s ∷ refusal7 deadline s ∷ refusal8 client s ∷ refusal9 s ∷ refusal10 s ∷ []
 
@@ -46,40 +47,50 @@ pub match-only : (r : Refusal) → r .holds ≡ false → 0 ≡ firstMatch (r �
 match-only r e = match-next r [] e match-none
 
 -- ---- what the tables call for, before a call's own
-module _
-    (s : State) (own rs : List Refusal) (list : rs ≡ refusal4 s ∷ refusal5 s ∷ own) {t : ℕ} (found : t ≡ tablesRefusal s) where
-  pub tables-match : t ≢ 0 → t ≡ firstMatch rs
+module _ {t : ℕ} (own : List Refusal) where
+  pub tables-match : t ≢ 0 → t ≡ firstMatch (ofTables t ∷ own)
+  tables-match n = match-here (ofTables t) own (ap not (ne-eqb t 0 n))
+
+  pub tables-pass : t ≡ 0 → {n : ℕ} → n ≡ firstMatch own → n ≡ firstMatch (ofTables t ∷ own)
+  tables-pass z e = match-next (ofTables t) own (ap not (eq-eqb t 0 z)) e
+
+  -- it is a state's refusal 4 or 5, or none where neither matches
+  tables-told : (s : State) → t ≡ tablesRefusal s → firstMatch (ofTables t ∷ own) ≡ firstMatch (refusal4 s ∷ refusal5 s ∷ own)
   unfolding tablesRefusal firstMatch
-  tables-match n = rw list (go (refusal4 s .holds) (refusal5 s .holds) found)
+  tables-told s found = go (refusal4 s .holds) (refusal5 s .holds) found
     where
-      go : (x y : Bool) → t ≡ cond x 4 (cond y 5 0) → t ≡ cond x 4 (cond y 5 (firstMatch own))
-      go true y e = e
-      go false true e = e
-      go false false e = absurd (n e)
+      go : (x y : Bool) → t ≡ cond x 4 (cond y 5 0)
+          → cond (not (eqb t 0)) t (firstMatch own) ≡ cond x 4 (cond y 5 (firstMatch own))
+      go true y e = rw e
+      go false true e = rw e
+      go false false e = rw e
 
-  pub tables-pass : t ≡ 0 → {n : ℕ} → n ≡ firstMatch own → n ≡ firstMatch rs
-  unfolding tablesRefusal
-  tables-pass z f =
-      let p = none-match (refusal4 s) (refusal5 s ∷ []) (omega arith) (sym found ∙ z) in
-      let q = none-match (refusal5 s) [] (omega arith) (p .1) in
-      rw list (match-next (refusal4 s) _ (p .0) (match-next (refusal5 s) _ (q .0) f))
+-- ---- of a state, told what its tables call for: the first that matches of the call's whole list
+pub open-told : (clients period : ℕ) (s : State)
+    → openMatch clients period (length (s .waitingTable)) (length (s .clientTable)) ≡ firstMatch (openRefusals clients period s)
+unfolding openMatch openRefusals
+open-told clients period s =
+    rw (length-replicate (length (s .waitingTable)) zeroRequest, length-replicate (length (s .clientTable)) zeroCounts)
 
-pub submit-list : (client deadline : ℕ) (s : State)
-    → submitRefusals client deadline s ≡ refusal4 s ∷ refusal5 s ∷ submitOwn client deadline s
-unfolding submitRefusals
-submit-list client deadline s = refl
+module _ (s : State) {tables : ℕ} (found : tables ≡ tablesRefusal s) where
+  pub submit-told : (client deadline : ℕ)
+      → submitMatch tables (s .head) (length (s .waitingTable)) (s .clientTable) client deadline
+      ≡ firstMatch (submitRefusals client deadline s)
+  unfolding submitMatch submitRefusals
+  submit-told client deadline =
+      rw (length-replicate (length (s .waitingTable)) zeroRequest) (tables-told (submitOwn client deadline s) s found)
 
-pub tick-list : (s : State) → tickRefusals s ≡ refusal4 s ∷ refusal5 s ∷ tickOwn s
-unfolding tickRefusals
-tick-list s = refl
+  pub tick-told : tickMatch tables (s .head) ≡ firstMatch (tickRefusals s)
+  unfolding tickMatch tickRefusals
+  tick-told = tables-told (tickOwn s) s found
 
-pub report-list : (client : ℕ) (s : State) → reportRefusals client s ≡ refusal4 s ∷ refusal5 s ∷ reportOwn client s
-unfolding reportRefusals
-report-list client s = refl
+  pub report-told : (client : ℕ) → reportMatch tables (s .head) client ≡ firstMatch (reportRefusals client s)
+  unfolding reportMatch reportRefusals
+  report-told client = tables-told (reportOwn client s) s found
 
-pub chart-list : (output : List ℕ) (s : State) → chartRefusals output s ≡ refusal4 s ∷ refusal5 s ∷ chartOwn output s
-unfolding chartRefusals
-chart-list output s = refl
+  pub chart-told : (output : List ℕ) → chartMatch tables (s .head) (length output) ≡ firstMatch (chartRefusals output s)
+  unfolding chartMatch chartRefusals
+  chart-told output = rw (length-replicate {A = ℕ} (length output) 0) (tables-told (chartOwn output s) s found)
 
 -- ---- "6. Submit and report: the client does not exist."
 pub holds6 : (client : ℕ) (s : State) → s .head .clients ≤ client → refusal6 client s .holds ≡ true
@@ -100,30 +111,33 @@ fails7 : (deadline : ℕ) (s : State) → s .head .clock < deadline → deadline
 fails7 deadline s h g = ap not (within-test (suc (s .head .clock)) (s .head .clock + mostAhead) deadline h g)
 
 -- ---- submit's, one after the other
-module _ (client deadline : ℕ) (s : State) {tables : ℕ} (found : tables ≡ tablesRefusal s) (none : tables ≡ 0) where
-  after5 : {n : ℕ} → n ≡ firstMatch (submitOwn client deadline s) → n ≡ firstMatch (submitRefusals client deadline s)
-  after5 e = tables-pass s _ _ (submit-list client deadline s) found none e
+module _ (client deadline : ℕ) (s : State) {tables : ℕ} (none : tables ≡ 0) where
+  abbrev list : List Refusal
+  list = ofTables tables ∷ submitOwn client deadline s
 
-  pub own6 : s .head .clients ≤ client → 6 ≡ firstMatch (submitRefusals client deadline s)
+  after5 : {n : ℕ} → n ≡ firstMatch (submitOwn client deadline s) → n ≡ firstMatch list
+  after5 e = tables-pass (submitOwn client deadline s) none e
+
+  pub own6 : s .head .clients ≤ client → 6 ≡ firstMatch list
   own6 h = after5 (match-here (refusal6 client s) _ (holds6 client s h))
 
   module _ (exists : client < s .head .clients) where
     after6 : {n : ℕ} → n ≡ firstMatch (refusal7 deadline s ∷ refusal8 client s ∷ refusal9 s ∷ refusal10 s ∷ [])
-        → n ≡ firstMatch (submitRefusals client deadline s)
+        → n ≡ firstMatch list
     after6 e = after5 (match-next (refusal6 client s) _ (fails6 client s exists) e)
 
-    pub own7 : refusal7 deadline s .holds ≡ true → 7 ≡ firstMatch (submitRefusals client deadline s)
+    pub own7 : refusal7 deadline s .holds ≡ true → 7 ≡ firstMatch list
     own7 e = after6 (match-here (refusal7 deadline s) _ e)
 
     module _ (late : s .head .clock < deadline) (near : deadline ≤ s .head .clock + mostAhead) where
       after7 : {n : ℕ} → n ≡ firstMatch (refusal8 client s ∷ refusal9 s ∷ refusal10 s ∷ [])
-          → n ≡ firstMatch (submitRefusals client deadline s)
+          → n ≡ firstMatch list
       after7 e = after6 (match-next (refusal7 deadline s) _ (fails7 deadline s late near) e)
 
       pub own8 : getD (s .clientTable) client zeroCounts .submitted ≡ mostCounted
-          → 8 ≡ firstMatch (submitRefusals client deadline s)
+          → 8 ≡ firstMatch list
       own8 e = after7 (match-here (refusal8 client s) _ (eq-eqb _ mostCounted e))
 
       pub after8 : getD (s .clientTable) client zeroCounts .submitted ≢ mostCounted → {n : ℕ}
-          → n ≡ firstMatch (refusal9 s ∷ refusal10 s ∷ []) → n ≡ firstMatch (submitRefusals client deadline s)
+          → n ≡ firstMatch (refusal9 s ∷ refusal10 s ∷ []) → n ≡ firstMatch list
       after8 countable e = after7 (match-next (refusal8 client s) _ (ne-eqb _ mostCounted countable) e)

@@ -2,12 +2,13 @@
 use Prim.Native.Nat.{ℕ, _<_}
 use mathlib.Core.Path.{_≡_, refl, sym, ap, _∙_}
 use mathlib.Core.Logic.{_≢_}
-use mathlib.Core.Bool.{cond}
+use mathlib.Core.Bool.{Bool, true, false, cond}
 use mathlib.Core.List.{List, [], _∷_}
 use native.Mathlib.Omega.{arith}
 use borrow.Author.Tests.{eq-eqb, ne-eqb}
 use lib.Dec.{eqb}
 use lib.ListN.{length, getD}
+use Rattle.slots.proofs.Laws.Tests.{Same, same-yes, same-no, same}
 use Rattle.spec.specs.declared.types.Head.{Head}
 use Rattle.spec.specs.declared.types.Request.{Request}
 use Rattle.spec.specs.declared.types.Counts.{Counts}
@@ -17,7 +18,7 @@ use Rattle.spec.proofs.Laws.Accepted.{SubmitReady, waiting-length, tick-ready}
 use Rattle.columns.specs.Columns.{countOf, countsOf, largest32}
 use Rattle.columns.proofs.Laws.{length-rows, getD-rows}
 use Rattle.decide.specs.declared.types.Decision.the-variants.{Refuse, Serve, Idle}
-use Rattle.decide.specs.Decisions.{submitChoice, submitDecision, tickChoice, tickDecision}
+use Rattle.decide.specs.Decisions.{submitChoice, submitDecision, tickChoice, tickDecision, tickBy}
 
 -- ---- "first match wins": the number that was found tells whether the call is refused or goes on
 module _ {A : Type 0} (accept : A) (refuse : ℕ → A) (rs : List Refusal) {t : ℕ} (found : t ≡ firstMatch rs) where
@@ -28,32 +29,21 @@ module _ {A : Type 0} (accept : A) (refuse : ℕ → A) (rs : List Refusal) {t :
   goes-on z = rw (← found, eq-eqb t 0 z)
 
 -- ---- a tick with none waiting, or some
-none-waits : (ws : List Request) → length ws ≡ 0 → Idle ≡ tickChoice ws
-none-waits [] e = refl
-none-waits (w ∷ ws) e = absurd (omega arith)
+choice-by : (ws : List Request) → cond (eqb (length ws) 0) Idle Serve ≡ tickChoice ws
+choice-by [] = refl
+choice-by (w ∷ ws) = rw (ne-eqb (length (w ∷ ws)) 0 (λ e. absurd (omega arith)))
 
-some-wait : (ws : List Request) → length ws ≢ 0 → Serve ≡ tickChoice ws
-some-wait [] n = absurd (n refl)
-some-wait (w ∷ ws) n = refl
-
-module _ (s : State) {t : ℕ} (found : t ≡ firstMatch (tickRefusals s)) where
-  pub tick-refused : t ≢ 0 → Refuse t ≡ tickDecision s
-  unfolding tickDecision
-  tick-refused n = sym (refused (tickChoice (waiting s)) Refuse (tickRefusals s) found n)
-
-  as-many : t ≡ 0 → length (waiting s) ≡ s .head .waiting
-  as-many z = waiting-length s (tick-ready s (sym found ∙ z) .ready .shape)
-
-  pub tick-idle : t ≡ 0 → s .head .waiting ≡ 0 → Idle ≡ tickDecision s
-  unfolding tickDecision
-  tick-idle z e =
-      none-waits (waiting s) (as-many z ∙ e) ∙ sym (goes-on (tickChoice (waiting s)) Refuse (tickRefusals s) found z)
-
-  pub tick-serve : t ≡ 0 → s .head .waiting ≢ 0 → Serve ≡ tickDecision s
-  unfolding tickDecision
-  tick-serve z n =
-      some-wait (waiting s) (λ e. n (sym (as-many z) ∙ e))
-      ∙ sym (goes-on (tickChoice (waiting s)) Refuse (tickRefusals s) found z)
+-- by the refusal that was found
+pub tick-decided : (s : State) {t : ℕ} → t ≡ firstMatch (tickRefusals s) → tickBy t (s .head .waiting) ≡ tickDecision s
+unfolding tickDecision
+tick-decided s {t} found = rw (← found) (go (eqb t 0) (same t 0))
+  where
+    go : (b : Bool) → Same t 0 b
+        → cond b (cond (eqb (s .head .waiting) 0) Idle Serve) (Refuse t) ≡ cond b (tickChoice (waiting s)) (Refuse t)
+    go true (same-yes z) =
+        ap (λ (n : ℕ). cond (eqb n 0) Idle Serve) (sym (waiting-length s (tick-ready s (sym found ∙ z) .ready .shape)))
+        ∙ choice-by (waiting s)
+    go false (same-no n) = refl
 
 -- ---- a submit
 module _ (client deadline : ℕ) (s : State) {t : ℕ} (found : t ≡ firstMatch (submitRefusals client deadline s)) where

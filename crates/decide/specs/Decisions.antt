@@ -5,16 +5,17 @@ use mathlib.Core.Path.{_≡_}
 use mathlib.Core.Bool.{cond}
 use mathlib.Core.List.{List, [], _∷_}
 use lib.Dec.{eqb}
-use lib.ListN.{length, take, drop, replicate}
+use lib.ListN.{take, drop, replicate}
 use Rattle.spec.specs.declared.types.Head.{Head}
 use Rattle.spec.specs.declared.types.Request.{Request}
+use Rattle.spec.specs.declared.types.Counts.{Counts}
 use Rattle.spec.specs.Tables.{mostClients, State, waiting, deadlinesOf, clientsOf}
 use Rattle.spec.specs.Order.{placeOf}
 use Rattle.spec.specs.Chart.{dueBy, hasNoOverfull}
 use Rattle.spec.specs.Refusals.{Refusal, firstMatch, submitRefusals, tickRefusals}
 use Rattle.spec.specs.Calls.{newRequest, withNew, victimPlace}
 use Rattle.columns.specs.Columns.{countsOf}
-use Rattle.search.specs.Scans.{overfullFrom, latestOf, putAt}
+use Rattle.search.specs.Scans.{overfullFrom, latestOf, putAt, smallestRatioPlace}
 use Rattle.decide.specs.declared.types.Decision.{Decision}
 use Rattle.decide.specs.declared.types.Decision.the-variants.{Refuse, Keep, Drop, Serve, Idle}
 
@@ -29,10 +30,16 @@ submitChoice client deadline s =
     (Keep (placeOf (newRequest client deadline s) (waiting s)))
     (Drop (placeOf (newRequest client deadline s) (waiting s)) (victimPlace client deadline s))
 
+-- the same by what the searches found: the new request's place; the first overfull deadline, 0 where there is none; and each
+-- client's last candidate, with the clients' counts
+abbrev pub choiceBy : ℕ → (ℕ → Counts) → List ℕ → ℕ → ℕ → Decision
+choiceBy clients counts latest place found =
+    cond (eqb found 0) (Keep place) (Drop place (smallestRatioPlace counts latest clients))
+
 unfoldable pub submitDecision : ℕ → ℕ → State → Decision
 submitDecision client deadline s = unless (submitRefusals client deadline s) (submitChoice client deadline s)
 
--- what the searches of an accepted submit found in a state: the new request's place; the first overfull deadline, 0 where there is
+-- what the searches find of an accepted submit in a state: the new request's place; the first overfull deadline, 0 where there is
 -- none; and, where there is one, of each client the last candidate, the waiting requests that are due by it and the new one
 pub record Found (client deadline : ℕ) (head : Head) (latest submitted served dropped : List ℕ) (place found : ℕ) (s : State)
     : Type 0 where
@@ -54,8 +61,6 @@ tickChoice (w ∷ ws) = Serve
 unfoldable pub tickDecision : State → Decision
 tickDecision s = unless (tickRefusals s) (tickChoice (waiting s))
 
--- a state with this head, so many records in its waiting table, and the client table of these columns
-pub record Has (head : Head) (records : ℕ) (submitted served dropped : List ℕ) (s : State) : Type 0 where
-  pub head-same : s .head ≡ head
-  pub records-same : length (s .waitingTable) ≡ records
-  pub counts-same : s .clientTable ≡ countsOf submitted served dropped
+-- the same by the refusal that was found, 0 where there is none, and the waiting count
+abbrev pub tickBy : ℕ → ℕ → Decision
+tickBy refusal waits = cond (eqb refusal 0) (cond (eqb waits 0) Idle Serve) (Refuse refusal)

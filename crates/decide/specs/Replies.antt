@@ -4,11 +4,16 @@ use mathlib.Core.Path.{_≡_}
 use mathlib.Core.Bool.{cond}
 use mathlib.Core.List.{List}
 use lib.Dec.{ltb, eqb}
+use lib.ListN.{length, replicate}
 use Rattle.spec.specs.declared.types.Head.{Head}
 use Rattle.spec.specs.declared.types.Request.{Request}
-use Rattle.spec.specs.declared.types.Answer.the-variants.{Kept, Dropped, Refused}
+use Rattle.spec.specs.declared.types.Counts.{Counts}
+use Rattle.spec.specs.declared.types.Answer.the-variants as answer
+use Rattle.spec.specs.declared.types.Answer.the-variants.{Opened, Kept, Dropped, Served, Reported, Charted, Refused}
+use Rattle.spec.specs.Tables.{zeroCounts}
 use Rattle.spec.specs.Calls.{Outcome}
 use Rattle.columns.specs.Columns.{Holds, largest64}
+use Rattle.columns.specs.Counted.{oneAdded, waitingCount, restartedAt}
 use Rattle.decide.specs.declared.types.Decision.{Decision}
 use Rattle.decide.specs.declared.types.Decision.the-variants.{Refuse, Keep, Drop, Serve, Idle}
 use Rattle.decide.specs.declared.types.Edit.{Edit}
@@ -24,11 +29,15 @@ abbrev pub dropEdit : ℕ → ℕ → ℕ → Edit
 dropEdit records place victim =
     cond (eqb victim place) (edit records 0) (cond (ltb victim place) (edit victim (place - 1)) (edit (victim - 1) place))
 
+-- "takes it out": the first record goes out, and a zero record goes in behind those that wait; where none waits, nothing changes
+abbrev pub serveEdit : ℕ → ℕ → Edit
+serveEdit records waiting = cond (eqb waiting 0) (edit records 0) (edit 0 (waiting - 1))
+
 -- the change of a table of so many records, of which the first ones wait
 abbrev pub editOf : Decision → ℕ → ℕ → Edit
 editOf (Keep place) waiting records = edit waiting place
 editOf (Drop place victim) waiting records = dropEdit records place victim
-editOf Serve waiting records = edit 0 (waiting - 1)
+editOf Serve waiting records = serveEdit records waiting
 editOf (Refuse number) waiting records = edit records 0
 editOf Idle waiting records = edit records 0
 
@@ -80,6 +89,84 @@ droppedWith head gone =
       head = numberedHead head (head .waiting);
       answer = Dropped (raised (head .last)) (gone .number) (gone .client);
     }
+
+-- a report of a client with these counts
+abbrev pub reportedWith : Head → ℕ → Counts → Reply
+reportedWith head client k =
+    record {
+      head = head;
+      answer = Reported client (k .submitted) (k .served) (k .dropped) (waitingCount k);
+    }
+
+-- ---- what each call hands back, and what it leaves of the client table, for all arguments
+-- the reply of a call that is not refused, or the refusal
+abbrev pub replyUnless : ℕ → Head → Reply → Reply
+replyUnless refusal head accepted = cond (eqb refusal 0) accepted (refusedWith head refusal)
+
+-- "sets clock, last number and waiting count to 0"
+abbrev pub openReply : ℕ → Head → ℕ → ℕ → Reply
+openReply refusal head clients period =
+    replyUnless refusal head
+    (record { head = record { clients = clients; period = period; clock = 0; last = 0; waiting = 0 }; answer = Opened })
+
+-- ".. and every record to zero."
+abbrev pub openCounts : ℕ → List Counts → List Counts
+openCounts refusal cs = cond (eqb refusal 0) (replicate (length cs) zeroCounts) cs
+
+abbrev pub reportReply : ℕ → Head → ℕ → Counts → Reply
+reportReply refusal head client k = replyUnless refusal head (reportedWith head client k)
+
+abbrev pub chartReply : ℕ → Head → Reply
+chartReply refusal head = replyUnless refusal head (record { head = head; answer = Charted (head .waiting) })
+
+-- a submit, and the columns submitted and dropped after it. `gone` is the record that went out; no submit decides on the last
+-- two
+abbrev pub submitReply : Head → Request → Decision → Reply
+submitReply head gone (Refuse number) = refusedWith head number
+submitReply head gone (Keep place) = keptWith head place
+submitReply head gone (Drop place victim) = droppedWith head gone
+submitReply head gone Serve = refusedWith head 0
+submitReply head gone Idle = refusedWith head 0
+
+abbrev pub submittedAfter : ℕ → Decision → List ℕ → List ℕ
+submittedAfter client (Refuse number) su = su
+submittedAfter client (Keep place) su = oneAdded client su
+submittedAfter client (Drop place victim) su = oneAdded client su
+submittedAfter client Serve su = su
+submittedAfter client Idle su = su
+
+abbrev pub droppedAfter : Request → Decision → List ℕ → List ℕ
+droppedAfter gone (Refuse number) dr = dr
+droppedAfter gone (Keep place) dr = dr
+droppedAfter gone (Drop place victim) dr = oneAdded (gone .client) dr
+droppedAfter gone Serve dr = dr
+droppedAfter gone Idle dr = dr
+
+-- a tick; the column served before a period may start, and the client table then. No tick decides on Keep or Drop
+abbrev pub tickReply : Head → Request → Decision → Reply
+tickReply head gone (Refuse number) = refusedWith head number
+tickReply head gone (Keep place) = refusedWith head 0
+tickReply head gone (Drop place victim) = refusedWith head 0
+tickReply head gone Serve =
+    record {
+      head = laterHead head (head .waiting - 1);
+      answer = Served (head .clock) (gone .number) (gone .client);
+    }
+tickReply head gone Idle = record { head = laterHead head (head .waiting); answer = answer.Idle (head .clock) }
+
+abbrev pub servedAfter : Request → Decision → List ℕ → List ℕ
+servedAfter gone (Refuse number) se = se
+servedAfter gone (Keep place) se = se
+servedAfter gone (Drop place victim) se = se
+servedAfter gone Serve se = oneAdded (gone .client) se
+servedAfter gone Idle se = se
+
+abbrev pub tickCounts : Head → Decision → List Counts → List Counts
+tickCounts head (Refuse number) cs = cs
+tickCounts head (Keep place) cs = cs
+tickCounts head (Drop place victim) cs = cs
+tickCounts head Serve cs = restartedAt (head .period) (raised (head .clock)) cs
+tickCounts head Idle cs = restartedAt (head .period) (raised (head .clock)) cs
 
 -- what a call hands back and leaves in the columns of the client table is what the outcome says
 pub record Answers (o : Outcome) (submitted₀ served₀ dropped₀ : List ℕ) (r : Reply) (submitted served dropped : List ℕ) :

@@ -3,13 +3,12 @@ use crate::types::Decision;
 use search::victim;
 use spec::types::Head;
 ghost use mathlib.Core.Path.{_≡_};
-ghost use Prim.Native.Nat.{ℕ, _≤_, _<_};
+ghost use Prim.Native.Nat.{_≤_, _<_};
 ghost use lib.ListN.{length, getD};
-ghost use Rattle.spec.specs.Tables.{State};
-ghost use Rattle.spec.specs.Refusals.{firstMatch, tickRefusals};
 ghost use Rattle.columns.specs.Columns.{largest32};
+ghost use Rattle.search.specs.Scans.{countsWith};
 ghost use Rattle.decide.specs.declared.types.Decision.the-variants.{Refuse};
-ghost use Rattle.decide.specs.Decisions.{submitChoice, tickDecision, Found};
+ghost use Rattle.decide.specs.Decisions.{choiceBy, tickBy};
 
 // A refused call's.
 pub fn refuse(number: u64) -> Decision
@@ -31,10 +30,9 @@ pub fn submit_choice(
     found: u64,
 ) -> Decision
     requires { ⌜ (head .clients ≤ length (now latest)) × (getD (now submitted) client 0 < largest32) ⌝ }
-    ensures { λ r. ⌜ ((deadline : ℕ) (s : State)
-        → Found client deadline head (now (latest .entry)) (now (submitted .entry)) (now (served .entry)) (now (dropped .entry))
-        place found s
-        → r ≡ submitChoice client deadline s) ⌝ }
+    ensures { λ r. ⌜ r ≡ choiceBy (head .clients)
+        (countsWith client (now (submitted .entry)) (now (served .entry)) (now (dropped .entry)))
+        (now (latest .entry)) place found ⌝ }
 {
     if found == 0 {
         return Decision::Keep { place };
@@ -46,7 +44,7 @@ pub fn submit_choice(
 
 // Tick: refused, the first waiting record served, or idle.
 pub fn tick_decision(refusal: u64, head: Head) -> Decision
-    ensures { λ r. ⌜ ((s : State) → refusal ≡ firstMatch (tickRefusals s) → s .head ≡ head → r ≡ tickDecision s) ⌝ }
+    ensures { λ r. ⌜ r ≡ tickBy refusal (head .waiting) ⌝ }
 {
     if refusal != 0 {
         return Decision::Refuse { number: refusal };

@@ -7,7 +7,7 @@ ghost use mathlib.Core.Path.{_≡_};
 ghost use mathlib.Core.Bool.{cond};
 ghost use Prim.Native.Nat.{_<_};
 ghost use lib.Dec.{eqb};
-ghost use Rattle.decide.specs.Replies.{dropEdit, editOf, raised, numberedRequest};
+ghost use Rattle.decide.specs.Replies.{dropEdit, serveEdit, editOf, raised, numberedRequest};
 
 // The new record goes in at `place`, and the one that then stands at `victim` goes out, as one change.
 fn drop_edit(records: usize, place: usize, victim: usize) -> Edit
@@ -31,26 +31,34 @@ fn drop_edit(records: usize, place: usize, victim: usize) -> Edit
     }
 }
 
+// The first record goes out, and another goes in behind those that wait; where none waits, nothing changes.
+fn serve_edit(records: usize, head: Head) -> Edit
+    ensures { λ r. ⌜ r ≡ serveEdit records (head .waiting) ⌝ }
+{
+    if head.waiting == 0 {
+        return Edit {
+            out: records,
+            at: 0,
+        };
+    }
+    Edit {
+        out: 0,
+        at: head.waiting as usize - 1,
+    }
+}
+
 // The change of a table of so many records, of which the first ones wait. A change that leaves the table as it is takes out
 // behind its last record.
-pub fn edit_of(decision: Decision, waiting: u64, records: usize) -> Edit
-    ensures { λ r. ⌜ r ≡ editOf decision waiting records ⌝ }
+pub fn edit_of(decision: Decision, head: Head, records: usize) -> Edit
+    ensures { λ r. ⌜ r ≡ editOf decision (head .waiting) records ⌝ }
 {
     match decision {
         Decision::Keep { place } => Edit {
-            out: waiting as usize,
+            out: head.waiting as usize,
             at: place,
         },
         Decision::Drop { place, victim } => drop_edit(records, place, victim),
-        Decision::Serve => {
-            if waiting == 0 {
-                return Edit { out: 0, at: 0 };
-            }
-            Edit {
-                out: 0,
-                at: waiting as usize - 1,
-            }
-        }
+        Decision::Serve => serve_edit(records, head),
         Decision::Refuse { number: _ } => Edit {
             out: records,
             at: 0,

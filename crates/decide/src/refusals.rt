@@ -4,20 +4,12 @@ use columns::rows;
 use spec::bounds;
 use spec::types::Head;
 ghost use mathlib.Core.Path.{_≡_};
-ghost use mathlib.Core.List.{List};
-ghost use Prim.Native.Nat.{ℕ};
-ghost use lib.ListN.{length};
-ghost use Rattle.spec.specs.Tables.{State};
-ghost use Rattle.spec.specs.Refusals.{firstMatch, openRefusals, submitRefusals, tickRefusals, reportRefusals, chartRefusals};
-ghost use Rattle.sound.specs.Checks.{tablesRefusal};
-ghost use Rattle.decide.specs.Decisions.{Has};
+ghost use Rattle.columns.specs.Columns.{countsOf};
+ghost use Rattle.decide.specs.Matches.{openMatch, submitMatch, tickMatch, reportMatch, chartMatch};
 
 // Open's, by the lengths of the tables.
 pub fn open_refusal(clients: u64, period: u64, records: usize, accounts: usize) -> u64
-    ensures { λ r. ⌜
-        ((s : State) → length (s .waitingTable) ≡ records → length (s .clientTable) ≡ accounts
-        → r ≡ firstMatch (openRefusals clients period s))
-        ⌝ }
+    ensures { λ r. ⌜ r ≡ openMatch clients period records accounts ⌝ }
 {
     if !((1 <= clients) & (clients <= bounds::MOST_CLIENTS as u64)) {
         return 2;
@@ -45,11 +37,8 @@ pub fn submit_refusal(
     client: u64,
     deadline: u64,
 ) -> u64
-    ensures { λ r. ⌜
-        ((s : State) → tables ≡ tablesRefusal s
-        → Has head records (now (submitted .entry)) (now (served .entry)) (now (dropped .entry)) s
-        → r ≡ firstMatch (submitRefusals client deadline s))
-        ⌝ }
+    ensures { λ r. ⌜ r ≡ submitMatch tables head records
+        (countsOf (now (submitted .entry)) (now (served .entry)) (now (dropped .entry))) client deadline ⌝ }
 {
     if tables != 0 {
         return tables;
@@ -77,7 +66,7 @@ pub fn submit_refusal(
 
 // Tick's.
 pub fn tick_refusal(tables: u64, head: Head) -> u64
-    ensures { λ r. ⌜ ((s : State) → tables ≡ tablesRefusal s → s .head ≡ head → r ≡ firstMatch (tickRefusals s)) ⌝ }
+    ensures { λ r. ⌜ r ≡ tickMatch tables head ⌝ }
 {
     if tables != 0 {
         return tables;
@@ -90,7 +79,7 @@ pub fn tick_refusal(tables: u64, head: Head) -> u64
 
 // Report's.
 pub fn report_refusal(tables: u64, head: Head, client: u64) -> u64
-    ensures { λ r. ⌜ ((s : State) → tables ≡ tablesRefusal s → s .head ≡ head → r ≡ firstMatch (reportRefusals client s)) ⌝ }
+    ensures { λ r. ⌜ r ≡ reportMatch tables head client ⌝ }
 {
     if tables != 0 {
         return tables;
@@ -103,10 +92,7 @@ pub fn report_refusal(tables: u64, head: Head, client: u64) -> u64
 
 // Chart's, by the length of the output.
 pub fn chart_refusal(tables: u64, head: Head, entries: usize) -> u64
-    ensures { λ r. ⌜
-        ((s : State) (output : List ℕ) → tables ≡ tablesRefusal s → s .head ≡ head → length output ≡ entries
-        → r ≡ firstMatch (chartRefusals output s))
-        ⌝ }
+    ensures { λ r. ⌜ r ≡ chartMatch tables head entries ⌝ }
 {
     if tables != 0 {
         return tables;

@@ -9,17 +9,14 @@ use spec::types::Answer;
 use spec::types::Head;
 use spec::types::Request;
 ghost use mathlib.Core.Path.{_≡_};
-ghost use mathlib.Core.List.{List};
-ghost use Prim.Native.Nat.{ℕ, _-_};
+ghost use Prim.Native.Nat.{_-_};
 ghost use lib.ListN.{getD};
-ghost use Rattle.spec.specs.Tables.{zeroRequest, State, waiting};
-ghost use Rattle.spec.specs.Refusals.{firstMatch, openRefusals, reportRefusals, chartRefusals};
-ghost use Rattle.spec.specs.Calls.{requestAt, openOf, submitOf, tickOf, reportOf, chartOf};
+ghost use Rattle.spec.specs.Tables.{zeroCounts};
 ghost use Rattle.columns.specs.Columns.{countsOf, Holds};
 ghost use Rattle.columns.specs.Counted.{restartedAt};
-ghost use Rattle.decide.specs.Decisions.{submitDecision, tickDecision};
-ghost use Rattle.decide.specs.Replies.{raised, refusedWith, numberedHead, keptWith, droppedWith, laterHead, Answers};
-ghost use Rattle.decide.specs.declared.types.Decision.the-variants.{Drop, Serve};
+ghost use Rattle.decide.specs.Replies.{raised, refusedWith, numberedHead, keptWith, droppedWith, laterHead, openReply};
+ghost use Rattle.decide.specs.Replies.{openCounts, submitReply, submittedAfter, droppedAfter, tickReply, servedAfter};
+ghost use Rattle.decide.specs.Replies.{tickCounts, reportReply, chartReply};
 
 // A refused call's.
 fn refused(head: Head, number: u64) -> Reply
@@ -39,10 +36,10 @@ pub fn open_reply(
     clients: u64,
     period: u64,
 ) -> Reply
-    ensures { λ r. ⌜ ((s : State) → refusal ≡ firstMatch (openRefusals clients period s) → s .head ≡ head
-        → s .clientTable ≡ countsOf (now (submitted .entry)) (now (served .entry)) (now (dropped .entry))
-        → Answers (openOf clients period s) (now (submitted .entry)) (now (served .entry)) (now (dropped .entry)) r
-        (now (submitted .exit)) (now (served .exit)) (now (dropped .exit))) ⌝ }
+    ensures { λ r. ⌜ (r ≡ openReply refusal head clients period)
+        × Holds (openCounts refusal (countsOf (now (submitted .entry)) (now (served .entry)) (now (dropped .entry))))
+        (now (submitted .entry)) (now (served .entry)) (now (dropped .entry))
+        (now (submitted .exit)) (now (served .exit)) (now (dropped .exit)) ⌝ }
 {
     if refusal != 0 {
         return refused(head, refusal);
@@ -119,11 +116,9 @@ pub fn submit_reply(
     client: u64,
     gone: Request,
 ) -> Reply
-    ensures { λ r. ⌜ ((deadline : ℕ) (s : State) → decision ≡ submitDecision client deadline s → s .head ≡ head
-        → s .clientTable ≡ countsOf (now (submitted .entry)) (now (served .entry)) (now (dropped .entry))
-        → ((place victim : ℕ) → decision ≡ Drop place victim → gone ≡ requestAt victim client deadline s)
-        → Answers (submitOf client deadline s) (now (submitted .entry)) (now (served .entry)) (now (dropped .entry)) r
-        (now (submitted .exit)) (now (served .entry)) (now (dropped .exit))) ⌝ }
+    ensures { λ r. ⌜ (r ≡ submitReply head gone decision)
+        × (now (submitted .exit) ≡ submittedAfter client decision (now (submitted .entry)))
+        × (now (dropped .exit) ≡ droppedAfter gone decision (now (dropped .entry))) ⌝ }
 {
     match decision {
         Decision::Refuse { number } => refused(head, number),
@@ -188,11 +183,11 @@ pub fn tick_reply(
     decision: Decision,
     gone: Request,
 ) -> Reply
-    ensures { λ r. ⌜ ((s : State) → decision ≡ tickDecision s → s .head ≡ head
-        → s .clientTable ≡ countsOf (now (submitted .entry)) (now (served .entry)) (now (dropped .entry))
-        → (decision ≡ Serve → gone ≡ getD (waiting s) 0 zeroRequest)
-        → Answers (tickOf s) (now (submitted .entry)) (now (served .entry)) (now (dropped .entry)) r
-        (now (submitted .exit)) (now (served .exit)) (now (dropped .exit))) ⌝ }
+    ensures { λ r. ⌜ (r ≡ tickReply head gone decision)
+        × Holds (tickCounts head decision
+        (countsOf (now (submitted .entry)) (servedAfter gone decision (now (served .entry))) (now (dropped .entry))))
+        (now (submitted .entry)) (servedAfter gone decision (now (served .entry))) (now (dropped .entry))
+        (now (submitted .exit)) (now (served .exit)) (now (dropped .exit)) ⌝ }
 {
     match decision {
         Decision::Serve => {
@@ -229,10 +224,8 @@ pub fn report_reply(
     refusal: u64,
     client: u64,
 ) -> Reply
-    ensures { λ r. ⌜ ((s : State) → refusal ≡ firstMatch (reportRefusals client s) → s .head ≡ head
-        → s .clientTable ≡ countsOf (now (submitted .entry)) (now (served .entry)) (now (dropped .entry))
-        → Answers (reportOf client s) (now (submitted .entry)) (now (served .entry)) (now (dropped .entry)) r
-        (now (submitted .entry)) (now (served .entry)) (now (dropped .entry))) ⌝ }
+    ensures { λ r. ⌜ r ≡ reportReply refusal head client
+        (getD (countsOf (now (submitted .entry)) (now (served .entry)) (now (dropped .entry))) client zeroCounts) ⌝ }
 {
     if refusal != 0 {
         return refused(head, refusal);
@@ -251,8 +244,7 @@ pub fn report_reply(
 
 // Chart's.
 pub fn chart_reply(head: Head, refusal: u64) -> Reply
-    ensures { λ r. ⌜ ((output : List ℕ) (s : State) → refusal ≡ firstMatch (chartRefusals output s) → s .head ≡ head
-        → (r .answer ≡ chartOf output s .answer) × (r .head ≡ chartOf output s .after .head)) ⌝ }
+    ensures { λ r. ⌜ r ≡ chartReply refusal head ⌝ }
 {
     if refusal != 0 {
         return refused(head, refusal);

@@ -1,10 +1,12 @@
 -- Laws of what is put one part behind the other: lines, and the segments' lines. Assumes nothing.
-use Prim.Native.Nat.{ℕ, _*_, _≤_}
+use Prim.Native.Nat.{ℕ, _+_, _*_, _≤_}
 use mathlib.Core.List.{List, [], _∷_, _++_, append-assoc, append-nil}
-use mathlib.Core.Path.{_≡_, refl, sym}
+use mathlib.Core.Path.{_≡_, refl, sym, ap}
+use native.Mathlib.Omega.{arith}
 use types.Run.{OneOf, miss}
 use denote.Enum.Declared.{tagOf}
-use lib.ListN.{take, drop}
+use lib.ListN.{length, take, drop, length-append}
+use lib.Seq.{length-take-le}
 use Rattle.spec.specs.declared.types.Answer.{Answer}
 use Rattle.spec.specs.declared.types.Answer.the-variants.{Opened, Kept, Dropped, Served, Idle, Reported, Charted, Refused}
 use Rattle.spec.specs.Chart.{Segment, segmentsOf}
@@ -18,6 +20,22 @@ use Rattle.columns.proofs.Laws.{rest-none}
 -- a part behind a part
 pub joined : (a x y : List ℕ) {b c : List ℕ} → b ≡ a ++ x → c ≡ b ++ y → c ≡ a ++ (x ++ y)
 joined a x y p q = rw (q, p) (append-assoc a x y)
+
+-- where it ends
+pub put-ends : (r at most : ℕ) (before after bytes : List ℕ) → r ≤ at + most → at + most ≤ length before
+    → length after ≡ length before → take r after ≡ take at before ++ bytes
+    → (r ≡ at + length bytes) × (r ≤ at + most) × (take r after ≡ take at before ++ bytes)
+put-ends r at most before after bytes short room long e = (
+  omega (
+    arith,
+    ap length e,
+    length-append (take at before) bytes,
+    length-take-le r after (omega arith),
+    length-take-le at before (omega arith),
+  ),
+  short,
+  e,
+)
 
 infixr 20 _▸_
 -- fields put one behind the other: what stands before them, and what stands with them

@@ -100,7 +100,7 @@ fn put_report(
 // An answer's line.
 pub fn put_answer(out: &mut [u8], at: usize, answer: Answer) -> usize
     requires { ⌜ at + longestLine ≤ length (now out) ⌝ }
-    ensures { λ r. ⌜ (at ≤ r) × (r ≤ at + longestLine)
+    ensures { λ r. ⌜ (r ≡ at + length (answerLine answer)) × (r ≤ at + longestLine)
         × (take r (now (out .exit)) ≡ take at (now (out .entry)) ++ answerLine answer) ⌝ }
 {
     match answer {
@@ -167,7 +167,7 @@ fn put_chart(out: &mut [u8], at: usize, starts: &[u64], n: usize) -> usize
 // A reply: an answer's line; a chart's as the segments of its start slots.
 pub fn put_reply(out: &mut [u8], at: usize, answer: Answer, starts: &[u64]) -> usize
     requires { ⌜ (at + mostBytes ≤ length (now out)) × CanDraw answer (now starts) ⌝ }
-    ensures { λ r. ⌜ (at ≤ r) × (r ≤ at + mostBytes)
+    ensures { λ r. ⌜ (r ≡ at + length (replyBytes answer (now (starts .entry)))) × (r ≤ at + mostBytes)
         × (take r (now (out .exit)) ≡ take at (now (out .entry)) ++ replyBytes answer (now (starts .entry))) ⌝ }
 {
     match answer {

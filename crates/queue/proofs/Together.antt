@@ -12,14 +12,14 @@ use Rattle.slots.proofs.Laws.Tests.{Same, same-yes, same-no, same}
 use Rattle.spec.specs.declared.types.Head.{Head}
 use Rattle.spec.specs.declared.types.Request.{Request}
 use Rattle.spec.specs.declared.types.Answer.the-variants.{Refused}
-use Rattle.spec.specs.Tables.{zeroRequest, State, waiting, deadlinesOf}
-use Rattle.spec.specs.Refusals.{Refusal, firstMatch, openRefusals, submitRefusals, tickRefusals, reportRefusals, chartRefusals}
-use Rattle.spec.specs.Calls.{Outcome, unlessRefused, openAccepted, openOf, newRequest, requestAt, submitOf, tickOf}
+use Rattle.spec.specs.Tables.{zeroRequest, zeroCounts, State, deadlinesOf}
+use Rattle.spec.specs.Refusals.{Refusal, firstMatch, openRefusals, submitRefusals, reportRefusals, chartRefusals}
+use Rattle.spec.specs.Calls.{Outcome, unlessRefused, openAccepted, openOf, newRequest, submitOf, tickOf}
 use Rattle.spec.specs.Calls.{reportAccepted, reportOf, chartAccepted, chartOf, chartOutput}
 use Rattle.spec.proofs.Laws.Accepted.{Decided as Settled, accepts, refuses as declines, decided as settled}
 use Rattle.spec.proofs.Laws.Accepted.{ChartReady, chart-ready}
 use Rattle.spec.proofs.Calls.Refused.{Written, untouched, written, output-written}
-use Rattle.columns.specs.Columns.{countOf, countsOf, stateOf, largest64}
+use Rattle.columns.specs.Columns.{countOf, countsOf, stateOf, Holds, largest64}
 use Rattle.columns.specs.Charted.{startSlots}
 use Rattle.columns.proofs.Laws.{length-rows}
 use Rattle.table.specs.Records.{exchanged, takenOut}
@@ -27,11 +27,15 @@ use Rattle.sound.specs.Checks.{tablesRefusal}
 use Rattle.decide.specs.declared.types.Reply.{Reply}
 use Rattle.decide.specs.declared.types.Edit.{Edit}
 use Rattle.decide.specs.declared.types.Decision.{Decision}
-use Rattle.decide.specs.declared.types.Decision.the-variants.{Drop, Serve}
-use Rattle.decide.specs.Decisions.{submitDecision, tickDecision}
-use Rattle.decide.specs.Replies.{editOf, raised, numberedRequest, Answers}
+use Rattle.decide.specs.Decisions.{submitDecision, tickDecision, tickBy}
+use Rattle.decide.specs.Matches.{openMatch, tickMatch, reportMatch, chartMatch}
+use Rattle.decide.specs.Replies.{editOf, raised, numberedRequest, openReply, openCounts, submitReply, submittedAfter}
+use Rattle.decide.specs.Replies.{droppedAfter, tickReply, servedAfter, tickCounts, reportReply, chartReply, Answers}
 use Rattle.decide.proofs.Carried.{charted}
-use Rattle.decide.proofs.Replying.Counted.{answers, holds-same}
+use Rattle.decide.proofs.Matching.{open-told, tick-told, report-told, chart-told}
+use Rattle.decide.proofs.States.{tick-decided}
+use Rattle.decide.proofs.Replying.Counted.{answers, holds-same, open-answers, tick-answers}
+use Rattle.decide.proofs.Replying.Replied.{submit-answers, report-answers, chart-answers}
 use Rattle.decide.proofs.Replying.Edited.{submit-edited, submit-taken, new-fits, tick-table, tick-gone}
 use Rattle.queue.specs.Gives.{Gives}
 
@@ -63,23 +67,21 @@ module _ (head : Head) (ws : List Request) (su se dr : List ℕ) where
 
   -- ---- report
   pub reported : (client tables refusal : ℕ) (r : Reply) → tables ≡ tablesRefusal s
-      → ((t : State) → tables ≡ tablesRefusal t → t .head ≡ head → refusal ≡ firstMatch (reportRefusals client t))
-      → ((t : State) → refusal ≡ firstMatch (reportRefusals client t) → t .head ≡ head → t .clientTable ≡ countsOf su se dr
-      → Answers (reportOf client t) su se dr r su se dr)
+      → refusal ≡ reportMatch tables head client
+      → r ≡ reportReply refusal head client (getD (countsOf su se dr) client zeroCounts)
       → Gives (reportOf client s) su se dr r ws su se dr
   unfolding reportOf reportAccepted
   reported client tables refusal r e f a =
       given
       (ap (λ (t : State). t .waitingTable) (sym (unchanged (reportRefusals client s) s (reportAccepted client s) refl)))
-      (a s (f s e refl) refl refl)
+      (report-answers client s (f ∙ report-told s e client) refl a)
 
   -- ---- chart
   module _ (output : List ℕ) (tables refusal n : ℕ) (found : tables ≡ tablesRefusal s)
-      (refuses : (t : State) (out : List ℕ) → tables ≡ tablesRefusal t → t .head ≡ head → length out ≡ length output
-      → refusal ≡ firstMatch (chartRefusals out t))
+      (refuses : refusal ≡ chartMatch tables head (length output))
       (copied : n ≡ cond (eqb refusal 0) (head .waiting) 0) where
     told : refusal ≡ firstMatch (chartRefusals output s)
-    told = refuses s output found refl refl
+    told = refuses ∙ chart-told s found output
 
     -- how much is copied and written: all that wait, or nothing
     pub within : (n ≤ length ws) × (n ≤ length output)
@@ -122,24 +124,24 @@ module _ (head : Head) (ws : List Request) (su se dr : List ℕ) where
               subst (λ (m : ℕ). startSlots (deadlinesOf (take m ws)) ++ drop m output ≡ chartOutput output s) (sym e)
               (untouched-output z (output-written output s))
 
-    pub chart-gives : (r : Reply)
-        → ((out : List ℕ) (t : State) → refusal ≡ firstMatch (chartRefusals out t) → t .head ≡ head
-        → (r .answer ≡ chartOf out t .answer) × (r .head ≡ chartOf out t .after .head))
-        → Gives (chartOf output s) su se dr r ws su se dr
+    pub chart-gives : (r : Reply) → r ≡ chartReply refusal head → Gives (chartOf output s) su se dr r ws su se dr
     unfolding chartOf chartAccepted
     chart-gives r a =
         let q = unchanged (chartRefusals output s) s (chartAccepted s) refl in
+        let b = chart-answers output s told a in
         given
         (ap (λ (t : State). t .waitingTable) (sym q))
-        (answers (a output s told refl .0) (a output s told refl .1) (holds-same (ap (λ (t : State). t .clientTable) q)))
+        (answers (b .0) (b .1) (holds-same (ap (λ (t : State). t .clientTable) q)))
 
   -- ---- open
   module _ (clients period accounts refusal cleared : ℕ) (shortest : accounts ≡ min (length su) (min (length se) (length dr)))
-      (refuses : (t : State) → length (t .waitingTable) ≡ length ws → length (t .clientTable) ≡ accounts
-      → refusal ≡ firstMatch (openRefusals clients period t))
+      (refuses : refusal ≡ openMatch clients period (length ws) accounts)
       (some : cleared ≡ cond (eqb refusal 0) (length ws) 0) where
-    open-told : refusal ≡ firstMatch (openRefusals clients period s)
-    open-told = refuses s refl (length-rows countOf su se dr ∙ sym shortest)
+    open-refusal : refusal ≡ firstMatch (openRefusals clients period s)
+    open-refusal =
+        refuses
+        ∙ ap (openMatch clients period (length ws)) (shortest ∙ sym (length-rows countOf su se dr))
+        ∙ open-told clients period s
 
     -- all records are cleared, or none
     pub cleared-within : cleared ≤ length ws
@@ -151,7 +153,7 @@ module _ (head : Head) (ws : List Request) (su se dr : List ℕ) where
         go (eqb refusal 0) some
         ∙ ap
         (λ (n : ℕ). cond (eqb n 0) (openAccepted clients period s) (record { answer = Refused n; after = s }) .after .waitingTable)
-        open-told
+        open-refusal
       where
         go : (b : Bool) → cleared ≡ cond b (length ws) 0
             → replicate cleared zeroRequest ++ drop cleared ws
@@ -163,33 +165,32 @@ module _ (head : Head) (ws : List Request) (su se dr : List ℕ) where
 
     pub opened : (ws′ : List Request) (r : Reply) (su′ se′ dr′ : List ℕ)
         → ws′ ≡ replicate cleared zeroRequest ++ drop cleared ws
-        → ((t : State) → refusal ≡ firstMatch (openRefusals clients period t) → t .head ≡ head
-        → t .clientTable ≡ countsOf su se dr → Answers (openOf clients period t) su se dr r su′ se′ dr′)
+        → (r ≡ openReply refusal head clients period) × Holds (openCounts refusal (countsOf su se dr)) su se dr su′ se′ dr′
         → Gives (openOf clients period s) su se dr r ws′ su′ se′ dr′
-    opened ws′ r su′ se′ dr′ w a = given (w ∙ zeros) (a s open-told refl refl)
+    opened ws′ r su′ se′ dr′ w a = given (w ∙ zeros) (open-answers clients period s open-refusal refl a)
 
   -- ---- tick
   pub ticked : (tables refusal : ℕ) (decision : Decision) (e : Edit) (gone : Request) (ws′ : List Request) (r : Reply)
       (su′ se′ dr′ : List ℕ)
       → tables ≡ tablesRefusal s
-      → ((t : State) → tables ≡ tablesRefusal t → t .head ≡ head → refusal ≡ firstMatch (tickRefusals t))
-      → ((t : State) → refusal ≡ firstMatch (tickRefusals t) → t .head ≡ head → decision ≡ tickDecision t)
+      → refusal ≡ tickMatch tables head
+      → decision ≡ tickBy refusal (head .waiting)
       → e ≡ editOf decision (head .waiting) (length ws)
       → (gone ≡ takenOut (e .out) (e .at) zeroRequest ws) × (ws′ ≡ exchanged (e .out) (e .at) zeroRequest ws)
-      → ((t : State) → decision ≡ tickDecision t → t .head ≡ head → t .clientTable ≡ countsOf su se dr
-      → (decision ≡ Serve → gone ≡ getD (waiting t) 0 zeroRequest) → Answers (tickOf t) su se dr r su′ se′ dr′)
+      → (r ≡ tickReply head gone decision)
+      × Holds (tickCounts head decision (countsOf su (servedAfter gone decision se) dr)) su (servedAfter gone decision se) dr su′ se′ dr′
       → Gives (tickOf s) su se dr r ws′ su′ se′ dr′
   ticked tables refusal decision e gone ws′ r su′ se′ dr′ found refuses decides edits moved a =
       given
       (moved .1 ∙ ap (λ (x : Edit). exchanged (x .out) (x .at) zeroRequest ws) same-edit ∙ tick-table s)
-      (a s decided refl refl
+      (tick-answers s decided refl
       (λ serves.
       moved .0
       ∙ ap (λ (x : Edit). takenOut (x .out) (x .at) zeroRequest ws) same-edit
-      ∙ tick-gone s (sym decided ∙ serves)))
+      ∙ tick-gone s (sym decided ∙ serves)) a)
     where
       decided : decision ≡ tickDecision s
-      decided = decides s (refuses s found refl) refl
+      decided = decides ∙ tick-decided s (refuses ∙ tick-told s found)
 
       same-edit : e ≡ editOf (tickDecision s) (head .waiting) (length ws)
       same-edit = edits ∙ ap (λ (d : Decision). editOf d (head .waiting) (length ws)) decided
@@ -201,19 +202,18 @@ module _ (head : Head) (ws : List Request) (su se dr : List ℕ) where
       → e ≡ editOf decision (head .waiting) (length ws)
       → new ≡ numberedRequest head client deadline
       → (gone ≡ takenOut (e .out) (e .at) new ws) × (ws′ ≡ exchanged (e .out) (e .at) new ws)
-      → ((deadline : ℕ) (t : State) → decision ≡ submitDecision client deadline t → t .head ≡ head
-      → t .clientTable ≡ countsOf su se dr
-      → ((place victim : ℕ) → decision ≡ Drop place victim → gone ≡ requestAt victim client deadline t)
-      → Answers (submitOf client deadline t) su se dr r su′ se dr′)
+      → (r ≡ submitReply head gone decision)
+      × (su′ ≡ submittedAfter client decision su)
+      × (dr′ ≡ droppedAfter gone decision dr)
       → Gives (submitOf client deadline s) su se dr r ws′ su′ se dr′
   submitted-gives client deadline decision e new gone ws′ r su′ dr′ decides edits news moved a =
       given
       (moved .1 ∙ ap (λ (x : Edit). exchanged (x .out) (x .at) new ws) same-edit ∙ submit-edited client deadline s new made)
-      (a deadline s decides refl refl
+      (submit-answers client deadline s decides refl
       (λ place victim drops.
       moved .0
       ∙ ap (λ (x : Edit). takenOut (x .out) (x .at) new ws) same-edit
-      ∙ submit-taken client deadline s new made place victim (sym decides ∙ drops)))
+      ∙ submit-taken client deadline s new made place victim (sym decides ∙ drops)) a)
     where
       same-edit : e ≡ editOf (submitDecision client deadline s) (head .waiting) (length ws)
       same-edit = edits ∙ ap (λ (d : Decision). editOf d (head .waiting) (length ws)) decides

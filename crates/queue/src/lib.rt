@@ -63,7 +63,8 @@ fn accepted_decision(
     let n = head.waiting as usize;
     let place = records::due_by(waiting, n, deadline);
     let found = records::first_overfull(head, waiting, n, place, deadline);
-    let last = records::due_by(waiting, n, found);
+    let due = records::due_by(waiting, n, found);
+    let last = records::candidates(n, due, found);
     let before = rows::smaller(place, last);
     records::mark(waiting, &mut latest, 0, before, 1);
     records::note(&mut latest, client, place + 1);
@@ -127,7 +128,7 @@ pub fn submit(
         r (now (waiting .exit)) (now (submitted .exit)) (now (served .exit)) (now (dropped .exit)) ⌝ }
 {
     let decision = submit_decision(waiting, submitted, served, dropped, head, client, deadline);
-    let edit = edits::edit_of(decision, head.waiting, waiting.len());
+    let edit = edits::edit_of(decision, head, waiting.len());
     let new = edits::new_request(head, client, deadline);
     let gone = table::exchange(waiting, edit.out, edit.at, new);
     replies::submit_reply(head, submitted, served, dropped, decision, client, gone)
@@ -150,12 +151,8 @@ pub fn tick(
     let tables = check::tables_refusal(waiting, submitted, served, dropped, head);
     let refusal = refusals::tick_refusal(tables, head);
     let decision = calls::tick_decision(refusal, head);
-    let edit = edits::edit_of(decision, head.waiting, waiting.len());
-    let zero = Request {
-        deadline: 0,
-        number: 0,
-        client: 0,
-    };
+    let edit = edits::edit_of(decision, head, waiting.len());
+    let zero = table::zero();
     let gone = table::exchange(waiting, edit.out, edit.at, zero);
     replies::tick_reply(head, submitted, served, dropped, decision, gone)
 }

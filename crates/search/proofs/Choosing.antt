@@ -1,9 +1,10 @@
 -- The choice among the clients' last candidates, one after the other: what is held after so many clients. Assumes nothing.
-use Prim.Native.Nat.{ℕ, suc, _+_, _-_, _≤_, _<_}
-use mathlib.Core.Path.{_≡_, sym, subst, _∙_}
+use Prim.Native.Nat.{ℕ, zero, suc, _+_, _-_, _≤_, _<_}
+use mathlib.Core.Path.{_≡_, refl, sym, ap, subst, _∙_}
 use mathlib.Core.Logic.{_≢_}
 use mathlib.Core.Bool.{Bool, true, false, cond}
 use mathlib.Core.List.{List}
+use native.Mathlib.Numerals.{add-one}
 use native.Mathlib.Omega.{arith}
 use borrow.Author.Tests.{lt-ltb, le-ltb, eq-eqb, ne-eqb}
 use lib.Dec.{ltb, eqb}
@@ -14,7 +15,7 @@ use Rattle.spec.specs.Tables.{zeroCounts}
 use Rattle.spec.specs.Victim.{hasSmallerRatio}
 use Rattle.spec.proofs.Calls.Victim.{AtMost, at-most-trans, at-most-facts, at-most-test, Rated, smaller, not-smaller, rated}
 use Rattle.search.specs.declared.victim.Latest.{Latest}
-use Rattle.search.specs.Scans.{betterOf, HaveRatios, Wins}
+use Rattle.search.specs.Scans.{betterOf, bestOf, smallestRatioPlace, HaveRatios, Wins}
 
 -- which of the two is the better, and why
 pub data Better (best next : Latest) : Latest → Type 0 where
@@ -157,22 +158,45 @@ module _ (counts : ℕ → Counts) (latest : List ℕ) (n : ℕ) (pos : HaveRati
 
   -- after all clients: where one has a candidate, the best wins
   all-wins : (best : Latest) → Held counts latest n best → (c : ℕ) → c < n → 0 < getD latest c 0
-      → (0 < best .at) × Wins counts latest n (best .at - 1)
+      → Wins counts latest n (best .at - 1)
   all-wins best (nobody z e all) c l some = absurd (omega (arith, all c l))
-  all-wins best (owned owner o some here e all) c l h = (
-    some,
-    record {
-      owner = owner;
-      exists = o;
-      here = omega arith;
-      least = λ j k q. at-most-test (counts owner) (counts j) (subst (λ (x : Counts). AtMost x (counts j)) e (all j k q .0));
-      last = λ j k q f.
-          let b = at-most-facts (counts j) (counts owner) f in
-          omega (arith, all j k q .1 (subst (AtMost (counts j)) (sym e) b));
-    },
-  )
+  all-wins best (owned owner o some here e all) c l h =
+      record {
+        owner = owner;
+        exists = o;
+        here = omega arith;
+        least = λ j k q. at-most-test (counts owner) (counts j) (subst (λ (x : Counts). AtMost x (counts j)) e (all j k q .0));
+        last = λ j k q f.
+            let b = at-most-facts (counts j) (counts owner) f in
+            omega (arith, all j k q .1 (subst (AtMost (counts j)) (sym e) b));
+      }
 
-  pub held-wins : (m : ℕ) (best : Latest) → n ≤ m → (m ≤ n) × (HaveRatios counts latest n → Held counts latest m best)
-      → (c : ℕ) → c < n → 0 < getD latest c 0 → (0 < best .at) × Wins counts latest n (best .at - 1)
-  held-wins m best past (within, h) =
-      let e : m ≡ n = omega arith in all-wins best (subst (λ (k : ℕ). Held counts latest k best) e (h pos))
+-- ---- the best of so many clients: of none, of one more, and of all once the search has gone past them
+module _ (counts : ℕ → Counts) (latest : List ℕ) where
+  pub best-none : record { at = 0; counts = zeroCounts } ≡ bestOf counts latest 0
+  unfolding bestOf
+  best-none = refl
+
+  pub best-next : (m : ℕ) {best r : Latest} {k : Counts} → k ≡ counts m → best ≡ bestOf counts latest m
+      → r ≡ betterOf best (record { at = getD latest m 0; counts = k }) → r ≡ bestOf counts latest (m + 1)
+  unfolding bestOf
+  best-next m e b r = r ∙ rw (e, b, add-one)
+
+  pub best-last : {n : ℕ} (m : ℕ) (best : Latest) → n ≤ m → (m ≤ n) × (best ≡ bestOf counts latest m)
+      → best .at ≡ bestOf counts latest n .at
+  best-last {n} m best past (within, e) =
+      let q : m ≡ n = omega arith in ap (λ (b : Latest). b .at) (e ∙ ap (bestOf counts latest) q)
+
+  -- what is held of it
+  held-best : (n : ℕ) → HaveRatios counts latest n → (m : ℕ) → m ≤ n → Held counts latest m (bestOf counts latest m)
+  unfolding bestOf
+  held-best n pos zero l = nobody refl refl (λ j k. absurd (omega arith))
+  held-best n pos (suc m) l =
+      subst (λ (k : ℕ). Held counts latest k (bestOf counts latest (suc m))) (add-one m)
+      (held-next counts latest n pos m (omega arith) (bestOf counts latest m) _ refl refl (held-best n pos m (omega arith)) refl)
+
+  -- "The smallest wins; among equals, the last in chart order."
+  pub place-wins : (n : ℕ) → HaveRatios counts latest n → (c : ℕ) → c < n → 0 < getD latest c 0
+      → Wins counts latest n (smallestRatioPlace counts latest n)
+  place-wins n pos c l some =
+      all-wins counts latest n pos (bestOf counts latest n) (held-best n pos n (omega arith)) c l some

@@ -1,9 +1,9 @@
 -- What the searches find: the first overfull deadline, each client's last request, the victim. Assumes nothing.
-use Prim.Native.Nat.{ℕ, suc, _%_, _≤_, _<_}
+use Prim.Native.Nat.{ℕ, zero, suc, _+_, _-_, _/_, _%_, _≤_, _<_, min}
 use mathlib.Core.Path.{_≡_}
 use mathlib.Core.Bool.{false, cond}
 use mathlib.Core.List.{List, [], _∷_, _++_}
-use lib.Dec.{ltb, eqb}
+use lib.Dec.{leb, ltb, eqb}
 use lib.ListN.{length, getD, take, drop, set}
 use Rattle.spec.specs.declared.types.Head.{Head}
 use Rattle.spec.specs.declared.types.Counts.{Counts}
@@ -17,6 +17,29 @@ use Rattle.search.specs.declared.victim.Latest.{Latest}
 -- no entry is larger than a later one
 abbrev pub Sorted : List ℕ → Type 0
 Sorted xs = (j k : ℕ) → j ≤ k → k < length xs → getD xs j 0 ≤ getD xs k 0
+
+-- the place in the middle of two
+abbrev pub middle : ℕ → ℕ → ℕ
+middle low high = low + (high - low) / 2
+
+-- a search by halves between two places, of at most so many looks: it goes on behind an entry of at most d, and before a larger one
+unfoldable pub halved : ℕ → List ℕ → ℕ → ℕ → ℕ → ℕ
+halved zero xs d low high = low
+halved (suc looks) xs d low high =
+    cond (ltb low high)
+    (cond (leb (getD xs (middle low high) 0) d)
+    (halved looks xs d (middle low high + 1) high)
+    (halved looks xs d low (middle low high)))
+    low
+
+-- the place that it finds among the first n entries: where none is larger than a later one, so many are at most d
+abbrev pub placeBy : List ℕ → ℕ → ℕ → ℕ
+placeBy xs n d = halved n xs d 0 n
+
+-- "Candidates .. are exactly those with deadlines up to the smallest overfull one": of n waiting requests those that are due by it;
+-- none where no deadline is overfull
+abbrev pub candidateCount : ℕ → ℕ → ℕ → ℕ
+candidateCount n due found = cond (eqb found 0) 0 (min due n)
 
 -- "The search for an overfull deadline ends at the first one found and yields it.": the first of these deadlines with fewer slots
 -- up to it than requests up to its place, 0 where there is none; the first stands at the place i
@@ -46,6 +69,15 @@ betterOf best next =
     (cond (hasSmallerRatio (best .counts) (next .counts)) best
     (cond (hasSmallerRatio (next .counts) (best .counts)) next
     (cond (ltb (next .at) (best .at)) best next)))
+
+-- the best of n clients' last candidates, one after the other
+unfoldable pub bestOf : (ℕ → Counts) → List ℕ → ℕ → Latest
+bestOf counts latest zero = record { at = 0; counts = zeroCounts }
+bestOf counts latest (suc n) = betterOf (bestOf counts latest n) (record { at = getD latest n 0; counts = counts n })
+
+-- the victim's place, from each of n clients' last candidate; 0 where no client has one
+abbrev pub smallestRatioPlace : (ℕ → Counts) → List ℕ → ℕ → ℕ
+smallestRatioPlace counts latest n = bestOf counts latest n .at - 1
 
 -- of n clients those that have a candidate, with the place of the last one, 1 added: no ratio of theirs has the divisor 0
 abbrev pub HaveRatios : (ℕ → Counts) → List ℕ → ℕ → Type 0

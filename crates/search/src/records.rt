@@ -5,19 +5,16 @@ use spec::types::Request;
 ghost use mathlib.Core.Path.{_≡_};
 ghost use mathlib.Core.List.{_∷_};
 ghost use Prim.Native.Nat.{_+_, _%_, _≤_};
-ghost use lib.Dec.{leb};
 ghost use lib.ListN.{length, set, take, drop};
-ghost use Rattle.spec.specs.Every.{countIf};
 ghost use Rattle.spec.specs.Tables.{mostClients, mostRecords, clockEnd, deadlinesOf, clientsOf};
 ghost use Rattle.columns.specs.Columns.{largest16};
-ghost use Rattle.search.specs.Scans.{Sorted, overfullFrom, latestOf};
+ghost use Rattle.search.specs.Scans.{placeBy, candidateCount, overfullFrom, latestOf};
 
-// How many of the first n records, whose deadlines ascend, have a deadline of at most this one.
+// How many of the first n records, whose deadlines ascend, have a deadline of at most this one, by halves; in any order of
+// deadlines, the place that these lead to.
 pub fn due_by(t: &[Request], n: usize, deadline: u64) -> usize
     requires { ⌜ n ≤ length (now t) ⌝ }
-    ensures { λ r. ⌜ (r ≤ n)
-        × (Sorted (take n (deadlinesOf (now (t .entry))))
-        → r ≡ countIf (λ d. leb d deadline) (take n (deadlinesOf (now (t .entry))))) ⌝ }
+    ensures { λ r. ⌜ r ≡ placeBy (deadlinesOf (now (t .entry))) n deadline ⌝ }
 {
     let mut low: usize = 0;
     let mut high = n;
@@ -31,6 +28,17 @@ pub fn due_by(t: &[Request], n: usize, deadline: u64) -> usize
         }
     }
     low
+}
+
+// How many of n waiting records are candidates, where so many are due by the first overfull deadline: those, and none where no
+// deadline is overfull.
+pub fn candidates(n: usize, due: usize, found: u64) -> usize
+    ensures { λ r. ⌜ r ≡ candidateCount n due found ⌝ }
+{
+    if found == 0 {
+        return 0;
+    }
+    columns::rows::smaller(due, n)
 }
 
 // The first overfull deadline among those of n waiting records and a new one, looked for from the new one's place on: those before it

@@ -3,11 +3,11 @@
 use columns::rows;
 use spec::types::Counts;
 ghost use mathlib.Core.Path.{_≡_};
-ghost use Prim.Native.Nat.{ℕ, _≤_, _<_};
+ghost use Prim.Native.Nat.{_≤_, _<_};
 ghost use lib.ListN.{length, getD};
 ghost use Rattle.spec.specs.Victim.{hasSmallerRatio};
 ghost use Rattle.columns.specs.Columns.{largest32};
-ghost use Rattle.search.specs.Scans.{countsWith, betterOf, HaveRatios, Wins};
+ghost use Rattle.search.specs.Scans.{countsWith, betterOf, smallestRatioPlace};
 
 // A client's last candidate: its place and 1, or 0 where it has none. Beside it the client's counts.
 struct Latest {
@@ -62,7 +62,7 @@ fn better(best: Latest, next: Latest) -> Latest
     next
 }
 
-// The victim's place, from each of the n clients' last candidate. Nothing is promised where no client has one.
+// The victim's place, from each of the n clients' last candidate; 0 where no client has one.
 pub fn smallest_ratio_place(
     latest: &[u16],
     submitted: &[u32],
@@ -72,11 +72,8 @@ pub fn smallest_ratio_place(
     n: usize,
 ) -> usize
     requires { ⌜ (n ≤ length (now latest)) × (getD (now submitted) client 0 < largest32) ⌝ }
-    ensures { λ r. ⌜
-        (HaveRatios (countsWith client (now (submitted .entry)) (now (served .entry)) (now (dropped .entry))) (now (latest .entry)) n
-        → (c : ℕ) → c < n → 0 < getD (now (latest .entry)) c 0
-        → Wins (countsWith client (now (submitted .entry)) (now (served .entry)) (now (dropped .entry)))
-        (now (latest .entry)) n r) ⌝ }
+    ensures { λ r. ⌜ r ≡ smallestRatioPlace
+        (countsWith client (now (submitted .entry)) (now (served .entry)) (now (dropped .entry))) (now (latest .entry)) n ⌝ }
 {
     let none = Counts {
         submitted: 0,

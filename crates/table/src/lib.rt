@@ -44,29 +44,36 @@ pub fn exchange(t: &mut [Request], out: usize, at: usize, r: Request) -> Request
     gone
 }
 
+// A record that is zero.
+pub fn zero() -> Request
+    ensures { λ r. ⌜ r ≡ zeroRequest ⌝ }
+{
+    Request {
+        deadline: 0,
+        number: 0,
+        client: 0,
+    }
+}
+
 // The first n records become zero.
 pub fn clear(t: &mut [Request], n: usize)
     requires { ⌜ n ≤ length (now t) ⌝ }
     ensures { λ _. ⌜ now (t .exit) ≡ replicate n zeroRequest ++ drop n (now (t .entry)) ⌝ }
 {
-    let zero = Request {
-        deadline: 0,
-        number: 0,
-        client: 0,
-    };
+    let empty = zero();
     let mut i = 0;
     while i < n {
-        put(t, i, zero);
+        put(t, i, empty);
         i += 1;
     }
 }
 
-// One number written.
-fn store(xs: &mut [u64], i: usize, x: u64)
+// A record's deadline written.
+fn put_deadline(xs: &mut [u64], i: usize, w: Request)
     requires { ⌜ i < length (now xs) ⌝ }
-    ensures { λ _. ⌜ now (xs .exit) ≡ set (now (xs .entry)) i x ⌝ }
+    ensures { λ _. ⌜ now (xs .exit) ≡ set (now (xs .entry)) i (w .deadline) ⌝ }
 {
-    xs[i] = x;
+    xs[i] = w.deadline;
 }
 
 // The deadlines of the first n records, copied out; entries beyond are untouched.
@@ -77,7 +84,7 @@ pub fn deadlines(t: &[Request], out: &mut [u64], n: usize)
     let mut i = 0;
     while i < n {
         let w = get(t, i);
-        store(out, i, w.deadline);
+        put_deadline(out, i, w);
         i += 1;
     }
 }

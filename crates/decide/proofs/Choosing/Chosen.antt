@@ -3,17 +3,17 @@
 use Prim.Native.Nat.{ℕ, suc, _+_, _%_, _≤_, _<_}
 use mathlib.Core.Path.{_≡_, refl, sym, ap, subst, _∙_}
 use mathlib.Core.Logic.{_≢_}
-use mathlib.Core.Bool.{true, false, cond}
+use mathlib.Core.Bool.{Bool, true, false, cond}
 use mathlib.Core.List.{List, _∷_, map}
 use native.Mathlib.Nat.{zero-add}
 use native.Mathlib.Omega.{arith}
 use borrow.Author.Tests.{le-leb, leb-true}
-use lib.Dec.{leb}
+use lib.Dec.{leb, eqb}
 use lib.ListN.{length, getD, take, drop, replicate, List·getD-map, length-map, length-take, length-replicate, getD-replicate}
 use lib.ListN.{List·getD-eq-default}
 use lib.Seq.{getD-take, getD-at, length-take-le}
 use Rattle.slots.proofs.Laws.Sums.{all-imp}
-use Rattle.slots.proofs.Laws.Tests.{le, gt, order}
+use Rattle.slots.proofs.Laws.Tests.{Same, same-yes, same-no, same, le, gt, order}
 use Rattle.spec.specs.declared.types.Head.{Head}
 use Rattle.spec.specs.declared.types.Request.{Request}
 use Rattle.spec.specs.declared.types.Counts.{Counts}
@@ -31,12 +31,13 @@ use Rattle.spec.proofs.Laws.Sound.{Given, Ahead, Owned}
 use Rattle.spec.proofs.Laws.Accepted.{SubmitReady, submit-ready}
 use Rattle.spec.proofs.Laws.Every.{value, is-true, is-false, same-test, all-at}
 use Rattle.spec.proofs.Laws.Places.{Roomy, feasible-roomy}
-use Rattle.search.specs.Scans.{overfullFrom, latestOf, putAt, countsWith, HaveRatios, Wins}
+use Rattle.search.specs.Scans.{overfullFrom, latestOf, putAt, countsWith, smallestRatioPlace, HaveRatios, Wins}
+use Rattle.search.proofs.Choosing.{place-wins}
 use Rattle.search.proofs.Fields.{column-insert, take-put}
 use Rattle.search.proofs.Latest.{Source, before, placed, source, latest-least}
 use Rattle.decide.specs.declared.types.Decision.{Decision}
 use Rattle.decide.specs.declared.types.Decision.the-variants.{Keep, Drop}
-use Rattle.decide.specs.Decisions.{submitChoice, Found}
+use Rattle.decide.specs.Decisions.{submitChoice, choiceBy, Found}
 use Rattle.decide.proofs.Choosing.Searched.{few-due, place-due, search-skip, overfullOf, search-same, due-early}
 use Rattle.decide.proofs.Choosing.Searched.{early-due}
 
@@ -342,7 +343,7 @@ module _
           f .searched
           ∙ ap (λ (k : ℕ). overfullFrom (s .head) k (deadline ∷ drop k (deadlinesOf (waiting s)))) (f .placed)
 
-  pub choice-keeps : found ≡ 0 → Keep place ≡ submitChoice client deadline s
+  choice-keeps : found ≡ 0 → Keep place ≡ submitChoice client deadline s
   choice-keeps z = go what z
     where
       go : {x : ℕ} {d : Decision} → Chosen client deadline s x d → x ≡ 0 → Keep place ≡ d
@@ -364,7 +365,7 @@ module _
       (latestBy client deadline s D) (head .clients) victim) (sym (f .counts-same))
       (subst (λ (xs : List ℕ). Choice (countsWith client su se dr) xs (head .clients) victim) e w))
 
-  pub choice-drops : found ≢ 0 → {victim : ℕ} → Choice (countsWith client su se dr) latest (head .clients) victim
+  choice-drops : found ≢ 0 → {victim : ℕ} → Choice (countsWith client su se dr) latest (head .clients) victim
       → Drop place victim ≡ submitChoice client deadline s
   choice-drops n {victim} w = go what n (f .marked)
     where
@@ -380,3 +381,13 @@ module _
           (f .placed) in
           let v = same victim (of-state D victim e w countable client (ready .exists) new) in
           ap (λ (j : ℕ). Drop j victim) (f .placed) ∙ ap (Drop (dueBy deadline (waiting s))) v
+
+  -- the choice by what was found is the submit's
+  pub choice-found : choiceBy (head .clients) (countsWith client su se dr) latest place found ≡ submitChoice client deadline s
+  choice-found = go (eqb found 0) (same found 0)
+    where
+      go : (b : Bool) → Same found 0 b
+          → cond b (Keep place) (Drop place (smallestRatioPlace (countsWith client su se dr) latest (head .clients)))
+          ≡ submitChoice client deadline s
+      go true (same-yes z) = choice-keeps z
+      go false (same-no n) = choice-drops n (place-wins (countsWith client su se dr) latest (head .clients))

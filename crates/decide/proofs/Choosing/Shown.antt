@@ -1,9 +1,11 @@
 -- What the searches over the lent records find of an accepted submit is what its decision is told. Assumes nothing.
 use Prim.Native.Nat.{ℕ, _+_, _%_, _≤_, _<_, min}
 use mathlib.Core.Path.{_≡_, refl, sym, ap, subst, _∙_}
+use mathlib.Core.Bool.{Bool, true, false, cond}
 use mathlib.Core.List.{List, _∷_}
 use native.Mathlib.Omega.{arith}
-use lib.Dec.{leb}
+use borrow.Author.Tests.{ne-eqb}
+use lib.Dec.{leb, eqb}
 use lib.ListN.{length, getD, take, drop, set, replicate, length-take, length-map}
 use lib.Seq.{take-take, length-take-le}
 use Rattle.spec.specs.declared.types.Head.{Head}
@@ -14,17 +16,14 @@ use Rattle.spec.specs.Chart.{dueBy}
 use Rattle.spec.specs.Refusals.{firstMatch, submitRefusals}
 use Rattle.spec.proofs.Laws.Accepted.{SubmitReady, submit-ready}
 use Rattle.columns.specs.Columns.{stateOf, largest32}
-use Rattle.search.specs.Scans.{Sorted, overfullFrom, latestOf, putAt}
+use Rattle.search.specs.Scans.{Sorted, placeBy, candidateCount, overfullFrom, latestOf, putAt}
 use Rattle.search.proofs.Fields.{field-take, due-column}
 use Rattle.search.proofs.Latest.{latest-parts}
+use Rattle.search.proofs.Scanning.{place-within, place-counts}
 use Rattle.decide.specs.Decisions.{Found}
 use Rattle.decide.proofs.Choosing.Searched.{sorted}
 use Rattle.decide.proofs.Choosing.Chosen.{place-last}
 use Rattle.decide.proofs.States.{small}
-
--- what a search for a place finds
-abbrev pub Placed : ℕ → List Request → ℕ → ℕ → Type 0
-Placed n ws D r = (r ≤ n) × (Sorted (take n (deadlinesOf ws)) → r ≡ countIf (λ d. leb d D) (take n (deadlinesOf ws)))
 
 module _ (head : Head) (ws : List Request) (su se dr : List ℕ) (client deadline : ℕ)
     (accepted : firstMatch (submitRefusals client deadline (stateOf head ws su se dr)) ≡ 0) where
@@ -54,15 +53,39 @@ module _ (head : Head) (ws : List Request) (su se dr : List ℕ) (client deadlin
   rises = small ready refl su se dr refl
 
   -- ---- what they find
-  due : (D r : ℕ) → Placed n ws D r → r ≡ dueBy D (waiting s)
+  all : n ≤ length (deadlinesOf ws)
+  all = omega (arith, waits, length-map ws (λ (w : Request). w .deadline))
+
+  pub placed-within : (D r : ℕ) → r ≡ placeBy (deadlinesOf ws) n D → r ≤ n
+  placed-within D r p = omega (arith, place-within (deadlinesOf ws) D n all)
+
+  due : (D r : ℕ) → r ≡ placeBy (deadlinesOf ws) n D → r ≡ dueBy D (waiting s)
   due D r p =
-      p .1 (subst Sorted (sym (field-take (λ w. w .deadline) n ws)) (sorted (waiting s) (ready .ready .sound .ordered)))
+      p
+      ∙ place-counts (deadlinesOf ws) D n all
+      (subst Sorted (sym (field-take (λ w. w .deadline) n ws)) (sorted (waiting s) (ready .ready .sound .ordered)))
       ∙ ap (countIf (λ d. leb d D)) (field-take (λ w. w .deadline) n ws)
       ∙ due-column D (waiting s)
 
-  module _ (place found last before : ℕ) (placed : Placed n ws deadline place)
+  -- no more are candidates than wait
+  pub candidates-within : (found due last : ℕ) → last ≡ candidateCount n due found → last ≤ n
+  candidates-within found due last e = go (eqb found 0) e
+    where
+      go : (b : Bool) → last ≡ cond b 0 (min due n) → last ≤ n
+      go true q = omega arith
+      go false q = omega arith
+
+  module _ (place found end last before : ℕ) (placed : place ≡ placeBy (deadlinesOf ws) n deadline)
       (searched : found ≡ overfullFrom head place (deadline ∷ drop place (take n (deadlinesOf ws))))
-      (ended : Placed n ws found last) (fewer : before ≡ min place last) where
+      (ended : end ≡ placeBy (deadlinesOf ws) n found) (chosen : last ≡ candidateCount n end found)
+      (fewer : before ≡ min place last) where
+    -- where a deadline is overfull, those that are due by it
+    last-due : 0 < found → last ≡ dueBy found (waiting s)
+    last-due some =
+        chosen
+        ∙ rw (ne-eqb found 0 (λ z. absurd (omega (arith, z, some))))
+        (omega (arith, placed-within found end ended, due found end ended))
+
     searched-state : found ≡ overfullFrom head place (deadline ∷ drop place (deadlinesOf (waiting s)))
     searched-state =
         searched
@@ -84,12 +107,15 @@ module _ (head : Head) (ws : List Request) (su se dr : List ℕ) (client deadlin
           cs : List ℕ
           cs = clientsOf ws
 
+          within : last ≤ n
+          within = candidates-within found end last chosen
+
           behind : place ≤ last
           behind =
               omega (
                 arith,
                 due deadline place placed,
-                due found last ended,
+                last-due some,
                 place-last client deadline s ready
                     (searched-state
                     ∙ ap (λ (k : ℕ). overfullFrom head k (deadline ∷ drop k (deadlinesOf (waiting s)))) (due deadline place placed))
@@ -98,9 +124,9 @@ module _ (head : Head) (ws : List Request) (su se dr : List ℕ) (client deadlin
 
           theirs : take (dueBy found (waiting s)) (clientsOf (waiting s)) ≡ take last cs
           theirs =
-              ap (λ (k : ℕ). take k (clientsOf (waiting s))) (sym (due found last ended))
+              ap (λ (k : ℕ). take k (clientsOf (waiting s))) (sym (last-due some))
               ∙ ap (take last) (sym (field-take (λ w. w .client) n ws))
-              ∙ take-take last n cs (ended .0)
+              ∙ take-take last n cs (within)
 
           same-first : latestOf (0 + 1) (drop 0 (take before cs)) (replicate mostClients 0)
               ≡ latestOf 1 (take place (take last cs)) (replicate mostClients 0)
@@ -112,7 +138,7 @@ module _ (head : Head) (ws : List Request) (su se dr : List ℕ) (client deadlin
           long : length (take place (take last cs)) ≡ place
           long =
               length-take-le place (take last cs)
-              (omega (arith, behind, ended .0, waits, length-take last cs, length-map ws (λ (w : Request). w .client)))
+              (omega (arith, behind, within, waits, length-take last cs, length-map ws (λ (w : Request). w .client)))
 
       pub found-all : Found client deadline head l₃ su se dr place found s
       found-all =

@@ -1,22 +1,22 @@
 -- What calls do to the counts, as columns hold them, and what open and tick hand back. Assumes nothing.
 use Prim.Native.Nat.{ℕ, suc, _-_, _≤_, _<_}
 use mathlib.Core.Path.{_≡_, refl, sym, ap, _∙_}
-use mathlib.Core.Logic.{_≢_}
-use mathlib.Core.Bool.{Bool, true, false}
+use mathlib.Core.Bool.{Bool, true, false, cond}
 use mathlib.Core.List.{List, [], _∷_, map}
 use native.Mathlib.Omega.{arith}
-use borrow.Author.Tests.{lt-ltb, eq-eqb, ne-eqb}
-use lib.ListN.{length, getD, replicate, length-map, List·getD-map}
+use borrow.Author.Tests.{lt-ltb}
+use lib.Dec.{eqb}
+use lib.ListN.{length, getD, length-map, List·getD-map}
 use lib.Seq.{ext-getD}
-use Rattle.spec.specs.declared.types.Head.{Head}
+use Rattle.slots.proofs.Laws.Tests.{Same, same-yes, same-no, same}
 use Rattle.spec.specs.declared.types.Request.{Request}
 use Rattle.spec.specs.declared.types.Counts.{Counts}
 use Rattle.spec.specs.declared.types.Answer.the-variants as answer
 use Rattle.spec.specs.Every.{mapFrom}
 use Rattle.spec.specs.Tables.{zeroRequest, zeroCounts, State, waiting, nextState}
 use Rattle.spec.specs.Order.{removeAt}
-use Rattle.spec.specs.Refusals.{Refusal, firstMatch, tickRefusals}
-use Rattle.spec.specs.Calls.{Outcome, unlessRefused, change, oneMoreServed, openAccepted, restarted, countsAfter}
+use Rattle.spec.specs.Refusals.{Refusal, firstMatch, openRefusals, tickRefusals}
+use Rattle.spec.specs.Calls.{Outcome, unlessRefused, change, oneMoreServed, openAccepted, openOf, restarted, countsAfter}
 use Rattle.spec.specs.Calls.{oneLater, tickAccepted, tickOf}
 use Rattle.spec.proofs.Laws.Clients.{length-change, counts-path}
 use Rattle.spec.proofs.Laws.Every.{length-mapFrom, getD-mapFrom}
@@ -28,10 +28,10 @@ use Rattle.columns.specs.Counted.{oneAdded, restartedCounts, restartedAt}
 use Rattle.columns.proofs.Fields.{Which, first, second, third, pick}
 use Rattle.columns.proofs.Counting.{fieldOf, oneMore, holds-own, holds-rows, holds-next, holds-more}
 use Rattle.decide.specs.declared.types.Decision.{Decision}
-use Rattle.decide.specs.declared.types.Decision.the-variants.{Refuse, Keep, Drop, Serve, Idle}
+use Rattle.decide.specs.declared.types.Decision.the-variants.{Serve}
 use Rattle.decide.specs.declared.types.Reply.{Reply}
 use Rattle.decide.specs.Decisions.{tickDecision}
-use Rattle.decide.specs.Replies.{raised, refusedWith, laterHead, Answers}
+use Rattle.decide.specs.Replies.{raised, refusedWith, laterHead, replyUnless, openReply, openCounts, tickReply, servedAfter, tickCounts, Answers}
 use Rattle.decide.proofs.Carried.{Carried, refuses, accepts, Ticks, idles, serves, tick-carried}
 
 -- ---- columns that are left as they are
@@ -87,27 +87,30 @@ pub answers : {o : Outcome} {r : Reply} {su₀ se₀ dr₀ su se dr : List ℕ} 
     → Holds (o .after .clientTable) su₀ se₀ dr₀ su se dr → Answers o su₀ se₀ dr₀ r su se dr
 answers a h c = record { answer-same = a; head-same = h; counts-same = c }
 
--- a call whose first match is t, refused or accepted
-module _ (rs : List Refusal) (s : State) (o : Outcome) {su se dr : List ℕ} {t : ℕ} (found : t ≡ firstMatch rs) where
-  pub refused-answers : t ≢ 0 → {head : Head} → s .head ≡ head → s .clientTable ≡ countsOf su se dr
-      → Answers (unlessRefused rs s o) su se dr (refusedWith head t) su se dr
-  refused-answers n e counts = rw (← found, ne-eqb t 0 n) (answers refl (sym e) (holds-same counts))
-
-  pub accepted-answers : t ≡ 0 → {r : Reply} {su₁ se₁ dr₁ : List ℕ} → Answers o su se dr r su₁ se₁ dr₁
+-- a call whose first match is t, refused or accepted: what it hands back, and the client table that the columns then hold
+module _ (rs : List Refusal) (s : State) (o : Outcome) {t : ℕ} (found : t ≡ firstMatch rs) {su se dr su₁ se₁ dr₁ : List ℕ} where
+  pub unless-answers : {r accepted : Reply} {cs : List Counts}
+      → (t ≡ 0 → Holds cs su se dr su₁ se₁ dr₁ → Answers o su se dr accepted su₁ se₁ dr₁)
+      → r ≡ replyUnless t (s .head) accepted
+      → Holds (cond (eqb t 0) cs (s .clientTable)) su se dr su₁ se₁ dr₁
       → Answers (unlessRefused rs s o) su se dr r su₁ se₁ dr₁
-  accepted-answers z a = rw (← found, eq-eqb t 0 z) a
+  unless-answers {accepted = accepted} {cs = cs} goes e h = rw (← found, e) (go (eqb t 0) (same t 0) h)
+    where
+      go : (b : Bool) → Same t 0 b → Holds (cond b cs (s .clientTable)) su se dr su₁ se₁ dr₁
+          → Answers (cond b o (record { answer = answer.Refused t; after = s })) su se dr
+          (cond b accepted (refusedWith (s .head) t)) su₁ se₁ dr₁
+      go true (same-yes z) g = goes z g
+      go false (same-no n) g = answers refl refl g
 
 -- ---- open
-pub opened-answers : (clients period : ℕ) (s : State) {su se dr su₁ se₁ dr₁ : List ℕ} → s .clientTable ≡ countsOf su se dr
-    → Holds (replicate (length (countsOf su se dr)) zeroCounts) su se dr su₁ se₁ dr₁
-    → Answers (openAccepted clients period s) su se dr
-    (record {
-      head = record { clients = clients; period = period; clock = 0; last = 0; waiting = 0 };
-      answer = answer.Opened;
-    })
-    su₁ se₁ dr₁
-unfolding openAccepted
-opened-answers clients period s counts h = answers refl refl (rw counts h)
+pub open-answers : (clients period : ℕ) (s : State) {refusal : ℕ} {r : Reply} {su se dr su₁ se₁ dr₁ : List ℕ}
+    → refusal ≡ firstMatch (openRefusals clients period s) → s .clientTable ≡ countsOf su se dr
+    → (r ≡ openReply refusal (s .head) clients period) × Holds (openCounts refusal (countsOf su se dr)) su se dr su₁ se₁ dr₁
+    → Answers (openOf clients period s) su se dr r su₁ se₁ dr₁
+unfolding openOf openAccepted
+open-answers clients period s found counts (e, h) =
+    unless-answers (openRefusals clients period s) s (openAccepted clients period s) found
+    (λ z g. answers refl refl g) e (rw counts h)
 
 -- ---- tick
 module _ (s : State) (r : TickReady s) where
@@ -180,68 +183,22 @@ module _ (s : State) (r : TickReady s) where
         ends : Ends oneMoreServed
         ends = record { submits = λ k. refl; ends = λ k. omega arith }
 
-module _
-    (s : State) {head : Head} {su se dr : List ℕ}
-    (same : s .head ≡ head) (counts : s .clientTable ≡ countsOf su se dr) where
-  pub tick-refuses : (number : ℕ) → Refuse number ≡ tickDecision s
-      → Answers (tickOf s) su se dr (refusedWith head number) su se dr
-  tick-refuses number = go (tick-carried s)
-    where
-      go : {d : Decision} {o : Outcome} → Carried (tickRefusals s) s (Ticks s) d o → Refuse number ≡ d
-          → Answers o su se dr (refusedWith head number) su se dr
-      go (refuses n) e = answers (cc) (sym same) (holds-same counts)
-      go (accepts z (idles w)) e = absurd (let z : _≡_ {A = ℕ} 0 1 = cc in omega arith)
-      go (accepts z (serves w ws q)) e = absurd (let z : _≡_ {A = ℕ} 0 1 = cc in omega arith)
-
-  pub tick-idles : {su₁ se₁ dr₁ : List ℕ} → Idle ≡ tickDecision s
-      → Holds (restartedAt (head .period) (raised (head .clock)) (countsOf su se dr)) su se dr su₁ se₁ dr₁
-      → Answers (tickOf s) su se dr
-      (record { head = laterHead head (head .waiting); answer = answer.Idle (head .clock) }) su₁ se₁ dr₁
-  tick-idles {su₁} {se₁} {dr₁} e h = go (tick-carried s) e
-    where
-      go : {d : Decision} {o : Outcome} → Carried (tickRefusals s) s (Ticks s) d o → Idle ≡ d
-          → Answers o su se dr
-          (record { head = laterHead head (head .waiting); answer = answer.Idle (head .clock) }) su₁ se₁ dr₁
-      go (refuses n) e = absurd (let z : _≡_ {A = ℕ} 0 1 = cc in omega arith)
-      go (accepts z (idles w)) e = rw (← same) (idle-answers s (tick-ready s z) counts w (rw (← same) at h))
-      go (accepts z (serves w ws q)) e = absurd (let z : _≡_ {A = ℕ} 0 1 = cc in omega arith)
-
-  pub tick-serves : {gone : Request} {su₁ se₁ dr₁ : List ℕ} → Serve ≡ tickDecision s → gone ≡ getD (waiting s) 0 zeroRequest
-      → Holds (restartedAt (head .period) (raised (head .clock)) (countsOf su (oneAdded (gone .client) se) dr))
-      su (oneAdded (gone .client) se) dr su₁ se₁ dr₁
-      → Answers (tickOf s) su se dr
-      (record {
-        head = laterHead head (head .waiting - 1);
-        answer = answer.Served (head .clock) (gone .number) (gone .client);
-      })
-      su₁ se₁ dr₁
-  tick-serves {gone} {su₁} {se₁} {dr₁} e f h = go (tick-carried s) e
-    where
-      go : {d : Decision} {o : Outcome} → Carried (tickRefusals s) s (Ticks s) d o → Serve ≡ d
-          → Answers o su se dr
-          (record {
-            head = laterHead head (head .waiting - 1);
-            answer = answer.Served (head .clock) (gone .number) (gone .client);
-          })
-          su₁ se₁ dr₁
-      go (refuses n) e = absurd (let z : _≡_ {A = ℕ} 0 1 = cc in omega arith)
-      go (accepts z (idles w)) e = absurd (let z : _≡_ {A = ℕ} 0 1 = cc in omega arith)
-      go (accepts z (serves w ws q)) e =
-          let g : gone ≡ w = f ∙ rw q in
-          rw (← same, g) (served-answers s (tick-ready s z) counts w ws q (rw (← same, g) at h))
-
--- it decides on nothing else
-abbrev pub isOfTick : Decision → Bool
-isOfTick (Refuse number) = true
-isOfTick (Keep place) = false
-isOfTick (Drop place victim) = false
-isOfTick Serve = true
-isOfTick Idle = true
-
-pub tick-only : (s : State) (d : Decision) → d ≡ tickDecision s → isOfTick d ≡ true
-tick-only s d e = ap isOfTick e ∙ go (tick-carried s)
+-- no tick decides on Keep or Drop
+pub tick-answers : (s : State) {gone : Request} {decision : Decision} {r : Reply} {su se dr su₁ se₁ dr₁ : List ℕ}
+    → decision ≡ tickDecision s → s .clientTable ≡ countsOf su se dr
+    → (decision ≡ Serve → gone ≡ getD (waiting s) 0 zeroRequest)
+    → (r ≡ tickReply (s .head) gone decision)
+    × Holds (tickCounts (s .head) decision (countsOf su (servedAfter gone decision se) dr)) su (servedAfter gone decision se) dr su₁ se₁ dr₁
+    → Answers (tickOf s) su se dr r su₁ se₁ dr₁
+tick-answers s {gone} {decision} {r} {su} {se} {dr} {su₁} {se₁} {dr₁} e counts g t = go (tick-carried s) (rw e at g) (rw e at t)
   where
-    go : {d : Decision} {o : Outcome} → Carried (tickRefusals s) s (Ticks s) d o → isOfTick d ≡ true
-    go (refuses n) = refl
-    go (accepts z (idles w)) = refl
-    go (accepts z (serves w ws q)) = refl
+    go : {d : Decision} {o : Outcome} → Carried (tickRefusals s) s (Ticks s) d o
+        → (d ≡ Serve → gone ≡ getD (waiting s) 0 zeroRequest)
+        → (r ≡ tickReply (s .head) gone d)
+        × Holds (tickCounts (s .head) d (countsOf su (servedAfter gone d se) dr)) su (servedAfter gone d se) dr su₁ se₁ dr₁
+        → Answers o su se dr r su₁ se₁ dr₁
+    go (refuses n) f (q, h) = rw q (answers refl refl (rw counts h))
+    go (accepts z (idles w)) f (q, h) = rw q (idle-answers s (tick-ready s z) counts w h)
+    go (accepts z (serves w ws i)) f (q, h) =
+        let same-one : gone ≡ w = f refl ∙ rw i in
+        rw (q, same-one) (served-answers s (tick-ready s z) counts w ws i (rw same-one at h))

@@ -4,7 +4,7 @@ use mathlib.Core.Path.{_≡_, refl, sym, ap, _∙_}
 use mathlib.Core.Bool.{Bool, true, false, cond}
 use mathlib.Core.List.{List, [], _∷_, _++_}
 use native.Mathlib.Omega.{arith}
-use borrow.Author.Tests.{lt-ltb, le-ltb}
+use borrow.Author.Tests.{lt-ltb, le-ltb, ne-eqb}
 use lib.Dec.{ltb, eqb}
 use lib.ListN.{length, getD, take, drop, replicate, length-append, length-take, length-replicate, List·getD-append}
 use lib.Seq.{getD-take, take-append-seam, drop-append-seam}
@@ -24,7 +24,7 @@ use Rattle.decide.specs.declared.types.Decision.{Decision}
 use Rattle.decide.specs.declared.types.Decision.the-variants.{Drop, Serve}
 use Rattle.decide.specs.declared.types.Edit.{Edit}
 use Rattle.decide.specs.Decisions.{submitDecision, tickDecision}
-use Rattle.decide.specs.Replies.{edit, dropEdit, editOf}
+use Rattle.decide.specs.Replies.{edit, dropEdit, serveEdit, editOf}
 use Rattle.decide.proofs.Carried.{Carried, refuses, accepts, Submits, keeps, drops, submit-carried}
 use Rattle.decide.proofs.Carried.{Ticks, idles, serves, tick-carried}
 
@@ -305,14 +305,25 @@ module _ (s : State) (w : Request) (ws : List Request) (first : waiting s ≡ w 
   held-first : s .waitingTable ≡ holding (length (s .waitingTable)) (w ∷ ws)
   held-first = table-held s ready ∙ ap (holding (length (s .waitingTable))) first
 
-  served-table : exchanged 0 (s .head .waiting - 1) zeroRequest (s .waitingTable) ≡ holding (length (s .waitingTable)) ws
+  -- some wait
+  serves-first : serveEdit (length (s .waitingTable)) (s .head .waiting) ≡ edit 0 (s .head .waiting - 1)
+  serves-first =
+      rw (ne-eqb (s .head .waiting) 0 (λ z. absurd (omega (arith, z, ap length first, waiting-length s (ready .shape)))))
+
+  served-table :
+      let e = serveEdit (length (s .waitingTable)) (s .head .waiting) in
+      exchanged (e .out) (e .at) zeroRequest (s .waitingTable) ≡ holding (length (s .waitingTable)) ws
   served-table =
+      ap (λ (e : Edit). exchanged (e .out) (e .at) zeroRequest (s .waitingTable)) serves-first ∙
       ap (exchanged 0 (s .head .waiting - 1) zeroRequest) held-first
       ∙ ap (λ (k : ℕ). exchanged 0 k zeroRequest (holding (length (s .waitingTable)) (w ∷ ws))) last
       ∙ serve-held (length (s .waitingTable)) w ws room
 
-  served-taken : takenOut 0 (s .head .waiting - 1) zeroRequest (s .waitingTable) ≡ getD (waiting s) 0 zeroRequest
+  served-taken :
+      let e = serveEdit (length (s .waitingTable)) (s .head .waiting) in
+      takenOut (e .out) (e .at) zeroRequest (s .waitingTable) ≡ getD (waiting s) 0 zeroRequest
   served-taken =
+      ap (λ (e : Edit). takenOut (e .out) (e .at) zeroRequest (s .waitingTable)) serves-first ∙
       taken-in 0 (s .head .waiting - 1) zeroRequest (s .waitingTable) (omega (arith, room)) (omega (arith, room, last))
       ∙ ap (λ (l : List Request). getD l 0 zeroRequest) held-first
       ∙ ap (λ (l : List Request). getD l 0 zeroRequest) (sym first)

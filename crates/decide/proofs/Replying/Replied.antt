@@ -1,9 +1,10 @@
 -- What a submit, a report and a chart hand back is what the call answers, and the columns hold what it leaves. Assumes nothing.
-use Prim.Native.Nat.{ℕ, suc, _+_, _-_, _<_}
+use Prim.Native.Nat.{ℕ, suc, _<_}
 use mathlib.Core.Path.{_≡_, refl, sym, ap, _∙_}
-use mathlib.Core.Logic.{_≢_}
+use mathlib.Core.Bool.{Bool, true, false, cond}
 use mathlib.Core.List.{List}
 use native.Mathlib.Omega.{arith}
+use lib.Dec.{eqb}
 use lib.ListN.{length, getD}
 use Rattle.spec.specs.declared.types.Head.{Head}
 use Rattle.spec.specs.declared.types.Request.{Request}
@@ -15,7 +16,7 @@ use Rattle.spec.specs.Sound.{waitingOf}
 use Rattle.spec.specs.Refusals.{firstMatch, submitRefusals, reportRefusals, chartRefusals}
 use Rattle.spec.specs.Calls.{Outcome, oneMoreSubmitted, newRequest, countedIn, withNew, kept, droppedAt}
 use Rattle.spec.specs.Calls.{victimPlace, requestAt, submitOf}
-use Rattle.spec.specs.Calls.{reportAnswer, reportAccepted, reportOf, chartAccepted, chartOf}
+use Rattle.spec.specs.Calls.{reportAccepted, reportOf, chartAccepted, chartOf}
 use Rattle.spec.proofs.Laws.Clients.{length-change}
 use Rattle.spec.proofs.Laws.Every.{length-remove, all-at}
 use Rattle.spec.proofs.Laws.Order.{length-put}
@@ -24,16 +25,15 @@ use Rattle.spec.proofs.Laws.Accepted.{SubmitReady, submit-ready, report-ready, 
 use Rattle.spec.proofs.Calls.Victim.{victim-place}
 use Rattle.spec.proofs.Calls.Keeps.{tidy, tidy-put}
 use Rattle.columns.specs.Columns.{countsOf, Holds}
-use Rattle.columns.specs.Counted.{oneAdded}
+use Rattle.columns.specs.Counted.{oneAdded, waitingCount}
 use Rattle.columns.proofs.Fields.{first, third}
 use Rattle.decide.specs.declared.types.Decision.{Decision}
-use Rattle.decide.specs.declared.types.Decision.the-variants.{Refuse, Keep, Drop, Serve, Idle}
+use Rattle.decide.specs.declared.types.Decision.the-variants.{Drop}
 use Rattle.decide.specs.declared.types.Reply.{Reply}
 use Rattle.decide.specs.Decisions.{submitDecision}
-use Rattle.decide.specs.Replies.{raised, numberedHead, refusedWith, keptWith, droppedWith, Answers}
+use Rattle.decide.specs.Replies.{raised, numberedHead, refusedWith, keptWith, droppedWith, reportedWith, submitReply, submittedAfter, droppedAfter, reportReply, chartReply, Answers}
 use Rattle.decide.proofs.Carried.{Carried, refuses, accepts, Submits, keeps, drops, submit-carried}
-use Rattle.decide.proofs.Replying.Counted.{answers, holds-same, holds-counted}
-use Rattle.decide.proofs.States.{refused, goes-on}
+use Rattle.decide.proofs.Replying.Counted.{answers, holds-same, holds-counted, unless-answers}
 
 -- ---- a submit
 -- the head with the next number
@@ -96,90 +96,58 @@ module _ (client deadline : ℕ) (s : State) (ready : SubmitReady client deadlin
         (length-change oneMoreSubmitted client (s .clientTable) ∙ ap length counts) counted third _
         (all-at (Owned (s .head .clients)) all k zeroRequest h (tidy-put client deadline s ready .owned)))
 
--- what is handed back for each decision, and what becomes of the two columns; no submit decides on the last two
-abbrev pub submitReply : Head → Request → Decision → Reply
-submitReply head gone (Refuse number) = refusedWith head number
-submitReply head gone (Keep place) = keptWith head place
-submitReply head gone (Drop place victim) = droppedWith head gone
-submitReply head gone Serve = refusedWith head 0
-submitReply head gone Idle = refusedWith head 0
-
-abbrev pub submittedAfter : ℕ → Decision → List ℕ → List ℕ
-submittedAfter client (Refuse number) su = su
-submittedAfter client (Keep place) su = oneAdded client su
-submittedAfter client (Drop place victim) su = oneAdded client su
-submittedAfter client Serve su = su
-submittedAfter client Idle su = su
-
-abbrev pub droppedAfter : Request → Decision → List ℕ → List ℕ
-droppedAfter gone (Refuse number) dr = dr
-droppedAfter gone (Keep place) dr = dr
-droppedAfter gone (Drop place victim) dr = oneAdded (gone .client) dr
-droppedAfter gone Serve dr = dr
-droppedAfter gone Idle dr = dr
-
-pub submit-answers : (client deadline : ℕ) (s : State) {head : Head} {su se dr : List ℕ} {gone : Request}
-    {decision d : Decision}
-    → decision ≡ d → decision ≡ submitDecision client deadline s → s .head ≡ head → s .clientTable ≡ countsOf su se dr
+-- by the decision, where `gone` is the victim: what is handed back, and what becomes of the two columns
+pub submit-answers : (client deadline : ℕ) (s : State) {gone : Request} {decision : Decision} {r : Reply} {su se dr su₁ dr₁ : List ℕ}
+    → decision ≡ submitDecision client deadline s → s .clientTable ≡ countsOf su se dr
     → ((place victim : ℕ) → decision ≡ Drop place victim → gone ≡ requestAt victim client deadline s)
-    → Answers (submitOf client deadline s) su se dr (submitReply head gone d) (submittedAfter client d su) se
-    (droppedAfter gone d dr)
-submit-answers client deadline s {head} {su} {se} {dr} {gone} f e same counts g =
-    rw (sym f ∙ e) (go (submit-carried client deadline s) (λ p v h. g p v (e ∙ h)))
+    → (r ≡ submitReply (s .head) gone decision) × (su₁ ≡ submittedAfter client decision su) × (dr₁ ≡ droppedAfter gone decision dr)
+    → Answers (submitOf client deadline s) su se dr r su₁ se dr₁
+submit-answers client deadline s {gone} {su = su} {se} {dr} e counts g (a, b, c) =
+    rw (a, b, c, e) (go (submit-carried client deadline s) (λ p v h. g p v (e ∙ h)))
   where
     go : {d : Decision} {o : Outcome} → Carried (submitRefusals client deadline s) s (Submits client deadline s) d o
         → ((place victim : ℕ) → d ≡ Drop place victim → gone ≡ requestAt victim client deadline s)
-        → Answers o su se dr (submitReply head gone d) (submittedAfter client d su) se (droppedAfter gone d dr)
-    go (refuses n) h = answers refl (sym same) (holds-same counts)
-    go (accepts z keeps) h =
-        rw (← same) (kept-answers client deadline s (submit-ready client deadline s z) su se dr counts)
+        → Answers o su se dr (submitReply (s .head) gone d) (submittedAfter client d su) se (droppedAfter gone d dr)
+    go (refuses n) h = answers refl refl (holds-same counts)
+    go (accepts z keeps) h = kept-answers client deadline s (submit-ready client deadline s z) su se dr counts
     go (accepts z drops) h =
         let r = submit-ready client deadline s z in
-        rw (← same, h _ _ refl)
+        rw (h _ _ refl)
         (dropped-answers client deadline s r su se dr counts (victimPlace client deadline s)
         (victim-place client deadline s r .0))
 
 -- ---- a report and a chart
-abbrev refusedOutcome : State → ℕ → Outcome
-refusedOutcome s number = record { answer = Refused number; after = s }
+-- the counts of a client balance, so that what is neither served nor dropped waits
+pub report-answers : (client : ℕ) (s : State) {refusal : ℕ} {r : Reply} {su se dr : List ℕ}
+    → refusal ≡ firstMatch (reportRefusals client s) → s .clientTable ≡ countsOf su se dr
+    → r ≡ reportReply refusal (s .head) client (getD (countsOf su se dr) client zeroCounts)
+    → Answers (reportOf client s) su se dr r su se dr
+unfolding reportOf reportAccepted
+report-answers client s {refusal} {su = su} {se} {dr} found counts e =
+    unless-answers (reportRefusals client s) s (reportAccepted client s) found
+    {accepted = reportedWith (s .head) client own} {cs = s .clientTable}
+    (λ z g. answers (rw (← balance z)) refl g) (rw counts e) (go (eqb refusal 0))
+  where
+    own : Counts
+    own = getD (s .clientTable) client zeroCounts
 
-module _
-    (client : ℕ) (s : State) {head : Head} {su se dr : List ℕ} {t : ℕ} (found : t ≡ firstMatch (reportRefusals client s))
-    (same : s .head ≡ head) (counts : s .clientTable ≡ countsOf su se dr) where
-  pub report-refused : t ≢ 0 → Answers (reportOf client s) su se dr (refusedWith head t) su se dr
-  unfolding reportOf
-  report-refused n =
-      rw (refused (reportAccepted client s) (refusedOutcome s) (reportRefusals client s) found n)
-      (answers refl (sym same) (holds-same counts))
+    balance : refusal ≡ 0 → waitingCount own ≡ waitingOf client (waiting s)
+    balance z =
+        let r = report-ready client s (sym found ∙ z) in
+        let b = r .ready .sound .balanced client (omega (arith, r .exists, r .ready .shape .clients)) in
+        omega (arith, b)
 
-  -- the counts of a client balance, so that what is neither served nor dropped waits
-  pub report-goes : t ≡ 0 → (k : Counts) (waits : ℕ) → k ≡ getD (countsOf su se dr) client zeroCounts
-      → waits ≡ k .submitted - (k .served + k .dropped)
-      → Answers (reportOf client s) su se dr (record { head = head; answer = reportAnswer client k waits }) su se dr
-  unfolding reportOf reportAccepted
-  report-goes z k waits e f =
-      rw (goes-on (reportAccepted client s) (refusedOutcome s) (reportRefusals client s) found z)
-      (answers (rw (← own, balance)) (sym same) (holds-same counts))
-    where
-      own : k ≡ getD (s .clientTable) client zeroCounts
-      own = e ∙ ap (λ (cs : List Counts). getD cs client zeroCounts) (sym counts)
+    go : (b : Bool) → Holds (cond b (s .clientTable) (s .clientTable)) su se dr su se dr
+    go true = holds-same counts
+    go false = holds-same counts
 
-      balance : waits ≡ waitingOf client (waiting s)
-      balance =
-          let r = report-ready client s (sym found ∙ z) in
-          let b = r .ready .sound .balanced client (omega (arith, r .exists, r .ready .shape .clients)) in
-          omega (arith, rw (← own) at b)
-
-module _
-    (output : List ℕ) (s : State) {head : Head} {t : ℕ} (found : t ≡ firstMatch (chartRefusals output s))
-    (same : s .head ≡ head) where
-  pub chart-refused : t ≢ 0 → {r : Reply} → r ≡ refusedWith head t
-      → (r .answer ≡ chartOf output s .answer) × (r .head ≡ chartOf output s .after .head)
-  unfolding chartOf
-  chart-refused n e = rw (refused (chartAccepted s) (refusedOutcome s) (chartRefusals output s) found n, e) (refl, sym same)
-
-  pub chart-goes : t ≡ 0 → (Charted (head .waiting) ≡ chartOf output s .answer) × (head ≡ chartOf output s .after .head)
-  unfolding chartOf chartAccepted
-  chart-goes z =
-      rw (goes-on (chartAccepted s) (refusedOutcome s) (chartRefusals output s) found z)
-      (ap (λ (h : Head). Charted (h .waiting)) (sym same), sym same)
+pub chart-answers : (output : List ℕ) (s : State) {refusal : ℕ} {r : Reply} → refusal ≡ firstMatch (chartRefusals output s)
+    → r ≡ chartReply refusal (s .head) → (r .answer ≡ chartOf output s .answer) × (r .head ≡ chartOf output s .after .head)
+unfolding chartOf chartAccepted
+chart-answers output s {refusal} found e = rw (← found, e) (go (eqb refusal 0))
+  where
+    go : (b : Bool) → let q = cond b (chartAccepted s) (record { answer = Refused refusal; after = s }) in
+        let r = cond b (record { head = s .head; answer = Charted (s .head .waiting) }) (refusedWith (s .head) refusal) in
+        (r .answer ≡ q .answer) × (r .head ≡ q .after .head)
+    go true = (refl, refl)
+    go false = (refl, refl)

@@ -1,4 +1,4 @@
--- `queue::accepted_decision` meets its contract: a walk of eight calls, of which three write what is known of the clients, in an
+-- `queue::accepted_decision` meets its contract: a walk of nine calls, of which three write what is known of the clients, in an
 -- array of its own, and one reads it.
 -- Assumes nothing.
 use denote.Plain.{nothing-lawful, nothing-tells}
@@ -6,7 +6,8 @@ use denote.Steps.{heard}
 use Rattle.walk.proofs.Prelude.{_≡_, refl, sym, _∙_, subst, ℕ, _+_, _<_, _≤_, _^_, List, [], _∷_, arith, length, replicate, length-replicate, lit<, URA, w16, w64, tyArray, vint, vunit, SProp, froom, Memory, Routine, Heap, Tables, Atoms, Fun, givenOf, Given, ‵, _$_, ! }
 use Rattle.walk.proofs.Prelude.{use1, agg, stop, from, addr, lit, of-opd, bin, and-then, no-more, FmC, fmOf, lone, uint-makes, uint-lawful, uint-copy, Nothing, u16, u32, u64, usize, Room, tripleOf}
 use Rattle.columns.specs.Columns.{stateOf, largest16}
-use Rattle.decide.proofs.Choosing.Shown.{waits, few, clock, clients, rises, found-all}
+use Rattle.decide.proofs.Choosing.Chosen.{choice-found}
+use Rattle.decide.proofs.Choosing.Shown.{waits, few, clock, clients, rises, placed-within, candidates-within, found-all}
 use Rattle.queue.proofs.Values.{DecisionT, decision-lawful, decision-makes}
 use Rattle.spec.specs.Refusals.{firstMatch, submitRefusals}
 use Rattle.spec.specs.Tables.{mostRecords}
@@ -21,6 +22,7 @@ use Rattle.walk.proofs.Locals.{var, vars, field-var, sets, empties, gets, gets-
 use Rattle.walk.proofs.At.{takes-out, puts-back, passed-on, calls-now, calls-at}
 use Rattle.search.proofs.records.due_by as due-by
 use Rattle.search.proofs.records.first_overfull as first-overfull
+use Rattle.search.proofs.records.candidates as candidates
 use Rattle.columns.proofs.rows.smaller as smaller
 use Rattle.search.proofs.records.mark as mark
 use Rattle.search.proofs.records.note as note
@@ -49,6 +51,7 @@ module _ {M : Type 1} (𝓤 : URA M) (H : Heap 𝓤) (A : Atoms 𝓤) (W : Given
     callees =
         (due-by.Symbol.name, tripleOf 𝓤 H A due-by.signature (due-by.spec 𝓤 H A mem run))
         ∷ (first-overfull.Symbol.name, tripleOf 𝓤 H A first-overfull.signature (first-overfull.spec 𝓤 H A mem run))
+        ∷ (candidates.Symbol.name, tripleOf 𝓤 H A candidates.signature (candidates.spec 𝓤 H A mem run))
         ∷ (smaller.Symbol.name, tripleOf 𝓤 H A smaller.signature (smaller.spec 𝓤 H A mem run))
         ∷ (mark.Symbol.name, tripleOf 𝓤 H A mark.signature (mark.spec 𝓤 H A mem run))
         ∷ (note.Symbol.name, tripleOf 𝓤 H A note.signature (note.spec 𝓤 H A mem run))
@@ -61,7 +64,7 @@ module _ {M : Type 1} (𝓤 : URA M) (H : Heap 𝓤) (A : Atoms 𝓤) (W : Given
   known-lent l known long = loan (array-lent W u16 256 l tt known (subst (Room u16) (sym long) (lit< tt, lit< tt)) long)
 
   walk : (𝓣 : Tables 𝓤 H) → Walk shape 𝓣
-  walk 𝓣 known-due-by known-first-overfull known-smaller known-mark known-note known-submit-choice κs qs waiting submitted served dropped head head-is client client-is deadline deadline-is g Q leaves bs =
+  walk 𝓣 known-due-by known-first-overfull known-candidates known-smaller known-mark known-note known-submit-choice κs qs waiting submitted served dropped head head-is client client-is deadline deadline-is g Q leaves bs =
       let fm : FmC 𝓤 H (W .laws) (𝓣 .C) = fmOf 𝓤 H (W .laws) 𝓣 in
       let ws : List Request = waiting .list in
       let su : List ℕ = submitted .list in
@@ -79,19 +82,25 @@ module _ {M : Type 1} (𝓤 : URA M) (H : Heap 𝓤) (A : Atoms 𝓤) (W : Given
       let ps₁ : List (Param 𝓤 H A) = passed-on W waiting ∷ number W n n-fits ∷ number W deadline (deadline-is .1) ∷ [] in
       calls-at ! fm (1 ∷ []) ps₁ _ (so 𝓤 within) usize _ (λ c. known-due-by (bound W ps₁ c)) refl (λ c. vars ! (refl, (refl, (refl, tt)))) (λ w₁ place last₁ placed kept₁.
       gets-number ! w64 w₁ place refl refl (λ place-fits.
+      let place-within : place ≤ n = placed-within head ws su se dr client deadline accepted deadline place placed in
       -- let found = records::first_overfull(head, waiting, n, place, deadline);
       let ps₂ : List (Param 𝓤 H A) = the-head W head head-is ∷ passed-on W waiting ∷ number W n n-fits ∷ number W place place-fits ∷ number W deadline (deadline-is .1) ∷ [] in
-      calls-at ! fm (1 ∷ []) ps₂ _ (so 𝓤 (within, small, placed .0, clock head ws su se dr client deadline accepted)) u64 _ (λ c. known-first-overfull (bound W ps₂ c)) refl (λ c. vars ! (refl, (refl, (refl, (refl, (refl, tt)))))) (λ w₂ found last₂ searched kept₂.
+      calls-at ! fm (1 ∷ []) ps₂ _ (so 𝓤 (within, small, place-within, clock head ws su se dr client deadline accepted)) u64 _ (λ c. known-first-overfull (bound W ps₂ c)) refl (λ c. vars ! (refl, (refl, (refl, (refl, (refl, tt)))))) (λ w₂ found last₂ searched kept₂.
       gets-number ! w64 w₂ found refl refl (λ found-fits.
-      -- let last = records::due_by(waiting, n, found);
+      -- let due = records::due_by(waiting, n, found);
       let ps₃ : List (Param 𝓤 H A) = passed-on W waiting ∷ number W n n-fits ∷ number W found found-fits ∷ [] in
-      calls-at ! fm (1 ∷ []) ps₃ _ (so 𝓤 within) usize _ (λ c. known-due-by (bound W ps₃ c)) refl (λ c. vars ! (refl, (refl, (refl, tt)))) (λ w₃ end last₃ ended kept₃.
-      gets-number ! w64 w₃ end refl refl (λ end-fits.
+      calls-at ! fm (1 ∷ []) ps₃ _ (so 𝓤 within) usize _ (λ c. known-due-by (bound W ps₃ c)) refl (λ c. vars ! (refl, (refl, (refl, tt)))) (λ w₃ due last₃ ended kept₃.
+      gets-number ! w64 w₃ due refl refl (λ due-fits.
+      -- let last = records::candidates(n, due, found);
+      let ps : List (Param 𝓤 H A) = number W n n-fits ∷ number W due due-fits ∷ number W found found-fits ∷ [] in
+      calls-now ! fm [] ps usize _ (λ c. known-candidates (bound W ps c)) refl (λ c. vars ! (refl, (refl, (refl, tt)))) (λ w end last chosen kept.
+      gets-number ! w64 w end refl refl (λ end-fits.
+      let end-within : end ≤ n = candidates-within head ws su se dr client deadline accepted found due end chosen in
       -- let before = rows::smaller(place, last);
       let ps₄ : List (Param 𝓤 H A) = number W place place-fits ∷ number W end end-fits ∷ [] in
       calls-now ! fm [] ps₄ usize _ (λ c. known-smaller (bound W ps₄ c)) refl (λ c. vars ! (refl, (refl, tt))) (λ w₄ before last₄ fewer kept₄.
       gets-number ! w64 w₄ before refl refl (λ before-fits.
-      let spare : (before ≤ length ws) × (before + 1 ≤ largest16) = (omega (arith, fewer, placed .0, within), omega (arith, fewer, fits place n (placed .0) small .0)) in
+      let spare : (before ≤ length ws) × (before + 1 ≤ largest16) = (omega (arith, fewer, place-within, within), omega (arith, fewer, fits place n (place-within) small .0)) in
       sets ! (addr ! (from ! (stop !))) refl (tt, tt) $
       sets ! (agg ! (and-then ! (var ! refl) (and-then ! (lit ! tt) (no-more !)))) refl (tt, (tt, (record { fits = lit< tt }, tt))) $
       -- records::mark(waiting, &mut latest, 0, before, 1);
@@ -103,19 +112,19 @@ module _ {M : Type 1} (𝓤 : URA M) (H : Heap 𝓤) (A : Atoms 𝓤) (W : Given
       let long₁ : length known₁ ≡ 256 = kept₅ .1 .0 ∙ zeros-long in
       sets ! (addr ! (from ! (stop !))) refl (tt, tt) $
       sets ! (agg ! (and-then ! (var ! refl) (and-then ! (lit ! tt) (no-more !)))) refl (tt, (tt, (record { fits = lit< tt }, tt))) $
-      let next-fits : place + 1 < 2 ^ 64 = fits place n (placed .0) small .1 in
-      sets ! (bin ! (var ! refl) (lit ! tt) (record { fits = next-fits })) refl (tt, record { fits = next-fits }) $ empties ! 14 refl $
+      let next-fits : place + 1 < 2 ^ 64 = fits place n (place-within) small .1 in
+      sets ! (bin ! (var ! refl) (lit ! tt) (record { fits = next-fits })) refl (tt, record { fits = next-fits }) $ empties ! 15 refl $
       -- records::note(&mut latest, client, place + 1);
       let ps₆ : List (Param 𝓤 H A) = known-lent l₈ known₁ long₁ ∷ number W client (client-is .1) ∷ number W (place + 1) next-fits ∷ [] in
-      calls-at ! fm (0 ∷ []) ps₆ _ (so 𝓤 (long₁, omega (arith, fits place n (placed .0) small .0))) Nothing _ (λ c. known-note (bound W ps₆ c)) refl (λ c. vars ! (refl, (refl, (refl, tt)))) (λ w₆ u₆ last₆ marked₂ kept₆.
+      calls-at ! fm (0 ∷ []) ps₆ _ (so 𝓤 (long₁, omega (arith, fits place n (place-within) small .0))) Nothing _ (λ c. known-note (bound W ps₆ c)) refl (λ c. vars ! (refl, (refl, (refl, tt)))) (λ w₆ u₆ last₆ marked₂ kept₆.
       gets-told ! Nothing (nothing-lawful 𝓤 H A W) (λ _. vunit) nothing-tells w₆ u₆ refl refl (λ _.
       let known₂ : List ℕ = last₆ .0 in
       let long₂ : length known₂ ≡ 256 = kept₆ .0 ∙ long₁ in
       sets ! (addr ! (from ! (stop !))) refl (tt, tt) $
-      sets ! (agg ! (and-then ! (var ! refl) (and-then ! (lit ! tt) (no-more !)))) refl (tt, (tt, (record { fits = lit< tt }, tt))) $ empties ! 14 refl $
+      sets ! (agg ! (and-then ! (var ! refl) (and-then ! (lit ! tt) (no-more !)))) refl (tt, (tt, (record { fits = lit< tt }, tt))) $ empties ! 15 refl $
       -- records::mark(waiting, &mut latest, place, last, 2);
       let ps₇ : List (Param 𝓤 H A) = passed-on W waiting ∷ known-lent l₈ known₂ long₂ ∷ number W place place-fits ∷ number W end end-fits ∷ number W 2 (lit< tt) ∷ [] in
-      calls-at ! fm (1 ∷ 0 ∷ []) ps₇ _ (so 𝓤 (omega (arith, ended .0, within), long₂, fits end n (ended .0) small .0)) Nothing _ (λ c. known-mark (bound W ps₇ c)) refl
+      calls-at ! fm (1 ∷ 0 ∷ []) ps₇ _ (so 𝓤 (omega (arith, end-within, within), long₂, fits end n (end-within) small .0)) Nothing _ (λ c. known-mark (bound W ps₇ c)) refl
       (λ c. and-then ! (var ! refl) (and-then ! (var ! refl) (and-then ! (var ! refl) (and-then ! (var ! refl) (and-then ! (lit ! tt) (no-more !)))))) (λ w₇ u₇ last₇ marked₃ kept₇.
       gets-told ! Nothing (nothing-lawful 𝓤 H A W) (λ _. vunit) nothing-tells w₇ u₇ refl refl (λ _.
       let known₃ : List ℕ = last₇ .1 .0 in
@@ -129,7 +138,7 @@ module _ {M : Type 1} (𝓤 : URA M) (H : Heap 𝓤) (A : Atoms 𝓤) (W : Given
       gets ! DecisionT (decision-lawful 𝓤 H A W) w₈ r refl refl (λ r-is.
       use1 W (‵ (froom (tyArray (lone (u16 .mir)) 256) l₈ 0)) (array-room W u16 256 l₈ known₃) $ puts-back ! 8 $ gives ! refl refl $
       leaves w₈ r tt tt (decision-makes 𝓤 H A W r (w₈ ∷ []) r-is)
-      (so 𝓤 (told deadline (stateOf head ws su se dr) (found-all head ws su se dr client deadline accepted place found end before placed searched ended fewer known₁ known₂ known₃ marked₁ marked₂ marked₃)))))))))))))))))))))
+      (so 𝓤 (told ∙ choice-found (found-all head ws su se dr client deadline accepted place found due end before placed searched ended chosen fewer known₁ known₂ known₃ marked₁ marked₂ marked₃)))))))))))))))))))))))
 
 pub accepted-decision-spec : {M : Type 1} → f.Statement.statement M
 unfolding f.Code.routine
@@ -140,12 +149,15 @@ accepted-decision-spec 𝓤 H 𝓜 𝓖 𝓡 =
       (
         (first-overfull.Symbol.routine, f.Code.calls-search·records·first-overfull, first-overfull.Met.met 𝓤 H 𝓜 𝓖 𝓡),
         (
-          (smaller.Symbol.routine, f.Code.calls-columns·rows·smaller, smaller.Met.met 𝓤 H 𝓜 𝓖 𝓡),
+          (candidates.Symbol.routine, f.Code.calls-search·records·candidates, candidates.Met.met 𝓤 H 𝓜 𝓖 𝓡),
           (
-            (mark.Symbol.routine, f.Code.calls-search·records·mark, mark.Met.met 𝓤 H 𝓜 𝓖 𝓡),
+            (smaller.Symbol.routine, f.Code.calls-columns·rows·smaller, smaller.Met.met 𝓤 H 𝓜 𝓖 𝓡),
             (
-              (note.Symbol.routine, f.Code.calls-search·records·note, note.Met.met 𝓤 H 𝓜 𝓖 𝓡),
-              ((submit-choice.Symbol.routine, f.Code.calls-decide·calls·submit-choice, submit-choice.Met.met 𝓤 H 𝓜 𝓖 𝓡), tt),
+              (mark.Symbol.routine, f.Code.calls-search·records·mark, mark.Met.met 𝓤 H 𝓜 𝓖 𝓡),
+              (
+                (note.Symbol.routine, f.Code.calls-search·records·note, note.Met.met 𝓤 H 𝓜 𝓖 𝓡),
+                ((submit-choice.Symbol.routine, f.Code.calls-decide·calls·submit-choice, submit-choice.Met.met 𝓤 H 𝓜 𝓖 𝓡), tt),
+              ),
             ),
           ),
         ),

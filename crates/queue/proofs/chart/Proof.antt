@@ -5,12 +5,12 @@ use types.Kit.{drop}
 use Rattle.walk.proofs.Prelude.{ℕ, _≤_, _≡_, refl, sym, _∙_, subst, cond, List, [], _∷_, _++_, eqb, length, take, URA, w64, SProp, Memory, Routine, Heap, Tables, Atoms, Fun, fact, givenOf, tables, Given, _$_, !, of-opd, and-then, no-more, first, FmC, fmOf}
 use Rattle.walk.proofs.Prelude.{Nothing, u32, u64, usize, tripleOf, vunit}
 use Rattle.spec.specs.declared.types.Request.{Request}
-use Rattle.spec.specs.Tables.{State, waiting, deadlinesOf}
-use Rattle.spec.specs.Refusals.{firstMatch, chartRefusals}
-use Rattle.spec.specs.Calls.{chartOf}
+use Rattle.spec.specs.Tables.{deadlinesOf}
 use Rattle.columns.specs.Columns.{stateOf}
 use Rattle.columns.specs.Charted.{startSlots}
 use Rattle.sound.specs.Checks.{tablesRefusal}
+use Rattle.decide.specs.Matches.{chartMatch}
+use Rattle.decide.specs.Replies.{chartReply}
 use Rattle.table.proofs.Rows.{R}
 use Rattle.table.proofs.Heads.{the-head, waiting-fits, a-head}
 use Rattle.walk.proofs.Slices.Loans.{Param, number, bound}
@@ -65,7 +65,7 @@ module _ {M : Type 1} (𝓤 : URA M) (H : Heap 𝓤) (A : Atoms 𝓤) (W : Given
       sets ! (of-opd ! (field-var ! refl refl refl)) refl (tt, record { fits = s₄ .room .0 }) $
       -- let refusal = refusals::chart_refusal(tables, head, output.len());
       let ps₂ : List (Param 𝓤 H A) = number W tables tables-fits ∷ the-head W head head-is ∷ number W (length output) (s₄ .room .0) ∷ [] in
-      calls-now ! fm [] ps₂ u64 (λ r last. ((t : State) (out : List ℕ) → tables ≡ tablesRefusal t → t .head ≡ head → length out ≡ (length output) → r ≡ firstMatch (chartRefusals out t)))
+      calls-now ! fm [] ps₂ u64 (λ r last. r ≡ chartMatch tables head (length output))
       (λ c. known-chart-refusal (bound W ps₂ c)) refl (λ c. vars ! (refl, (refl, (refl, tt)))) (λ w₂ refusal last₂ refuses kept₂.
       gets-number ! w64 w₂ refusal refl refl (λ refusal-fits.
       -- let n = edits::unless_refused(refusal, head.waiting);
@@ -89,7 +89,7 @@ module _ {M : Type 1} (𝓤 : URA M) (H : Heap 𝓤) (A : Atoms 𝓤) (W : Given
       let out₂ : List ℕ = last₅ .0 in
       -- replies::chart_reply(head, refusal)
       let ps₆ : List (Param 𝓤 H A) = the-head W head head-is ∷ number W refusal refusal-fits ∷ [] in
-      calls-now ! fm [] ps₆ ReplyT (λ r last. ((out : List ℕ) (t : State) → refusal ≡ firstMatch (chartRefusals out t) → t .head ≡ head → (r .answer ≡ chartOf out t .answer) × (r .head ≡ chartOf out t .after .head)))
+      calls-now ! fm [] ps₆ ReplyT (λ r last. r ≡ chartReply refusal head)
       (λ c. known-chart-reply (bound W ps₆ c)) refl (λ c. vars ! (refl, (refl, tt))) (λ w₆ r last₆ told kept₆.
       gets ! ReplyT (reply-lawful 𝓤 H A W) w₆ r refl refl (λ r-is.
       gives ! refl refl $ leaves w₆ r (last₅ .0, tt) ((kept₅ .0) ∙ (kept₄ .1 .0), tt) (reply-makes 𝓤 H A W r (w₆ ∷ []) r-is) (so 𝓤 (chart-gives head ws su se dr output tables refusal n found refuses copied r told, output-charted head ws su se dr output tables refusal n found refuses copied out₁ out₂ first second))))))))))))))

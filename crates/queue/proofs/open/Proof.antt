@@ -4,11 +4,10 @@ use lib.ListN.{drop as drop-list}
 use types.Kit.{drop}
 use Rattle.walk.proofs.Prelude.{ℕ, _≤_, min, _≡_, refl, cond, List, [], _∷_, _++_, eqb, length, replicate, URA, w64, SProp, Memory, Routine, Heap, Tables, Atoms, Fun, fact, givenOf, Given, _$_, !, of-opd, FmC, fmOf, Nothing, u32, u64, usize, tripleOf, vunit}
 use Rattle.spec.specs.declared.types.Request.{Request}
-use Rattle.spec.specs.Tables.{zeroRequest, State}
-use Rattle.spec.specs.Refusals.{firstMatch, openRefusals}
-use Rattle.spec.specs.Calls.{openOf}
-use Rattle.columns.specs.Columns.{countsOf}
-use Rattle.decide.specs.Replies.{Answers}
+use Rattle.spec.specs.Tables.{zeroRequest}
+use Rattle.columns.specs.Columns.{countsOf, Holds}
+use Rattle.decide.specs.Matches.{openMatch}
+use Rattle.decide.specs.Replies.{openReply, openCounts}
 use Rattle.table.proofs.Rows.{R}
 use Rattle.table.proofs.Heads.{the-head, a-head}
 use Rattle.walk.proofs.Slices.Loans.{Param, number, bound}
@@ -63,7 +62,7 @@ module _ {M : Type 1} (𝓤 : URA M) (H : Heap 𝓤) (A : Atoms 𝓤) (W : Given
       resets ! (of-opd ! (field-var ! refl refl refl)) refl (tt, record { fits = s₀ .room .0 }) $
       -- let refusal = refusals::open_refusal(clients, period, waiting.len(), accounts);
       let ps₂ : List (Param 𝓤 H A) = number W clients (clients-is .1) ∷ number W period (period-is .1) ∷ number W (length ws) (s₀ .room .0) ∷ number W accounts accounts-fits ∷ [] in
-      calls-now ! fm [] ps₂ u64 (λ r last. ((t : State) → length (t .waitingTable) ≡ (length ws) → length (t .clientTable) ≡ accounts → r ≡ firstMatch (openRefusals clients period t)))
+      calls-now ! fm [] ps₂ u64 (λ r last. r ≡ openMatch clients period (length ws) accounts)
       (λ c. known-open-refusal (bound W ps₂ c)) refl (λ c. vars ! (refl, (refl, (refl, (refl, tt))))) (λ w₂ refusal last₂ refuses kept₂.
       gets-number ! w64 w₂ refusal refl refl (λ refusal-fits.
       resets ! (of-opd ! (field-var ! refl refl refl)) refl (tt, record { fits = s₀ .room .0 }) $
@@ -85,7 +84,7 @@ module _ {M : Type 1} (𝓤 : URA M) (H : Heap 𝓤) (A : Atoms 𝓤) (W : Given
       relends ! (s₃ .room .0) refl refl refl $
       -- replies::open_reply(head, submitted, served, dropped, refusal, clients, period)
       let ps₅ : List (Param 𝓤 H A) = the-head W head head-is ∷ mut-of W s₁ su refl ∷ mut-of W s₂ se refl ∷ mut-of W s₃ dr refl ∷ number W refusal refusal-fits ∷ number W clients (clients-is .1) ∷ number W period (period-is .1) ∷ [] in
-      calls-now ! fm (1 ∷ 2 ∷ 3 ∷ []) ps₅ ReplyT (λ r last. ((t : State) → refusal ≡ firstMatch (openRefusals clients period t) → t .head ≡ head → t .clientTable ≡ countsOf su se dr → Answers (openOf clients period t) su se dr r (last .1 .0) (last .1 .1 .0) (last .1 .1 .1 .0)))
+      calls-now ! fm (1 ∷ 2 ∷ 3 ∷ []) ps₅ ReplyT (λ r last. (r ≡ openReply refusal head clients period) × Holds (openCounts refusal (countsOf su se dr)) su se dr (last .1 .0) (last .1 .1 .0) (last .1 .1 .1 .0))
       (λ c. known-open-reply (bound W ps₅ c)) refl (λ c. vars ! (refl, (refl, (refl, (refl, (refl, (refl, (refl, tt)))))))) (λ w₅ r last₅ told kept₅.
       gets ! ReplyT (reply-lawful 𝓤 H A W) w₅ r refl refl (λ r-is.
       let su₁ : List ℕ = last₅ .1 .0 in

@@ -1,14 +1,13 @@
 -- `queue::report` meets its contract: a walk of three calls.
 -- Assumes nothing.
 use types.Kit.{drop}
-use Rattle.walk.proofs.Prelude.{ℕ, _≡_, refl, List, [], _∷_, URA, w64, SProp, Memory, Routine, Heap, Tables, Atoms, Fun, Given, givenOf, _$_, !, FmC, fmOf, u32, u64, tripleOf}
+use Rattle.walk.proofs.Prelude.{ℕ, _≡_, refl, List, [], _∷_, getD, URA, w64, SProp, Memory, Routine, Heap, Tables, Atoms, Fun, Given, givenOf, _$_, !, FmC, fmOf, u32, u64, tripleOf}
 use Rattle.spec.specs.declared.types.Request.{Request}
-use Rattle.spec.specs.Tables.{State}
-use Rattle.spec.specs.Refusals.{firstMatch, reportRefusals}
-use Rattle.spec.specs.Calls.{reportOf}
+use Rattle.spec.specs.Tables.{zeroCounts}
 use Rattle.columns.specs.Columns.{countsOf, stateOf}
 use Rattle.sound.specs.Checks.{tablesRefusal}
-use Rattle.decide.specs.Replies.{Answers}
+use Rattle.decide.specs.Matches.{reportMatch}
+use Rattle.decide.specs.Replies.{reportReply}
 use Rattle.table.proofs.Rows.{R}
 use Rattle.table.proofs.Heads.{a-head, the-head}
 use Rattle.walk.proofs.Slices.Loans.{Param, number, bound}
@@ -52,11 +51,11 @@ module _ {M : Type 1} (𝓤 : URA M) (H : Heap 𝓤) (A : Atoms 𝓤) (W : Given
       gets-number ! w64 w₁ tables refl refl (λ tables-fits.
       -- let refusal = refusals::report_refusal(tables, head, client);
       let ps₂ : List (Param 𝓤 H A) = number W tables tables-fits ∷ the-head W head head-is ∷ number W client (client-is .1) ∷ [] in
-      calls-now ! fm [] ps₂ u64 (λ r last. ((t : State) → tables ≡ tablesRefusal t → t .head ≡ head → r ≡ firstMatch (reportRefusals client t))) (λ c. known-report-refusal (bound W ps₂ c)) refl (λ c. vars ! (refl, (refl, (refl, tt)))) (λ w₂ refusal last₂ refuses kept₂.
+      calls-now ! fm [] ps₂ u64 (λ r last. r ≡ reportMatch tables head client) (λ c. known-report-refusal (bound W ps₂ c)) refl (λ c. vars ! (refl, (refl, (refl, tt)))) (λ w₂ refusal last₂ refuses kept₂.
       gets-number ! w64 w₂ refusal refl refl (λ refusal-fits.
       -- replies::report_reply(head, submitted, served, dropped, refusal, client)
       let ps₃ : List (Param 𝓤 H A) = the-head W head head-is ∷ passed-on W submitted ∷ passed-on W served ∷ passed-on W dropped ∷ number W refusal refusal-fits ∷ number W client (client-is .1) ∷ [] in
-      calls-now ! fm (1 ∷ 2 ∷ 3 ∷ []) ps₃ ReplyT (λ r last. ((t : State) → refusal ≡ firstMatch (reportRefusals client t) → t .head ≡ head → t .clientTable ≡ countsOf su se dr → Answers (reportOf client t) su se dr r su se dr)) (λ c. known-report-reply (bound W ps₃ c)) refl (λ c. vars ! (refl, (refl, (refl, (refl, (refl, (refl, tt))))))) (λ w₃ r last₃ told kept₃.
+      calls-now ! fm (1 ∷ 2 ∷ 3 ∷ []) ps₃ ReplyT (λ r last. r ≡ reportReply refusal head client (getD (countsOf su se dr) client zeroCounts)) (λ c. known-report-reply (bound W ps₃ c)) refl (λ c. vars ! (refl, (refl, (refl, (refl, (refl, (refl, tt))))))) (λ w₃ r last₃ told kept₃.
       gets ! ReplyT (reply-lawful 𝓤 H A W) w₃ r refl refl (λ r-is. gives ! refl refl $
       leaves w₃ r tt tt (reply-makes 𝓤 H A W r (w₃ ∷ []) r-is) (so 𝓤 (reported head ws su se dr client tables refusal r found refuses told))))))))
 

@@ -2,16 +2,13 @@
 -- Assumes nothing.
 use types.Kit.{drop}
 use Rattle.walk.proofs.Prelude.{ℕ, _≡_, refl, List, [], _∷_, length, URA, w64, SProp, Memory, Routine, Heap, Tables, Atoms, Fun, Given, givenOf, _$_, !, FmC, fmOf, u32, of-opd, and-then, tripleOf}
-use Rattle.columns.specs.Columns.{countsOf, stateOf}
+use Rattle.columns.specs.Columns.{stateOf}
 use Rattle.decide.specs.Decisions.{submitDecision}
-use Rattle.decide.specs.Replies.{editOf, numberedRequest, Answers}
-use Rattle.decide.specs.declared.types.Decision.the-variants.{Drop}
+use Rattle.decide.specs.Replies.{editOf, numberedRequest, submitReply, submittedAfter, droppedAfter}
 use Rattle.queue.proofs.Together.{submitted-gives}
 use Rattle.queue.proofs.Values.{DecisionT, decision-lawful, decision-makes, EditT, edit-val, edit-tells, edit-lawful, out-fits, at-fits, ReplyT, reply-lawful, reply-makes}
-use Rattle.spec.specs.Calls.{requestAt, submitOf}
-use Rattle.spec.specs.Tables.{State}
 use Rattle.spec.specs.declared.types.Request.{Request}
-use Rattle.table.proofs.Heads.{a-head, the-head, waiting-fits}
+use Rattle.table.proofs.Heads.{a-head, the-head}
 use Rattle.walk.proofs.Slices.Loans.{Param, value, number, bound}
 use Rattle.table.proofs.Rows.{R, mach, tells, lawful, request}
 use Rattle.walk.proofs.Enter.{lent, uint, so}
@@ -57,9 +54,9 @@ module _ {M : Type 1} (𝓤 : URA M) (H : Heap 𝓤) (A : Atoms 𝓤) (W : Given
       calls-now ! fm (0 ∷ 1 ∷ 2 ∷ 3 ∷ []) ps₁ DecisionT (λ r last. r ≡ submitDecision client deadline (stateOf head ws su se dr)) (λ c. known-submit-decision (bound W ps₁ c)) refl (λ c. vars ! (refl, (refl, (refl, (refl, (refl, (refl, (refl, tt)))))))) (λ w₁ decision last₁ decides kept₁.
       gets ! DecisionT (decision-lawful 𝓤 H A W) w₁ decision refl refl (λ decision-is.
       sets ! (of-opd ! (field-var ! refl refl refl)) refl (tt, record { fits = waiting .room .0 }) $
-      -- let edit = edits::edit_of(decision, head.waiting, waiting.len());
-      let ps₂ : List (Param 𝓤 H A) = value DecisionT decision (w₁ ∷ []) (decision-makes 𝓤 H A W decision (w₁ ∷ []) decision-is) ∷ number W (head .waiting) (waiting-fits head head-is) ∷ number W (length ws) (waiting .room .0) ∷ [] in
-      calls-now ! fm [] ps₂ EditT (λ r last. r ≡ editOf decision (head .waiting) (length ws)) (λ c. known-edit-of (bound W ps₂ c)) refl (λ c. and-then ! (var ! refl) (and-then ! (field-var ! refl refl refl) (vars ! (refl, tt)))) (λ w₂ edit last₂ edited kept₂.
+      -- let edit = edits::edit_of(decision, head, waiting.len());
+      let ps₂ : List (Param 𝓤 H A) = value DecisionT decision (w₁ ∷ []) (decision-makes 𝓤 H A W decision (w₁ ∷ []) decision-is) ∷ the-head W head head-is ∷ number W (length ws) (waiting .room .0) ∷ [] in
+      calls-now ! fm [] ps₂ EditT (λ r last. r ≡ editOf decision (head .waiting) (length ws)) (λ c. known-edit-of (bound W ps₂ c)) refl (λ c. vars ! (refl, (refl, (refl, tt)))) (λ w₂ edit last₂ edited kept₂.
       gets-told ! EditT (edit-lawful 𝓤 H A W) edit-val edit-tells w₂ edit refl refl (λ edit-is.
       -- let new = edits::new_request(head, client, deadline);
       let ps₃ : List (Param 𝓤 H A) = the-head W head head-is ∷ number W client (client-is .1) ∷ number W deadline (deadline-is .1) ∷ [] in
@@ -74,7 +71,7 @@ module _ {M : Type 1} (𝓤 : URA M) (H : Heap 𝓤) (A : Atoms 𝓤) (W : Given
       relends ! (submitted .room .0) refl refl refl $ relends ! (served .room .0) refl refl refl $ relends ! (dropped .room .0) refl refl refl $
       -- replies::submit_reply(head, submitted, served, dropped, decision, client, gone)
       let ps₅ : List (Param 𝓤 H A) = the-head W head head-is ∷ mut-of W submitted su refl ∷ shr-of W served se refl ∷ mut-of W dropped dr refl ∷ value DecisionT decision (w₁ ∷ []) (decision-makes 𝓤 H A W decision (w₁ ∷ []) decision-is) ∷ number W client (client-is .1) ∷ request W gone gone-is ∷ [] in
-      calls-now ! fm (1 ∷ 2 ∷ 3 ∷ []) ps₅ ReplyT (λ r last. ((deadline : ℕ) (t : State) → decision ≡ submitDecision client deadline t → t .head ≡ head → t .clientTable ≡ countsOf su se dr → ((place victim : ℕ) → decision ≡ Drop place victim → gone ≡ requestAt victim client deadline t) → Answers (submitOf client deadline t) su se dr r (last .1 .0) se (last .1 .1 .1 .0)))
+      calls-now ! fm (1 ∷ 2 ∷ 3 ∷ []) ps₅ ReplyT (λ r last. (r ≡ submitReply head gone decision) × (last .1 .0 ≡ submittedAfter client decision su) × (last .1 .1 .1 .0 ≡ droppedAfter gone decision dr))
       (λ c. known-submit-reply (bound W ps₅ c)) refl (λ c. vars ! (refl, (refl, (refl, (refl, (refl, (refl, (refl, tt)))))))) (λ w₅ r last₅ told kept₅.
       gets ! ReplyT (reply-lawful 𝓤 H A W) w₅ r refl refl (λ r-is. gives ! refl refl $
       leaves w₅ r (last₄ .0, (last₅ .1 .0, (se, (last₅ .1 .1 .1 .0, tt)))) (kept₄ .0, (kept₅ .0, (refl, (kept₅ .1 .1 .0, tt)))) (reply-makes 𝓤 H A W r (w₅ ∷ []) r-is)

@@ -2,15 +2,16 @@
 -- Assumes nothing.
 use types.Kit.{drop}
 use Rattle.walk.proofs.Prelude.{_≡_, refl, sym, _∙_, ℕ, List, [], _∷_, length, URA, w64, SProp, Memory, Routine, Heap, Tables, Atoms, Fun, fact, givenOf, tables, Given, _$_, !, lit, of-opd, bin, first, FmC, fmOf, u32, u64, tripleOf}
-use Rattle.columns.specs.Columns.{stateOf}
-use Rattle.decide.specs.Decisions.{Has, submitChoice}
+use Rattle.columns.specs.Columns.{countsOf, stateOf}
+use Rattle.decide.specs.Decisions.{submitChoice}
+use Rattle.decide.specs.Matches.{submitMatch}
 use Rattle.decide.specs.declared.types.Decision.the-variants.{Refuse}
+use Rattle.decide.proofs.Matching.{submit-told}
 use Rattle.decide.proofs.States.{submit-refused, submit-goes}
 use Rattle.queue.proofs.Values.{DecisionT, decision-lawful, decision-makes}
 use Rattle.sound.specs.Checks.{tablesRefusal}
 use Rattle.sound.proofs.Laws.{not-zero, is-zero}
 use Rattle.spec.specs.Refusals.{firstMatch, submitRefusals}
-use Rattle.spec.specs.Tables.{State}
 use Rattle.spec.specs.declared.types.Request.{Request}
 use Rattle.table.proofs.Heads.{the-head, a-head}
 use Rattle.walk.proofs.Slices.Loans.{Param, number, bound}
@@ -58,10 +59,10 @@ module _ {M : Type 1} (𝓤 : URA M) (H : Heap 𝓤) (A : Atoms 𝓤) (W : Given
       sets ! (of-opd ! (field-var ! refl refl refl)) refl (tt, record { fits = s₀ .room .0 }) $
       -- let refusal = refusals::submit_refusal(tables, head, waiting.len(), submitted, served, dropped, client, deadline);
       let ps₂ : List (Param 𝓤 H A) = number W tables tables-fits ∷ the-head W head head-is ∷ number W (length ws) (s₀ .room .0) ∷ passed-on W s₁ ∷ passed-on W s₂ ∷ passed-on W s₃ ∷ number W client (client-is .1) ∷ number W deadline (deadline-is .1) ∷ [] in
-      calls-now ! fm (1 ∷ 2 ∷ 3 ∷ []) ps₂ u64 (λ r last. ((t : State) → tables ≡ tablesRefusal t → Has head (length ws) su se dr t → r ≡ firstMatch (submitRefusals client deadline t)))
+      calls-now ! fm (1 ∷ 2 ∷ 3 ∷ []) ps₂ u64 (λ r last. r ≡ submitMatch tables head (length ws) (countsOf su se dr) client deadline)
       (λ c. known-submit-refusal (bound W ps₂ c)) refl (λ c. vars ! (refl, (refl, (refl, (refl, (refl, (refl, (refl, (refl, tt))))))))) (λ w₂ refusal last₂ refuses kept₂.
       gets-number ! w64 w₂ refusal refl refl (λ refusal-fits.
-      let asked : refusal ≡ firstMatch (submitRefusals client deadline (stateOf head ws su se dr)) = refuses (stateOf head ws su se dr) found-tables (record { head-same = refl; records-same = refl; counts-same = refl }) in
+      let asked : refusal ≡ firstMatch (submitRefusals client deadline (stateOf head ws su se dr)) = refuses ∙ submit-told (stateOf head ws su se dr) found-tables client deadline in
       sets ! (bin ! (var ! refl) (lit ! tt) tt) refl (tt, tt) $
       branches-then ! (var ! refl) (λ held.
       into-call ! $

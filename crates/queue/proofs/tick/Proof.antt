@@ -1,30 +1,30 @@
--- `queue::tick` meets its contract: a walk of six calls.
+-- `queue::tick` meets its contract: a walk of seven calls.
 -- Assumes nothing.
 use types.Kit.{drop}
-use Rattle.walk.proofs.Prelude.{ℕ, _≡_, refl, List, [], _∷_, length, getD, URA, w64, SProp, Memory, Routine, Heap, Tables, Atoms, Fun, givenOf, tables, Given, _$_, !, agg, lit, of-opd, and-then, no-more, FmC, fmOf, u32, u64, tripleOf}
+use Rattle.walk.proofs.Prelude.{ℕ, _≡_, refl, List, [], _∷_, length, URA, w64, SProp, emp, id⊢, Memory, Routine, Heap, Tables, Atoms, Fun, givenOf, tables, Given, _$_, !, of-opd, and-then, FmC, fmOf, u32, u64, tripleOf}
 use Rattle.spec.specs.declared.types.Request.{Request}
-use Rattle.spec.specs.Tables.{zeroRequest, State, waiting}
-use Rattle.spec.specs.Refusals.{firstMatch, tickRefusals}
-use Rattle.spec.specs.Calls.{tickOf}
-use Rattle.columns.specs.Columns.{countsOf, stateOf}
+use Rattle.spec.specs.Tables.{zeroRequest}
+use Rattle.columns.specs.Columns.{countsOf, stateOf, Holds}
 use Rattle.table.specs.Records.{exchanged, takenOut}
 use Rattle.sound.specs.Checks.{tablesRefusal}
-use Rattle.decide.specs.declared.types.Decision.the-variants.{Serve}
-use Rattle.decide.specs.Decisions.{tickDecision}
-use Rattle.decide.specs.Replies.{editOf, Answers}
-use Rattle.table.proofs.Rows.{R, request, mach, vals, tells, lawful, zero-is}
-use Rattle.table.proofs.Heads.{the-head, waiting-fits, a-head}
+use Rattle.decide.specs.Decisions.{tickBy}
+use Rattle.decide.specs.Matches.{tickMatch}
+use Rattle.decide.specs.Replies.{editOf, tickReply, servedAfter, tickCounts}
+use Rattle.table.proofs.Rows.{R, of-request, request, mach, tells, lawful}
+use Rattle.table.proofs.Heads.{the-head, a-head}
 use Rattle.walk.proofs.Slices.Loans.{Param, value, number, bound}
 use Rattle.queue.proofs.Values.{ReplyT, reply-lawful, reply-makes, EditT, edit-val, edit-tells, edit-lawful, out-fits, at-fits, DecisionT, decision-lawful, decision-makes}
 use Rattle.queue.proofs.Together.{ticked}
 use Rattle.walk.proofs.Enter.{lent, so}
 use Rattle.walk.proofs.Proves.{Shape, Walk, proves}
+use Rattle.walk.proofs.Results.{calls-giving}
 use Rattle.walk.proofs.Locals.{var, vars, field-var, sets, relends, gets, gets-told, gets-number, gives}
 use Rattle.walk.proofs.At.{mut-of, shr-of, calls-now}
 use Rattle.sound.proofs.check.tables_refusal as tables-refusal
 use Rattle.decide.proofs.refusals.tick_refusal as tick-refusal
 use Rattle.decide.proofs.calls.tick_decision as tick-decision
 use Rattle.decide.proofs.edits.edit_of as edit-of
+use Rattle.table.proofs.zero as zero
 use Rattle.table.proofs.exchange as exchange
 use Rattle.decide.proofs.replies.tick_reply as tick-reply
 use Rattle.queue.proofs.tick as f
@@ -42,13 +42,14 @@ module _ {M : Type 1} (𝓤 : URA M) (H : Heap 𝓤) (A : Atoms 𝓤) (W : Given
         ∷ (tick-refusal.Symbol.name, tripleOf 𝓤 H A tick-refusal.signature (tick-refusal.spec 𝓤 H A mem run))
         ∷ (tick-decision.Symbol.name, tripleOf 𝓤 H A tick-decision.signature (tick-decision.spec 𝓤 H A mem run))
         ∷ (edit-of.Symbol.name, tripleOf 𝓤 H A edit-of.signature (edit-of.spec 𝓤 H A mem run))
+        ∷ (zero.Symbol.name, tripleOf 𝓤 H A zero.signature (zero.spec 𝓤 H A mem run))
         ∷ (exchange.Symbol.name, tripleOf 𝓤 H A exchange.signature (exchange.spec 𝓤 H A mem run))
         ∷ (tick-reply.Symbol.name, tripleOf 𝓤 H A tick-reply.signature (tick-reply.spec 𝓤 H A mem run))
         ∷ [];
   }
 
   walk : (𝓣 : Tables 𝓤 H) → Walk shape 𝓣
-  walk 𝓣 known-tables-refusal known-tick-refusal known-tick-decision known-edit-of known-exchange known-tick-reply κs qs head head-is s₀ s₁ s₂ s₃ g Q leaves bs =
+  walk 𝓣 known-tables-refusal known-tick-refusal known-tick-decision known-edit-of known-zero known-exchange known-tick-reply κs qs head head-is s₀ s₁ s₂ s₃ g Q leaves bs =
       let fm : FmC 𝓤 H (W .laws) (𝓣 .C) = fmOf 𝓤 H (W .laws) 𝓣 in
       let ws : List Request = s₀ .list in
       let su : List ℕ = s₁ .list in
@@ -66,21 +67,22 @@ module _ {M : Type 1} (𝓤 : URA M) (H : Heap 𝓤) (A : Atoms 𝓤) (W : Given
       gets-number ! w64 w₁ tables refl refl (λ tables-fits.
       -- let refusal = refusals::tick_refusal(tables, head);
       let ps₂ : List (Param 𝓤 H A) = number W tables tables-fits ∷ the-head W head head-is ∷ [] in
-      calls-now ! fm [] ps₂ u64 (λ r last. ((t : State) → tables ≡ tablesRefusal t → t .head ≡ head → r ≡ firstMatch (tickRefusals t)))
+      calls-now ! fm [] ps₂ u64 (λ r last. r ≡ tickMatch tables head)
       (λ c. known-tick-refusal (bound W ps₂ c)) refl (λ c. vars ! (refl, (refl, tt))) (λ w₂ refusal last₂ refuses kept₂.
       gets-number ! w64 w₂ refusal refl refl (λ refusal-fits.
       -- let decision = calls::tick_decision(refusal, head);
       let ps₃ : List (Param 𝓤 H A) = number W refusal refusal-fits ∷ the-head W head head-is ∷ [] in
-      calls-now ! fm [] ps₃ DecisionT (λ r last. ((t : State) → refusal ≡ firstMatch (tickRefusals t) → t .head ≡ head → r ≡ tickDecision t))
+      calls-now ! fm [] ps₃ DecisionT (λ r last. r ≡ tickBy refusal (head .waiting))
       (λ c. known-tick-decision (bound W ps₃ c)) refl (λ c. vars ! (refl, (refl, tt))) (λ w₃ decision last₃ decides kept₃.
       gets ! DecisionT (decision-lawful 𝓤 H A W) w₃ decision refl refl (λ decision-is.
       sets ! (of-opd ! (field-var ! refl refl refl)) refl (tt, record { fits = s₀ .room .0 }) $
-      -- let edit = edits::edit_of(decision, head.waiting, waiting.len());
-      let ps₄ : List (Param 𝓤 H A) = value DecisionT decision (w₃ ∷ []) (decision-makes 𝓤 H A W decision (w₃ ∷ []) decision-is) ∷ number W (head .waiting) (waiting-fits head head-is) ∷ number W (length ws) (s₀ .room .0) ∷ [] in
+      -- let edit = edits::edit_of(decision, head, waiting.len());
+      let ps₄ : List (Param 𝓤 H A) = value DecisionT decision (w₃ ∷ []) (decision-makes 𝓤 H A W decision (w₃ ∷ []) decision-is) ∷ the-head W head head-is ∷ number W (length ws) (s₀ .room .0) ∷ [] in
       calls-now ! fm [] ps₄ EditT (λ r last. r ≡ editOf decision (head .waiting) (length ws))
-      (λ c. known-edit-of (bound W ps₄ c)) refl (λ c. and-then ! (var ! refl) (and-then ! (field-var ! refl refl refl) (vars ! (refl, tt)))) (λ w₄ edit last₄ edited kept₄.
+      (λ c. known-edit-of (bound W ps₄ c)) refl (λ c. vars ! (refl, (refl, (refl, tt)))) (λ w₄ edit last₄ edited kept₄.
       gets-told ! EditT (edit-lawful 𝓤 H A W) edit-val edit-tells w₄ edit refl refl (λ edit-is.
-      sets ! (agg ! (and-then ! (lit ! tt) (and-then ! (lit ! tt) (and-then ! (lit ! tt) (no-more !))))) refl (lawful 𝓤 H A W .typed zeroRequest (vals zeroRequest) zero-is .0) $
+      -- let zero = table::zero();
+      calls-giving ! 𝓣 [] [] (emp 𝓤) (id⊢ 𝓤 (emp 𝓤)) (of-request W) zeroRequest (λ c. known-zero (bound W [] c)) refl (λ c. vars ! tt) (λ ws. refl) (λ _ zero-is.
       relends ! (s₀ .room .0) refl refl refl $
       -- let gone = table::exchange(waiting, edit.out, edit.at, zero);
       let ps₅ : List (Param 𝓤 H A) = mut-of W s₀ ws refl ∷ number W (edit .out) (out-fits edit edit-is) ∷ number W (edit .at) (at-fits edit edit-is) ∷ request W zeroRequest zero-is ∷ [] in
@@ -93,13 +95,13 @@ module _ {M : Type 1} (𝓤 : URA M) (H : Heap 𝓤) (A : Atoms 𝓤) (W : Given
       relends ! (s₃ .room .0) refl refl refl $
       -- replies::tick_reply(head, submitted, served, dropped, decision, gone)
       let ps₆ : List (Param 𝓤 H A) = the-head W head head-is ∷ mut-of W s₁ su refl ∷ mut-of W s₂ se refl ∷ mut-of W s₃ dr refl ∷ value DecisionT decision (w₃ ∷ []) (decision-makes 𝓤 H A W decision (w₃ ∷ []) decision-is) ∷ request W gone gone-is ∷ [] in
-      calls-now ! fm (1 ∷ 2 ∷ 3 ∷ []) ps₆ ReplyT (λ r last. ((t : State) → decision ≡ tickDecision t → t .head ≡ head → t .clientTable ≡ countsOf su se dr → (decision ≡ Serve → gone ≡ getD (waiting t) 0 zeroRequest) → Answers (tickOf t) su se dr r (last .1 .0) (last .1 .1 .0) (last .1 .1 .1 .0)))
+      calls-now ! fm (1 ∷ 2 ∷ 3 ∷ []) ps₆ ReplyT (λ r last. (r ≡ tickReply head gone decision) × Holds (tickCounts head decision (countsOf su (servedAfter gone decision se) dr)) su (servedAfter gone decision se) dr (last .1 .0) (last .1 .1 .0) (last .1 .1 .1 .0))
       (λ c. known-tick-reply (bound W ps₆ c)) refl (λ c. vars ! (refl, (refl, (refl, (refl, (refl, (refl, tt))))))) (λ w₆ r last₆ told kept₆.
       gets ! ReplyT (reply-lawful 𝓤 H A W) w₆ r refl refl (λ r-is.
       let su₁ : List ℕ = last₆ .1 .0 in
       let se₁ : List ℕ = last₆ .1 .1 .0 in
       let dr₁ : List ℕ = last₆ .1 .1 .1 .0 in
-      gives ! refl refl $ leaves w₆ r (last₅ .0, (last₆ .1 .0, (last₆ .1 .1 .0, (last₆ .1 .1 .1 .0, tt)))) (kept₅ .0, (kept₆ .0, (kept₆ .1 .0, (kept₆ .1 .1 .0, tt)))) (reply-makes 𝓤 H A W r (w₆ ∷ []) r-is) (so 𝓤 (ticked head ws su se dr tables refusal decision edit gone ws₁ r su₁ se₁ dr₁ found refuses decides edited moved told))))))))))))))
+      gives ! refl refl $ leaves w₆ r (last₅ .0, (last₆ .1 .0, (last₆ .1 .1 .0, (last₆ .1 .1 .1 .0, tt)))) (kept₅ .0, (kept₆ .0, (kept₆ .1 .0, (kept₆ .1 .1 .0, tt)))) (reply-makes 𝓤 H A W r (w₆ ∷ []) r-is) (so 𝓤 (ticked head ws su se dr tables refusal decision edit gone ws₁ r su₁ se₁ dr₁ found refuses decides edited moved told)))))))))))))))
 
 pub tick-spec : {M : Type 1} → f.Statement.statement M
 unfolding f.Code.routine
@@ -114,8 +116,11 @@ tick-spec 𝓤 H 𝓜 𝓖 𝓡 =
           (
             (edit-of.Symbol.routine, f.Code.calls-decide·edits·edit-of, edit-of.Met.met 𝓤 H 𝓜 𝓖 𝓡),
             (
-              (exchange.Symbol.routine, f.Code.calls-table·exchange, exchange.Met.met 𝓤 H 𝓜 𝓖 𝓡),
-              ((tick-reply.Symbol.routine, f.Code.calls-decide·replies·tick-reply, tick-reply.Met.met 𝓤 H 𝓜 𝓖 𝓡), tt),
+              (zero.Symbol.routine, f.Code.calls-table·zero, zero.Met.met 𝓤 H 𝓜 𝓖 𝓡),
+              (
+                (exchange.Symbol.routine, f.Code.calls-table·exchange, exchange.Met.met 𝓤 H 𝓜 𝓖 𝓡),
+                ((tick-reply.Symbol.routine, f.Code.calls-decide·replies·tick-reply, tick-reply.Met.met 𝓤 H 𝓜 𝓖 𝓡), tt),
+              ),
             ),
           ),
         ),

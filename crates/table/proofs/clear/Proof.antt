@@ -1,21 +1,22 @@
 -- `table::clear` meets its contract: a walk with a loop that calls `put`. The list is the table with its first i records
 -- replaced by zero ones (`Laws.antt`'s `filled`).
 -- Assumes nothing.
-use Rattle.walk.proofs.Prelude.{_≡_, refl, sym, _∙_, subst, ℕ, _+_, _-_, _<_, _≤_, _^_, zero-le, le-antisymm, lt-of-le-of-lt, lt-of-lt-of-le, add-one-le, add-one-dec, List, [], _∷_, length, replicate, length-replicate, getD-replicate, ltb→lt, nltb→le, lit<, URA, w64, vunit, vint, SProp, Memory, Routine, Heap, Tables, Atoms, Fun, Given, ‵, _$_, !, rewrite, agg, lit, unit-lit, of-opd, bin, and-then, no-more, Nothing, tripleOf}
+use Rattle.walk.proofs.Prelude.{_≡_, refl, sym, _∙_, subst, ℕ, _+_, _-_, _<_, _≤_, _^_, zero-le, le-antisymm, lt-of-le-of-lt, lt-of-lt-of-le, add-one-le, add-one-dec, List, [], _∷_, length, replicate, length-replicate, getD-replicate, ltb→lt, nltb→le, lit<, URA, w64, vunit, vint, SProp, emp, id⊢, Memory, Routine, Heap, Tables, Atoms, Fun, Given, ‵, _$_, !, rewrite, lit, unit-lit, of-opd, bin, Nothing, tripleOf}
 use denote.Steps.{heard}
 use Rattle.walk.proofs.Enter.{lent, uint, so}
 use Rattle.walk.proofs.Proves.{Shape, Walk, proved}
 use Rattle.walk.proofs.Inside.{Lent-at}
 use Rattle.walk.proofs.Locals.{var, vars, sets, resets-last, relends, gives}
 use Rattle.walk.proofs.Loops.{iterates}
-use Rattle.walk.proofs.Results.{fit, of-nothing, calls-for}
+use Rattle.walk.proofs.Results.{fit, of-nothing, calls-for, calls-giving}
 use Rattle.walk.proofs.Slices.Loans.{Param, number, bound}
 use Rattle.walk.proofs.At.{mut-of}
 use Rattle.walk.proofs.Steps.{tests, Upto}
 use Rattle.spec.specs.declared.types.Request.{Request}
 use Rattle.spec.specs.Tables.{zeroRequest}
-use Rattle.table.proofs.Rows.{R, lawful, zero-is, request}
+use Rattle.table.proofs.Rows.{R, of-request, request}
 use Rattle.table.proofs.Laws.{filled, fills, length-filled, filled-all}
+use Rattle.table.proofs.zero as zero
 use Rattle.table.proofs.put as put
 use Rattle.table.proofs.clear as f
 
@@ -27,16 +28,19 @@ module _ {M : Type 1} (𝓤 : URA M) (H : Heap 𝓤) (A : Atoms 𝓤) (W : Given
     clauses = f.clauses 𝓤 H A mem run;
     code = f.Code.function;
     lies = λ κs a. refl;
-    callees = (put.Symbol.name, tripleOf 𝓤 H A put.signature (put.spec 𝓤 H A mem run)) ∷ [];
+    callees =
+        (zero.Symbol.name, tripleOf 𝓤 H A zero.signature (zero.spec 𝓤 H A mem run))
+        ∷ (put.Symbol.name, tripleOf 𝓤 H A put.signature (put.spec 𝓤 H A mem run)) ∷ [];
   }
 
   walk : (𝓣 : Tables 𝓤 H) → Walk shape 𝓣
-  walk 𝓣 known-put κs qs t n n-is g Q leaves bs =
+  walk 𝓣 known-zero known-put κs qs t n n-is g Q leaves bs =
       let ys : List Request = t .list in
       let zeros : List Request = replicate n zeroRequest in
       let all : length zeros ≡ n = length-replicate n zeroRequest in
       heard ! (n ≤ length (t .list)) (λ within.
-      sets ! (agg ! (and-then ! (lit ! tt) (and-then ! (lit ! tt) (and-then ! (lit ! tt) (no-more !))))) refl (lawful 𝓤 H A W .typed zeroRequest _ zero-is .0) $
+      -- let empty = zero();
+      calls-giving ! 𝓣 [] [] (emp 𝓤) (id⊢ 𝓤 (emp 𝓤)) (of-request W) zeroRequest (λ c. known-zero (bound W [] c)) refl (λ c. vars ! tt) (λ ws. refl) (λ _ is.
       sets ! (of-opd ! (lit ! tt)) refl (tt, fit (lit< tt)) $
       iterates ! 𝓣 {X = Upto n} (λ i. n - i .0) (λ i. (0, ‵ (Lent-at t (filled zeros ys (i .0)))) ∷ []) (λ i. (4, vint w64 (i .0)) ∷ []) (0, zero-le) refl (λ i turn.
       let zs : List Request = filled zeros ys (i .0) in
@@ -49,7 +53,7 @@ module _ {M : Type 1} (𝓤 : URA M) (H : Heap 𝓤) (A : Atoms 𝓤) (W : Given
       let next-fits : i .0 + 1 < 2 ^ 64 = lt-of-le-of-lt (next .1) (n-is .1) in
       -- put(t, i, zero);
       relends ! (t .room .0) refl refl refl $
-      let ps : List (Param 𝓤 H A) = mut-of W t zs len ∷ number W (i .0) (lt-of-le-of-lt (i .1) (n-is .1)) ∷ request W zeroRequest zero-is ∷ [] in
+      let ps : List (Param 𝓤 H A) = mut-of W t zs len ∷ number W (i .0) (lt-of-le-of-lt (i .1) (n-is .1)) ∷ request W zeroRequest is ∷ [] in
       calls-for ! 𝓣 (0 ∷ []) ps _ (so 𝓤 (subst (λ (m : ℕ). i .0 < m) (sym len) (lt-of-lt-of-le lt within))) (of-nothing W) _ (λ c. known-put (bound W ps c)) refl (λ c. vars ! (refl, (refl, (refl, tt)))) (λ ws. refl) (λ u last is-set kept _.
       -- i += 1
       resets-last ! (bin ! (var ! refl) (lit ! tt) (fit next-fits)) refl (tt, fit next-fits) $
@@ -57,10 +61,10 @@ module _ {M : Type 1} (𝓤 : URA M) (H : Heap 𝓤) (A : Atoms 𝓤) (W : Given
       turn .continues ! next (add-one-dec n (i .0) lt) refl))
       (λ over. turn .breaks ! $
       sets ! (of-opd ! (unit-lit !)) refl (tt, tt) $ gives ! refl refl $
-      leaves vunit tt (zs, tt) (len, tt) (of-nothing W .makes tt _ refl) (so 𝓤 (filled-all zeros ys n all within (i .0) (le-antisymm (i .1) (nltb→le (i .0) n over)))))))
+      leaves vunit tt (zs, tt) (len, tt) (of-nothing W .makes tt _ refl) (so 𝓤 (filled-all zeros ys n all within (i .0) (le-antisymm (i .1) (nltb→le (i .0) n over))))))))
 
 pub clear-spec : {M : Type 1} → f.Statement.statement M
 unfolding f.Code.routine
 clear-spec 𝓤 H 𝓜 𝓖 𝓡 =
     proved 𝓤 H 𝓜 𝓖 𝓡 (shape 𝓤 H) (walk 𝓤 H) f.Code.env f.Key.name (f.Code.unfolded 𝓤 H 𝓜 𝓡)
-    ((put.Symbol.routine, f.Code.calls-table·put, put.Met.met 𝓤 H 𝓜 𝓖 𝓡), tt)
+    ((zero.Symbol.routine, f.Code.calls-table·zero, zero.Met.met 𝓤 H 𝓜 𝓖 𝓡), ((put.Symbol.routine, f.Code.calls-table·put, put.Met.met 𝓤 H 𝓜 𝓖 𝓡), tt))

@@ -1,12 +1,12 @@
 -- `table::deadlines` meets its contract: a walk with a loop over two slices at two lifetimes, `get` on a `&[Request]` and
--- `store` on a `&mut [u64]`.
+-- `put_deadline` on a `&mut [u64]`.
 -- Assumes nothing.
-use Rattle.walk.proofs.Prelude.{_≡_, refl, sym, _∙_, subst, ℕ, _+_, _-_, _<_, _≤_, _^_, zero-le, le-antisymm, lt-of-le-of-lt, lt-of-lt-of-le, add-one-le, add-one-dec, List, [], _∷_, length, getD, take, ltb→lt, nltb→le, lit<, URA, w64, vunit, vint, SProp, Memory, Routine, Heap, Tables, Atoms, Fun, Given, ‵, _$_, !, rewrite, lit, of-opd, bin, unit-lit, and-then, no-more, u64, Nothing, tripleOf}
+use Rattle.walk.proofs.Prelude.{_≡_, refl, sym, _∙_, subst, ℕ, _+_, _-_, _<_, _≤_, _^_, zero-le, le-antisymm, lt-of-le-of-lt, lt-of-lt-of-le, add-one-le, add-one-dec, List, [], _∷_, length, getD, take, ltb→lt, nltb→le, lit<, URA, w64, vunit, vint, SProp, Memory, Routine, Heap, Tables, Atoms, Fun, Given, ‵, _$_, !, rewrite, lit, of-opd, bin, unit-lit, u64, Nothing, tripleOf}
 use denote.Steps.{heard}
 use Rattle.walk.proofs.Enter.{lent, shown, uint, so}
 use Rattle.walk.proofs.Proves.{Shape, Walk, proved}
 use Rattle.walk.proofs.Inside.{Lent-at}
-use Rattle.walk.proofs.Locals.{var, vars, field-var, sets, resets-last, relends, gives}
+use Rattle.walk.proofs.Locals.{var, vars, sets, resets-last, relends, gives}
 use Rattle.walk.proofs.Loops.{iterates}
 use Rattle.walk.proofs.Results.{fit, of-nothing, calls-for, calls-giving}
 use Rattle.walk.proofs.Steps.{tests, Upto}
@@ -14,10 +14,10 @@ use Rattle.walk.proofs.Slices.Loans.{Param, number, bound}
 use Rattle.walk.proofs.At.{mut-of, passed-on}
 use Rattle.spec.specs.declared.types.Request.{Request}
 use Rattle.spec.specs.Tables.{zeroRequest, deadlinesOf}
-use Rattle.table.proofs.Rows.{R, of-request, deadline-fits}
+use Rattle.table.proofs.Rows.{R, of-request, request}
 use Rattle.table.proofs.Laws.{filled, fills, length-filled, filled-all, length-column, getD-column}
 use Rattle.table.proofs.get as get
-use Rattle.table.proofs.store as store
+use Rattle.table.proofs.put_deadline as put-deadline
 use Rattle.table.proofs.deadlines as f
 
 module _ {M : Type 1} (𝓤 : URA M) (H : Heap 𝓤) (A : Atoms 𝓤) (W : Given 𝓤 H A) (mem : Memory → SProp 𝓤) (run : Routine → Fun 𝓤) where
@@ -30,12 +30,12 @@ module _ {M : Type 1} (𝓤 : URA M) (H : Heap 𝓤) (A : Atoms 𝓤) (W : Given
     lies = λ κs a. refl;
     callees =
         (get.Symbol.name, tripleOf 𝓤 H A get.signature (get.spec 𝓤 H A mem run))
-        ∷ (store.Symbol.name, tripleOf 𝓤 H A store.signature (store.spec 𝓤 H A mem run))
+        ∷ (put-deadline.Symbol.name, tripleOf 𝓤 H A put-deadline.signature (put-deadline.spec 𝓤 H A mem run))
         ∷ [];
   }
 
   walk : (𝓣 : Tables 𝓤 H) → Walk shape 𝓣
-  walk 𝓣 known-get known-store κs qs t out n n-is g Q leaves bs =
+  walk 𝓣 known-get known-put-deadline κs qs t out n n-is g Q leaves bs =
       let ys : List Request = t .list in
       let ds : List ℕ = out .list in
       let taken : List ℕ = deadlinesOf (take n ys) in
@@ -56,11 +56,11 @@ module _ {M : Type 1} (𝓤 : URA M) (H : Heap 𝓤) (A : Atoms 𝓤) (W : Given
       -- let w = get(t, i);
       let ps : List (Param 𝓤 H A) = passed-on W t ∷ number W (i .0) fits ∷ [] in
       calls-giving ! 𝓣 (0 ∷ []) ps _ (so 𝓤 (lt-of-lt-of-le lt (within .0))) (of-request W) r (λ c. known-get (bound W ps c)) refl (λ c. vars ! (refl, (refl, tt))) (λ ws. refl) (λ last is.
-      -- store(out, i, w.deadline);
+      -- put_deadline(out, i, w);
       relends ! (out .room .0) refl refl refl $
-      let ps : List (Param 𝓤 H A) = mut-of W out zs len ∷ number W (i .0) fits ∷ number W (r .deadline) (deadline-fits r is) ∷ [] in
-      calls-for ! 𝓣 (1 ∷ []) ps _ (so 𝓤 (subst (λ (m : ℕ). i .0 < m) (sym len) (lt-of-lt-of-le lt (within .1)))) (of-nothing W) _ (λ c. known-store (bound W ps c)) refl
-      (λ c. and-then ! (var ! refl) (and-then ! (var ! refl) (and-then ! (field-var ! refl refl refl) (no-more !)))) (λ ws. refl) (λ u last stored kept _.
+      let ps : List (Param 𝓤 H A) = mut-of W out zs len ∷ number W (i .0) fits ∷ request W r is ∷ [] in
+      calls-for ! 𝓣 (1 ∷ []) ps _ (so 𝓤 (subst (λ (m : ℕ). i .0 < m) (sym len) (lt-of-lt-of-le lt (within .1)))) (of-nothing W) _ (λ c. known-put-deadline (bound W ps c)) refl
+      (λ c. vars ! (refl, (refl, (refl, tt)))) (λ ws. refl) (λ u last stored kept _.
       -- i += 1
       resets-last ! (bin ! (var ! refl) (lit ! tt) (fit next-fits)) refl (tt, fit next-fits) $
       rewrite ! 1 (λ (zs : List ℕ). ‵ (Lent-at out zs)) (stored ∙ fills taken ds n all (within .1) (i .0) (r .deadline) (zeroRequest .deadline) lt (getD-column (λ w. w .deadline) n ys (i .0) zeroRequest lt)) refl $
@@ -74,5 +74,5 @@ unfolding f.Code.routine
 deadlines-spec 𝓤 H 𝓜 𝓖 𝓡 =
     proved 𝓤 H 𝓜 𝓖 𝓡 (shape 𝓤 H) (walk 𝓤 H) f.Code.env f.Key.name (f.Code.unfolded 𝓤 H 𝓜 𝓡) (
       (get.Symbol.routine, f.Code.calls-table·get, get.Met.met 𝓤 H 𝓜 𝓖 𝓡),
-      ((store.Symbol.routine, f.Code.calls-table·store, store.Met.met 𝓤 H 𝓜 𝓖 𝓡), tt),
+      ((put-deadline.Symbol.routine, f.Code.calls-table·put-deadline, put-deadline.Met.met 𝓤 H 𝓜 𝓖 𝓡), tt),
     )

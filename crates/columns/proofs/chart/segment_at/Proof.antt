@@ -1,5 +1,5 @@
 -- `columns::chart::segment_at` meets its contract. Assumes nothing.
-use Prim.Native.Nat.{_-_, _≤_, _<_}
+use Prim.Native.Nat.{_+_, _-_, _≤_, _<_}
 use mathlib.Core.Path.{_≡_, _∙_}
 use native.Mathlib.Omega.{arith}
 use borrow.Author.Needs.{needs}
@@ -14,6 +14,7 @@ Inv-loop starts n i left right₀ k₀ right k =
     (i < k)
     × (k ≤ n)
     × (segmentsOf (drop i (take n starts)) ≡ glue left right (segmentsOf (drop k (take n starts))))
+    × (right + i ≡ left + k)
 
 abbrev μ-loop : tie.MeasureT-loop
 μ-loop starts n i left right₀ k₀ right k = n - k
@@ -31,7 +32,7 @@ add-k : tie.Need-add-k Inv-loop μ-loop
 add-k c = search needs
 
 loop-holds : tie.Need-loop-holds Inv-loop μ-loop
-loop-holds c = (search needs, search needs, run-begins _ _ _ (c .before .pre .0) (c .before .pre .1))
+loop-holds c = (search needs, search needs, run-begins _ _ _ (c .before .pre .0) (c .before .pre .1), omega arith)
 
 mul-if1 : tie.Need-mul-if1 Inv-loop μ-loop
 mul-if1 c = search needs
@@ -56,6 +57,7 @@ loop-again c =
       search needs,
       turn .loop .inv .2
           ∙ run-more _ _ _ _ _ (c .before .before .loop-test .taken) (turn .before .before .pre .1) (c .if1 .left),
+      search needs,
     )
 
 returns : tie.Need-returns Inv-loop μ-loop
@@ -63,6 +65,7 @@ returns c = (
   c .before .loop .inv .2 ∙ run-last _ _ _ _ _ (c .loop-test .left),
   c .before .loop .inv .0,
   c .before .loop .inv .1,
+  omega (arith, c .before .loop .inv .3),
 )
 
 returns-2 : tie.Need-returns-2 Inv-loop μ-loop
@@ -72,6 +75,7 @@ returns-2 c =
           ∙ run-ends _ _ _ _ _ (c .before .before .loop-test .taken) (turn .before .before .pre .1) (c .if1 .taken),
       turn .loop .inv .0,
       turn .loop .inv .1,
+      omega (arith, turn .loop .inv .3),
     )
 
 pub segment-at-spec : {M : Type 1} → statement M

@@ -1,24 +1,30 @@
 -- `decide::refusals::chart_refusal` meets its contract. Assumes nothing.
+use Prim.Native.Nat.{ℕ}
 use mathlib.Core.List.{[]}
 use borrow.Author.Tests.{le-ltb, lt-ltb}
-use lib.ListN.{length}
-use Rattle.spec.specs.Refusals.{refusal12}
-use Rattle.decide.proofs.Matching.{match-here, match-only, tables-match, tables-pass, chart-list}
+use lib.ListN.{length-replicate}
+use Rattle.decide.specs.Matches.{chartMatch}
+use Rattle.decide.proofs.Matching.{match-here, match-only, tables-match, tables-pass}
 use Rattle.decide.proofs.refusals.chart_refusal.Statement.{statement}
 use Rattle.decide.proofs.refusals.chart_refusal.Tie as tie
 
 returns : tie.Need-returns
-returns c s output t e l = tables-match s _ _ (chart-list output s) t (c .if1 .taken)
+unfolding chartMatch
+returns c = tables-match _ (c .if1 .taken)
 
 returns-2 : tie.Need-returns-2
-returns-2 c s output t e l =
-    tables-pass s _ _ (chart-list output s) t (c .before .before .if1 .left)
-    (match-here (refusal12 output s) [] (lt-ltb (length output) (s .head .waiting) (rw (e, l) (c .if2 .taken))))
+unfolding chartMatch
+returns-2 c =
+    let a = c .before .before .before .args in
+    tables-pass _ (c .before .before .if1 .left)
+    (match-here _ [] (rw (length-replicate {A = ℕ} (a .entries) 0) (lt-ltb (a .entries) (a .head .waiting) (c .if2 .taken))))
 
 returns-3 : tie.Need-returns-3
-returns-3 c s output t e l =
-    tables-pass s _ _ (chart-list output s) t (c .before .before .if1 .left)
-    (match-only (refusal12 output s) (le-ltb (length output) (s .head .waiting) (rw (e, l) (c .if2 .left))))
+unfolding chartMatch
+returns-3 c =
+    let a = c .before .before .before .args in
+    tables-pass _ (c .before .before .if1 .left)
+    (match-only _ (rw (length-replicate {A = ℕ} (a .entries) 0) (le-ltb (a .entries) (a .head .waiting) (c .if2 .left))))
 
 pub chart-refusal-spec : {M : Type 1} → statement M
 chart-refusal-spec = tie.close (tie.spec returns returns-2 returns-3)

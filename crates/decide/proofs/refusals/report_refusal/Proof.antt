@@ -1,22 +1,25 @@
 -- `decide::refusals::report_refusal` meets its contract. Assumes nothing.
 use mathlib.Core.List.{[]}
-use Rattle.spec.specs.Refusals.{refusal6}
-use Rattle.decide.proofs.Matching.{match-here, match-only, holds6, fails6, tables-match, tables-pass, report-list}
+use Rattle.decide.specs.Matches.{told, reportMatch}
+use Rattle.decide.proofs.Matching.{match-here, match-only, holds6, fails6, tables-match, tables-pass}
 use Rattle.decide.proofs.refusals.report_refusal.Statement.{statement}
 use Rattle.decide.proofs.refusals.report_refusal.Tie as tie
 
 returns : tie.Need-returns
-returns c s t e = tables-match s _ _ (report-list _ s) t (c .if1 .taken)
+unfolding reportMatch
+returns c = tables-match _ (c .if1 .taken)
 
 returns-2 : tie.Need-returns-2
-returns-2 c s t e =
-    tables-pass s _ _ (report-list _ s) t (c .before .before .if1 .left)
-    (match-here (refusal6 _ s) [] (holds6 _ s (rw e (c .if2 .taken))))
+unfolding reportMatch
+returns-2 c =
+    let a = c .before .before .before .args in
+    tables-pass _ (c .before .before .if1 .left) (match-here _ [] (holds6 (a .client) (told (a .head) 0 []) (c .if2 .taken)))
 
 returns-3 : tie.Need-returns-3
-returns-3 c s t e =
-    tables-pass s _ _ (report-list _ s) t (c .before .before .if1 .left)
-    (match-only (refusal6 _ s) (fails6 _ s (rw e (c .if2 .left))))
+unfolding reportMatch
+returns-3 c =
+    let a = c .before .before .before .args in
+    tables-pass _ (c .before .before .if1 .left) (match-only _ (fails6 (a .client) (told (a .head) 0 []) (c .if2 .left)))
 
 pub report-refusal-spec : {M : Type 1} → statement M
 report-refusal-spec = tie.close (tie.spec returns returns-2 returns-3)

@@ -1,7 +1,8 @@
 -- `decide::replies::open_reply` meets its contract. Assumes nothing.
+use mathlib.Core.Path.{refl}
 use borrow.Author.Needs.{needs}
-use Rattle.spec.specs.Calls.{openOf}
-use Rattle.decide.proofs.Replying.Counted.{refused-answers, accepted-answers, opened-answers}
+use borrow.Author.Tests.{eq-eqb, ne-eqb}
+use Rattle.columns.proofs.Counting.{holds-own}
 use Rattle.decide.proofs.replies.open_reply.Statement.{statement}
 use Rattle.decide.proofs.replies.open_reply.Tie as tie
 
@@ -9,9 +10,7 @@ refused-requires : tie.Need-refused-requires
 refused-requires c κs = search needs
 
 returns : tie.Need-returns
-unfolding openOf
-returns c s found same counts =
-    rw (c .refused .ensures) (refused-answers _ s _ found (c .before .if1 .taken) same counts)
+returns c = rw (ne-eqb _ 0 (c .before .if1 .taken)) (c .refused .ensures, holds-own _ _ _)
 
 clear-table-requires : tie.Need-clear-table-requires
 clear-table-requires c κs = search needs
@@ -26,11 +25,9 @@ same-length-3 : tie.Need-same-length-3
 same-length-3 c = search needs
 
 returns-2 : tie.Need-returns-2
-unfolding openOf
-returns-2 c s found same counts =
+returns-2 c =
     let cleared = c .before .before .before .before .before .before in
-    accepted-answers _ s _ found (cleared .before .before .before .before .if1 .left)
-    (opened-answers _ _ s counts (cleared .clear-table .ensures))
+    rw (eq-eqb _ 0 (cleared .before .before .before .before .if1 .left)) (refl, cleared .clear-table .ensures)
 
 pub open-reply-spec : {M : Type 1} → statement M
 open-reply-spec =

@@ -1,6 +1,6 @@
 -- `decide::replies::report_reply` meets its contract. Assumes nothing.
 use borrow.Author.Needs.{needs}
-use Rattle.decide.proofs.Replying.Replied.{report-refused, report-goes}
+use borrow.Author.Tests.{eq-eqb, ne-eqb}
 use Rattle.decide.proofs.replies.report_reply.Statement.{statement}
 use Rattle.decide.proofs.replies.report_reply.Tie as tie
 
@@ -8,7 +8,7 @@ refused-requires : tie.Need-refused-requires
 refused-requires c κs = search needs
 
 returns : tie.Need-returns
-returns c s t same counts = rw (c .refused .ensures) (report-refused _ s t same counts (c .before .if1 .taken))
+returns c = rw (ne-eqb _ 0 (c .before .if1 .taken)) (c .refused .ensures)
 
 counts-at-requires : tie.Need-counts-at-requires
 counts-at-requires c κs = search needs
@@ -26,10 +26,9 @@ cast-t13 : tie.Need-cast-t13
 cast-t13 c = search needs
 
 returns-2 : tie.Need-returns-2
-returns-2 c s t same counts =
+returns-2 c =
     let m = c .before .before .before in
-    report-goes _ s t same counts (m .before .before .if1 .left) (m .before .counts-at .result) (m .waiting-count .result)
-    (m .before .counts-at .ensures) (m .waiting-count .ensures)
+    rw (eq-eqb _ 0 (m .before .before .if1 .left), m .waiting-count .ensures, m .before .counts-at .ensures)
 
 pub report-reply-spec : {M : Type 1} → statement M
 report-reply-spec =

@@ -1,6 +1,6 @@
 -- `decide::replies::submit_reply` meets its contract. Assumes nothing.
+use mathlib.Core.Path.{refl}
 use borrow.Author.Needs.{needs}
-use Rattle.decide.proofs.Replying.Replied.{submit-answers}
 use Rattle.decide.proofs.replies.submit_reply.Statement.{statement}
 use Rattle.decide.proofs.replies.submit_reply.Tie as tie
 
@@ -44,17 +44,15 @@ refused-requires-3 : tie.Need-refused-requires-3
 refused-requires-3 c κs = search needs
 
 returns : tie.Need-returns
-returns c deadline s e same counts g =
-    rw (c .refused .ensures) (submit-answers _ deadline s (c .before .before .decision .given .1) e same counts g)
+returns c = rw (c .before .before .decision .given .1) (c .refused .ensures, refl, refl)
 
 same-length : tie.Need-same-length
 same-length c = search needs
 
 returns-2 : tie.Need-returns-2
-returns-2 c deadline s e same counts g =
+returns-2 c =
     let m = c .before .before .before in
-    rw (c .kept .ensures, m .add-one .ensures)
-    (submit-answers _ deadline s (m .before .before .before .decision2 .given .1) e same counts g)
+    rw (m .before .before .before .decision2 .given .1) (c .kept .ensures, m .add-one .ensures, refl)
 
 same-length-2 : tie.Need-same-length-2
 same-length-2 c = search needs
@@ -63,19 +61,16 @@ same-length-3 : tie.Need-same-length-3
 same-length-3 c = search needs
 
 returns-3 : tie.Need-returns-3
-returns-3 c deadline s e same counts g =
+returns-3 c =
     let m = c .before .before .before in
     let k = m .before .before .before .before in
-    rw (c .dropped-one .ensures, m .add-one3 .ensures, k .add-one2 .ensures)
-    (submit-answers _ deadline s (k .before .before .enum-told .given .1) e same counts g)
+    rw (k .before .before .enum-told .given .1) (c .dropped-one .ensures, k .add-one2 .ensures, m .add-one3 .ensures)
 
 returns-4 : tie.Need-returns-4
-returns-4 c deadline s e same counts g =
-    rw (c .refused2 .ensures) (submit-answers _ deadline s (c .before .enum-told2 .given .1) e same counts g)
+returns-4 c = rw (c .before .enum-told2 .given .1) (c .refused2 .ensures, refl, refl)
 
 returns-5 : tie.Need-returns-5
-returns-5 c deadline s e same counts g =
-    rw (c .refused3 .ensures) (submit-answers _ deadline s (c .before .enum-told3 .given .1) e same counts g)
+returns-5 c = rw (c .before .enum-told3 .given .1) (c .refused3 .ensures, refl, refl)
 
 pub submit-reply-spec : {M : Type 1} → statement M
 submit-reply-spec =

@@ -1,8 +1,6 @@
 -- `decide::replies::tick_reply` meets its contract. Assumes nothing.
-use mathlib.Core.Path.{sym, _∙_}
-use mathlib.Core.Bool.{true≢false}
 use borrow.Author.Needs.{needs}
-use Rattle.decide.proofs.Replying.Counted.{tick-refuses, tick-idles, tick-serves, tick-only}
+use Rattle.columns.proofs.Counting.{holds-own}
 use Rattle.decide.proofs.replies.tick_reply.Statement.{statement}
 use Rattle.decide.proofs.replies.tick_reply.Tie as tie
 
@@ -52,13 +50,13 @@ same-length-3 : tie.Need-same-length-3
 same-length-3 c = search needs
 
 returns : tie.Need-returns
-returns c s d same counts gone =
+returns c =
     let added = c .before .before .before .before .before .before .before .before .before .before .before .before .before in
-    let serve = added .before .before .enum-told .given .1 in
     let passed = c .before .before .before .before .before .before in
-    rw (passed .pass-slot .ensures .0, passed .before .before .before .before .one-less .ensures)
-    (tick-serves s same counts (sym serve ∙ d) (gone serve)
-    (rw (added .add-one .ensures) at (passed .pass-slot .ensures .1)))
+    rw (added .before .before .enum-told .given .1) (
+      rw (passed .pass-slot .ensures .0, passed .before .before .before .before .one-less .ensures),
+      rw (added .add-one .ensures) at (passed .pass-slot .ensures .1),
+    )
 
 same-length-4 : tie.Need-same-length-4
 same-length-4 c = search needs
@@ -70,23 +68,19 @@ same-length-6 : tie.Need-same-length-6
 same-length-6 c = search needs
 
 returns-2 : tie.Need-returns-2
-returns-2 c s d same counts gone =
+returns-2 c =
     let passed = c .before .before .before .before .before .before in
-    rw (passed .pass-slot2 .ensures .0)
-    (tick-idles s same counts (sym (passed .before .before .before .before .enum-told2 .given .1) ∙ d)
-    (passed .pass-slot2 .ensures .1))
+    rw (passed .before .before .before .before .enum-told2 .given .1)
+    (rw (passed .pass-slot2 .ensures .0), passed .pass-slot2 .ensures .1)
 
 returns-3 : tie.Need-returns-3
-returns-3 c s d same counts gone =
-    rw (c .refused .ensures) (tick-refuses s same counts _ (sym (c .before .before .decision .given .1) ∙ d))
+returns-3 c = rw (c .before .before .decision .given .1) (c .refused .ensures, holds-own _ _ _)
 
 returns-4 : tie.Need-returns-4
-returns-4 c s d same counts gone =
-    absurd (true≢false (sym (tick-only s _ (sym (c .before .enum-told3 .given .1) ∙ d))))
+returns-4 c = rw (c .before .enum-told3 .given .1) (c .refused2 .ensures, holds-own _ _ _)
 
 returns-5 : tie.Need-returns-5
-returns-5 c s d same counts gone =
-    absurd (true≢false (sym (tick-only s _ (sym (c .before .enum-told4 .given .1) ∙ d))))
+returns-5 c = rw (c .before .enum-told4 .given .1) (c .refused3 .ensures, holds-own _ _ _)
 
 pub tick-reply-spec : {M : Type 1} → statement M
 tick-reply-spec =

@@ -1,6 +1,7 @@
 -- `frame::answers::put_answer` meets its contract. Assumes nothing.
 use borrow.Author.Needs.{needs}
 use Rattle.spec.specs.Frames.{kindOf, valuesOf}
+use Rattle.frame.proofs.Written.{put-ends}
 use Rattle.frame.proofs.answers.put_answer.Statement.{statement}
 use Rattle.frame.proofs.answers.put_answer.Tie as tie
 
@@ -59,7 +60,7 @@ returns : tie.Need-returns
 unfolding kindOf valuesOf
 returns c =
     let told = c .before .before .before .before .enum-told .given .1 in
-    (search needs, search needs, rw told (c .before .before .put-kind .ensures .1))
+    put-ends _ _ _ _ _ _ (search needs) (search needs) (search needs) (rw told (c .before .before .put-kind .ensures .1))
 
 same-length-2 : tie.Need-same-length-2
 same-length-2 c = search needs
@@ -68,7 +69,7 @@ returns-2 : tie.Need-returns-2
 unfolding kindOf valuesOf
 returns-2 c =
     let told = c .before .before .before .before .before .answer .given .1 in
-    (search needs, search needs, rw told (c .before .before .put-pair .ensures .1))
+    put-ends _ _ _ _ _ _ (search needs) (search needs) (search needs) (rw told (c .before .before .put-pair .ensures .1))
 
 same-length-3 : tie.Need-same-length-3
 same-length-3 c = search needs
@@ -77,7 +78,7 @@ returns-3 : tie.Need-returns-3
 unfolding kindOf valuesOf
 returns-3 c =
     let told = c .before .before .before .before .before .answer2 .given .1 in
-    (search needs, search needs, rw told (c .before .before .put-triple .ensures .1))
+    put-ends _ _ _ _ _ _ (search needs) (search needs) (search needs) (rw told (c .before .before .put-triple .ensures .1))
 
 same-length-4 : tie.Need-same-length-4
 same-length-4 c = search needs
@@ -86,7 +87,7 @@ returns-4 : tie.Need-returns-4
 unfolding kindOf valuesOf
 returns-4 c =
     let told = c .before .before .before .before .before .answer3 .given .1 in
-    (search needs, search needs, rw told (c .before .before .put-triple2 .ensures .1))
+    put-ends _ _ _ _ _ _ (search needs) (search needs) (search needs) (rw told (c .before .before .put-triple2 .ensures .1))
 
 same-length-5 : tie.Need-same-length-5
 same-length-5 c = search needs
@@ -95,7 +96,7 @@ returns-5 : tie.Need-returns-5
 unfolding kindOf valuesOf
 returns-5 c =
     let told = c .before .before .before .before .before .answer4 .given .1 in
-    (search needs, search needs, rw told (c .before .before .put-value .ensures .1))
+    put-ends _ _ _ _ _ _ (search needs) (search needs) (search needs) (rw told (c .before .before .put-value .ensures .1))
 
 same-length-6 : tie.Need-same-length-6
 same-length-6 c = search needs
@@ -104,7 +105,7 @@ returns-6 : tie.Need-returns-6
 unfolding kindOf valuesOf
 returns-6 c =
     let told = c .before .before .before .before .before .answer5 .given .1 in
-    (search needs, search needs, rw told (c .before .before .put-report .ensures .1))
+    put-ends _ _ _ _ _ _ (search needs) (search needs) (search needs) (rw told (c .before .before .put-report .ensures .1))
 
 same-length-7 : tie.Need-same-length-7
 same-length-7 c = search needs
@@ -113,7 +114,7 @@ returns-7 : tie.Need-returns-7
 unfolding kindOf valuesOf
 returns-7 c =
     let told = c .before .before .before .before .before .answer6 .given .1 in
-    (search needs, search needs, rw told (c .before .before .put-value2 .ensures .1))
+    put-ends _ _ _ _ _ _ (search needs) (search needs) (search needs) (rw told (c .before .before .put-value2 .ensures .1))
 
 same-length-8 : tie.Need-same-length-8
 same-length-8 c = search needs
@@ -122,7 +123,7 @@ returns-8 : tie.Need-returns-8
 unfolding kindOf valuesOf
 returns-8 c =
     let told = c .before .before .before .before .before .answer7 .given .1 in
-    (search needs, search needs, rw told (c .before .before .put-value3 .ensures .1))
+    put-ends _ _ _ _ _ _ (search needs) (search needs) (search needs) (rw told (c .before .before .put-value3 .ensures .1))
 
 pub put-answer-spec : {M : Type 1} → statement M
 put-answer-spec =

@@ -2,7 +2,7 @@
 use native.Mathlib.Omega.{arith}
 use borrow.Author.Needs.{needs}
 use Rattle.frame.specs.Written.{replyBytes}
-use Rattle.frame.proofs.Written.{line-alone}
+use Rattle.frame.proofs.Written.{put-ends, line-alone}
 use Rattle.frame.proofs.answers.put_reply.Statement.{statement}
 use Rattle.frame.proofs.answers.put_reply.Tie as tie
 
@@ -27,17 +27,15 @@ returns c =
     let arm = c .before .before .before .before .before in
     let told = arm .answer .given .1 in
     let can = rw told at (arm .before .before .before .before .pre .1) in
-    (search needs, omega arith, rw told (c .before .before .put-chart .ensures .2))
+    put-ends _ _ _ _ _ _ (omega arith) (search needs) (search needs) (rw told (c .before .before .put-chart .ensures .2))
 
 same-length-2 : tie.Need-same-length-2
 same-length-2 c = search needs
 
 returns-2 : tie.Need-returns-2
-returns-2 c = (
-  search needs,
-  search needs,
-  rw (line-alone _ _ (c .before .before .before .before .match .keys2)) (c .before .before .put-answer .ensures .2),
-)
+returns-2 c =
+    put-ends _ _ _ _ _ _ (search needs) (search needs) (search needs)
+    (rw (line-alone _ _ (c .before .before .before .before .match .keys2)) (c .before .before .put-answer .ensures .2))
 
 pub put-reply-spec : {M : Type 1} → statement M
 put-reply-spec =

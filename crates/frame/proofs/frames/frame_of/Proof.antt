@@ -1,5 +1,5 @@
 -- `frame::frames::frame_of` meets its contract. Assumes nothing.
-use Prim.Native.Nat.{ℕ, _+_, _*_, _≤_}
+use Prim.Native.Nat.{ℕ, _≤_}
 use mathlib.Core.Path.{_≡_, sym, _∙_}
 use mathlib.Core.Bool.{true}
 use mathlib.Core.List.{List}
@@ -29,24 +29,25 @@ are-digits-requires c κs = search needs
 returns-3 : tie.Need-returns-3
 returns-3 c = sym (frame-other _ (sym (c .before .are-digits .ensures) ∙ not-true _ (c .if3 .taken)))
 
--- what is known where each character is a digit: all that a field's reader asks but the length
+-- what is known where each character is a digit: all that a field's reader asks but that the line is long enough. Where the field
+-- stands, the code alone says
 module _ (c : tie.Else3) where
   abbrev line : List ℕ
   line = now (c .before .before .before .before .before .before .args .line)
 
   abbrev CanRead : ℕ → ℕ → Type 0
-  CanRead from width =
+  CanRead end width =
       (now (c .before .before .before .before .before .before .args .table) ≡ digitTable)
-      × ((2 * (from + width) ≤ length line) × (width ≤ 8) × (every isDigit line ≡ true))
+      × ((end ≤ length line) × (width ≤ 8) × (every isDigit line ≡ true))
 
   all-digits : every isDigit line ≡ true
   all-digits = sym (c .before .are-digits .ensures) ∙ not-false _ (c .if3 .left)
 
-  can-read : (from width : ℕ) → 2 * (from + width) ≤ length line → width ≤ 8 → CanRead from width
-  can-read from width h w = (c .before .before .before .before .before .before .pre, (h, w, all-digits))
+  can-read : {end width : ℕ} → end ≤ length line → width ≤ 8 → CanRead end width
+  can-read h w = (c .before .before .before .before .before .before .pre, (h, w, all-digits))
 
 field-at-requires : tie.Need-field-at-requires
-field-at-requires c κs = can-read c 0 1 (omega arith) (omega arith)
+field-at-requires c κs = can-read c (omega arith) (omega arith)
 
 kind-of-requires : tie.Need-kind-of-requires
 kind-of-requires c κs = search needs
@@ -56,11 +57,11 @@ module _ (c : tie.After-kind-of) {x : Kind} (e : c .kind-of .result ≡ x) where
   is-kind : kindOf (fieldAt 0 1 (line (c .before .before))) (length (line (c .before .before))) ≡ x
   is-kind = rw (← c .before .field-at .ensures) (sym (c .kind-of .ensures) ∙ e)
 
-  can-read-at : (from width : ℕ) → 2 * (from + width) ≤ lengthOf x (length (line (c .before .before))) → width ≤ 8
-      → CanRead (c .before .before) from width
-  can-read-at from width h w =
+  can-read-at : {end width : ℕ} → end ≤ lengthOf x (length (line (c .before .before))) → width ≤ 8
+      → CanRead (c .before .before) end width
+  can-read-at h w =
       let l = line (c .before .before) in
-      can-read (c .before .before) from width (omega (arith, rw is-kind at (kind-length (fieldAt 0 1 l) (length l)))) w
+      can-read (c .before .before) (omega (arith, rw is-kind at (kind-length (fieldAt 0 1 l) (length l)))) w
 
   framed : frameOf (line (c .before .before)) ≡ frameAs x (line (c .before .before))
   framed = rw is-kind at (frame-digits (line (c .before .before)) (all-digits (c .before .before)))
@@ -69,25 +70,25 @@ enum-told : tie.Need-enum-told
 enum-told c = search needs
 
 field-at-requires-2 : tie.Need-field-at-requires-2
-field-at-requires-2 c κs = can-read-at (c .before .before) (c .enum-told .given .1) 1 2 (omega arith) (omega arith)
+field-at-requires-2 c κs = can-read-at (c .before .before) (c .enum-told .given .1) (omega arith) (omega arith)
 
 field-at-requires-3 : tie.Need-field-at-requires-3
 field-at-requires-3 c κs =
-    can-read-at (c .before .before .before) (c .before .enum-told .given .1) 3 4 (omega arith) (omega arith)
+    can-read-at (c .before .before .before) (c .before .enum-told .given .1) (omega arith) (omega arith)
 
 field-at-requires-4 : tie.Need-field-at-requires-4
 field-at-requires-4 c κs =
-    can-read-at (c .before .before .before .before) (c .before .before .enum-told .given .1) 7 2 (omega arith) (omega arith)
+    can-read-at (c .before .before .before .before) (c .before .before .enum-told .given .1) (omega arith) (omega arith)
 
 enum-told-2 : tie.Need-enum-told-2
 enum-told-2 c = search needs
 
 field-at-requires-5 : tie.Need-field-at-requires-5
-field-at-requires-5 c κs = can-read-at (c .before .before) (c .enum-told2 .given .1) 1 2 (omega arith) (omega arith)
+field-at-requires-5 c κs = can-read-at (c .before .before) (c .enum-told2 .given .1) (omega arith) (omega arith)
 
 field-at-requires-6 : tie.Need-field-at-requires-6
 field-at-requires-6 c κs =
-    can-read-at (c .before .before .before) (c .before .enum-told2 .given .1) 3 8 (omega arith) (omega arith)
+    can-read-at (c .before .before .before) (c .before .enum-told2 .given .1) (omega arith) (omega arith)
 
 enum-told-3 : tie.Need-enum-told-3
 enum-told-3 c = search needs
@@ -96,7 +97,7 @@ enum-told-4 : tie.Need-enum-told-4
 enum-told-4 c = search needs
 
 field-at-requires-7 : tie.Need-field-at-requires-7
-field-at-requires-7 c κs = can-read-at (c .before .before) (c .enum-told4 .given .1) 1 2 (omega arith) (omega arith)
+field-at-requires-7 c κs = can-read-at (c .before .before) (c .enum-told4 .given .1) (omega arith) (omega arith)
 
 enum-told-5 : tie.Need-enum-told-5
 enum-told-5 c = search needs

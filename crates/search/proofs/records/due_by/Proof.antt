@@ -1,7 +1,7 @@
 -- `search::records::due_by` meets its contract: a walk with a loop that has a branch, and `table::get` on the `&[Request]`,
--- which is passed on. A turn stands at any two places between which the search is left (`Narrowed`).
+-- which is passed on. A turn stands at any two places between which what is left to look at gives the whole (`leftBetween`).
 -- Assumes nothing.
-use Rattle.walk.proofs.Prelude.{_≡_, refl, ℕ, _+_, _<_, _≤_, _-_, _^_, lt-of-le-of-lt, arith, List, [], _∷_, length, getD, take, length-map, List·getD-map, leb, ltb→lt, nltb→le, leb→le, nleb→lt, lit<, URA, w64, vint, SProp, Memory, Routine, Heap, Tables, Atoms, Fun, Given, _$_, !, lit, of-opd, bin, branches, usize, tripleOf}
+use Rattle.walk.proofs.Prelude.{_≡_, refl, _∙_, ℕ, _+_, _<_, _≤_, _-_, _^_, lt-of-le-of-lt, arith, List, [], _∷_, length, getD, List·getD-map, ltb→lt, nltb→le, leb→le, nleb→lt, lit<, URA, w64, vint, SProp, Memory, Routine, Heap, Tables, Atoms, Fun, Given, _$_, !, lit, of-opd, bin, branches, usize, tripleOf}
 use denote.Steps.{heard}
 use Rattle.walk.proofs.Enter.{shown, uint, so}
 use Rattle.walk.proofs.Proves.{Shape, Walk, proved}
@@ -12,30 +12,24 @@ use Rattle.walk.proofs.Steps.{tests}
 use Rattle.walk.proofs.Slices.Loans.{Param, number, bound}
 use Rattle.walk.proofs.At.{passed-on}
 use Rattle.spec.specs.declared.types.Request.{Request}
-use Rattle.spec.specs.Every.{countIf}
 use Rattle.spec.specs.Tables.{zeroRequest, deadlinesOf}
 use Rattle.table.proofs.Rows.{R, of-request}
 use Rattle.table.proofs.get as get
-use Rattle.search.specs.Scans.{Sorted}
-use Rattle.search.proofs.Scanning.{Narrowed, narrow-start, middle, narrow-low, narrow-high, narrow-end}
+use Rattle.search.specs.Scans.{middle, placeBy}
+use Rattle.search.proofs.Scanning.{leftBetween, halves-low, halves-high, halves-end}
 use Rattle.search.proofs.records.due_by as f
 
--- what the contract says
-abbrev Found : List Request → ℕ → ℕ → ℕ → Type 0
-Found ys n d r = (r ≤ n) × (Sorted (take n (deadlinesOf ys)) → r ≡ countIf (λ x. leb x d) (take n (deadlinesOf ys)))
-
--- ---- where a turn of the loop stands
+-- ---- where a turn of the loop stands: what is left between its places gives the whole
 record Turn (ys : List Request) (n d : ℕ) : Type 0 where
   pub low : ℕ
   pub high : ℕ
-  pub known : Narrowed (deadlinesOf ys) n d low high
+  pub ordered : low ≤ high
+  pub within : high ≤ n
+  pub same : leftBetween (deadlinesOf ys) d low high ≡ placeBy (deadlinesOf ys) n d
 
-module _ (ys : List Request) (n d : ℕ) (fits : n ≤ length ys) where
-  all : n ≤ length (deadlinesOf ys)
-  all = omega (arith, length-map ys (λ w. w .deadline))
-
+module _ (ys : List Request) (n d : ℕ) where
   abbrev start : Turn ys n d
-  start = record { low = 0; high = n; known = narrow-start (deadlinesOf ys) n d all }
+  start = record { low = 0; high = n; ordered = omega arith; within = omega arith; same = let e : n - 0 ≡ n = omega arith in rw e }
 
   module _ (t : Turn ys n d) where
     abbrev here : ℕ
@@ -47,14 +41,26 @@ module _ (ys : List Request) (n d : ℕ) (fits : n ≤ length ys) where
 
     abbrev upper : t .low < t .high → getD ys here zeroRequest .deadline ≤ d → Turn ys n d
     upper some h =
-        record { low = here + 1; high = t .high; known = narrow-low (t .known) all some (omega (arith, there)) }
+        record {
+          low = here + 1;
+          high = t .high;
+          ordered = omega arith;
+          within = t .within;
+          same = halves-low (deadlinesOf ys) d (t .low) (t .high) some (omega (arith, there)) ∙ t .same;
+        }
 
     abbrev lower : t .low < t .high → d < getD ys here zeroRequest .deadline → Turn ys n d
     lower some h =
-        record { low = t .low; high = here; known = narrow-high (t .known) all some (omega (arith, there)) }
+        record {
+          low = t .low;
+          high = here;
+          ordered = omega arith;
+          within = omega (arith, t .within);
+          same = halves-high (deadlinesOf ys) d (t .low) (t .high) some (omega (arith, there)) ∙ t .same;
+        }
 
-    found : t .high ≤ t .low → Found ys n d (t .low)
-    found over = (omega (arith, t .known .ordered, t .known .within), narrow-end (t .known) all over)
+    found : t .high ≤ t .low → t .low ≡ placeBy (deadlinesOf ys) n d
+    found over = halves-end (deadlinesOf ys) d (t .low) (t .high) over ∙ t .same
 
 module _ {M : Type 1} (𝓤 : URA M) (H : Heap 𝓤) (A : Atoms 𝓤) (W : Given 𝓤 H A) (mem : Memory → SProp 𝓤) (run : Routine → Fun 𝓤) where
   abbrev shape : Shape W
@@ -73,9 +79,9 @@ module _ {M : Type 1} (𝓤 : URA M) (H : Heap 𝓤) (A : Atoms 𝓤) (W : Given
       heard ! (n ≤ length ys) (λ within.
       sets ! (of-opd ! (lit ! tt)) refl (tt, fit (lit< tt)) $
       sets ! (of-opd ! (var ! refl)) refl (tt, fit (n-is .1)) $
-      iterates ! 𝓣 {X = Turn ys n d} (λ t. t .high - t .low) (λ t. []) (λ t. (4, vint w64 (t .low)) ∷ (5, vint w64 (t .high)) ∷ []) (start ys n d within) refl (λ t turn.
-      let high-fits : t .high < 2 ^ 64 = lt-of-le-of-lt (t .known .within) (n-is .1) in
-      let low-fits : t .low < 2 ^ 64 = lt-of-le-of-lt (t .known .ordered) high-fits in
+      iterates ! 𝓣 {X = Turn ys n d} (λ t. t .high - t .low) (λ t. []) (λ t. (4, vint w64 (t .low)) ∷ (5, vint w64 (t .high)) ∷ []) (start ys n d) refl (λ t turn.
+      let high-fits : t .high < 2 ^ 64 = lt-of-le-of-lt (t .within) (n-is .1) in
+      let low-fits : t .low < 2 ^ 64 = lt-of-le-of-lt (t .ordered) high-fits in
       sets ! (bin ! (var ! refl) (var ! refl) tt) refl (tt, tt) $
       tests ! (var ! refl)
       (λ less.
@@ -85,21 +91,21 @@ module _ {M : Type 1} (𝓤 : URA M) (H : Heap 𝓤) (A : Atoms 𝓤) (W : Given
       let next-fits : m + 1 < 2 ^ 64 = omega arith in
       let w : Request = getD ys m zeroRequest in
       -- let middle = low + (high - low) / 2;
-      sets ! (bin ! (var ! refl) (var ! refl) (t .known .ordered)) refl (tt, fit (omega arith)) $
+      sets ! (bin ! (var ! refl) (var ! refl) (t .ordered)) refl (tt, fit (omega arith)) $
       sets ! (bin ! (var ! refl) (lit ! tt) (lit< tt)) refl (tt, fit (omega arith)) $
       sets ! (bin ! (var ! refl) (var ! refl) (fit m-fits)) refl (tt, fit m-fits) $
       -- let w = table::get(t, middle);
       let ps : List (Param 𝓤 H A) = passed-on W table ∷ number W m m-fits ∷ [] in
-      calls-giving ! 𝓣 (0 ∷ []) ps _ (so 𝓤 (omega (arith, t .known .within))) (of-request W) w (λ c. known-get (bound W ps c)) refl (λ c. vars ! (refl, (refl, tt))) (λ ws. refl) (λ last is.
+      calls-giving ! 𝓣 (0 ∷ []) ps _ (so 𝓤 (omega (arith, t .within))) (of-request W) w (λ c. known-get (bound W ps c)) refl (λ c. vars ! (refl, (refl, tt))) (λ ws. refl) (λ last is.
       resets ! (bin ! (field-var ! refl refl refl) (var ! refl) tt) refl (tt, tt) $
       branches ! (var ! refl)
       (λ due. resets-last ! (bin ! (var ! refl) (lit ! tt) (fit next-fits)) refl (tt, fit next-fits) $
-      turn .continues ! (upper ys n d within t lt (omega (arith, leb→le _ d due))) (omega arith) refl)
+      turn .continues ! (upper ys n d t lt (omega (arith, leb→le _ d due))) (omega arith) refl)
       (λ later. resets-last ! (of-opd ! (var ! refl)) refl (tt, fit m-fits) $
-      turn .continues ! (lower ys n d within t lt (omega (arith, nleb→lt _ d later))) (omega arith) refl)))
+      turn .continues ! (lower ys n d t lt (omega (arith, nleb→lt _ d later))) (omega arith) refl)))
       (λ over. turn .breaks ! $
       sets ! (of-opd ! (var ! refl)) refl (tt, fit low-fits) $ gives ! refl refl $
-      leaves (vint w64 (t .low)) (t .low) tt tt (of-number W w64 .makes (t .low) _ (refl, low-fits)) (so 𝓤 (found ys n d within t (nltb→le (t .low) (t .high) over))))))
+      leaves (vint w64 (t .low)) (t .low) tt tt (of-number W w64 .makes (t .low) _ (refl, low-fits)) (so 𝓤 (found ys n d t (nltb→le (t .low) (t .high) over))))))
 
 pub due-by-spec : {M : Type 1} → f.Statement.statement M
 unfolding f.Code.routine

@@ -1,23 +1,22 @@
 -- `search::victim::smallest_ratio_place` meets its contract. Assumes nothing.
 use Prim.Native.Nat.{_-_, _≤_}
-use mathlib.Core.Path.{refl}
+use mathlib.Core.Path.{_≡_}
 use native.Mathlib.Omega.{arith}
 use borrow.Author.Needs.{needs}
-use Rattle.search.specs.Scans.{countsWith, HaveRatios}
-use Rattle.search.proofs.Choosing.{Held, nobody, held-next, held-wins}
+use Rattle.search.specs.Scans.{countsWith, bestOf}
+use Rattle.search.proofs.Choosing.{best-none, best-next, best-last}
 use Rattle.search.proofs.victim.smallest_ratio_place.Statement.{statement}
 use Rattle.search.proofs.victim.smallest_ratio_place.Tie as tie
 
 abbrev Inv-loop : tie.InvT-loop
 Inv-loop latest submitted served dropped client n best₀ c₀ best c =
-    (c ≤ n) × (HaveRatios (countsWith client submitted served dropped) latest n
-    → Held (countsWith client submitted served dropped) latest c best)
+    (c ≤ n) × (best ≡ bestOf (countsWith client submitted served dropped) latest c)
 
 abbrev μ-loop : tie.MeasureT-loop
 μ-loop latest submitted served dropped client n best₀ c₀ best c = n - c
 
 loop-holds : tie.Need-loop-holds Inv-loop μ-loop
-loop-holds c = (omega arith, λ p. nobody refl refl (λ j l. absurd (omega arith)))
+loop-holds c = (omega arith, best-none _ _)
 
 counts-with-requires : tie.Need-counts-with-requires Inv-loop μ-loop
 counts-with-requires c κs = search needs
@@ -38,19 +37,12 @@ loop-less : tie.Need-loop-less Inv-loop μ-loop
 loop-less c = search needs
 
 loop-again : tie.Need-loop-again Inv-loop μ-loop
-loop-again c = (
-  omega arith,
-  (λ p.
-      let m = c .before .before in
-      held-next _ _ _ p _ (omega arith) _ _ refl (m .counts-with .ensures) (m .before .before .loop .inv .1 p) (c .better .ensures)),
-)
+loop-again c =
+    let m = c .before .before in
+    (omega arith, best-next _ _ _ (m .counts-with .ensures) (m .before .before .loop .inv .1) (c .better .ensures))
 
 returns : tie.Need-returns Inv-loop μ-loop
-returns c p j l some =
-    absurd (omega (
-      arith,
-      held-wins _ _ _ p _ _ (c .before .before .loop-test .left) (c .before .before .before .loop .inv) j l some .0,
-    ))
+returns c = omega (arith, best-last _ _ _ _ (c .before .before .loop-test .left) (c .before .before .before .loop .inv))
 
 cast-result : tie.Need-cast-result Inv-loop μ-loop
 cast-result c = search needs
@@ -59,8 +51,7 @@ sub-result : tie.Need-sub-result Inv-loop μ-loop
 sub-result c = omega (arith, c .before .if1 .left)
 
 returns-2 : tie.Need-returns-2 Inv-loop μ-loop
-returns-2 c p j l some =
-    held-wins _ _ _ p _ _ (c .before .before .before .loop-test .left) (c .before .before .before .before .loop .inv) j l some .1
+returns-2 c = omega (arith, best-last _ _ _ _ (c .before .before .before .loop-test .left) (c .before .before .before .before .loop .inv))
 
 pub smallest-ratio-place-spec : {M : Type 1} → statement M
 smallest-ratio-place-spec =

@@ -1,0 +1,51 @@
+-- The first refusal of each call that matches, from what the tables call for, the head, lengths and the client table. Assumes
+-- nothing.
+use Prim.Native.Nat.{ℕ}
+use mathlib.Core.Bool.{not}
+use mathlib.Core.List.{List, [], _∷_}
+use lib.Dec.{eqb}
+use lib.ListN.{replicate}
+use Rattle.spec.specs.declared.types.Head.{Head}
+use Rattle.spec.specs.declared.types.Counts.{Counts}
+use Rattle.spec.specs.Tables.{zeroRequest, zeroCounts, State}
+use Rattle.spec.specs.Refusals.{Refusal, firstMatch, openRefusals, refusal6, refusal7, refusal8, refusal9, refusal10}
+use Rattle.spec.specs.Refusals.{refusal11, refusal12}
+
+-- what the tables call for, however it was found: a refusal of this number, none where it is 0
+abbrev pub ofTables : ℕ → Refusal
+ofTables tables = record { number = tables; holds = not (eqb tables 0) }
+
+-- a state with this head, so many waiting records and this client table: all that a call's own refusals ask of a state
+abbrev pub told : Head → ℕ → List Counts → State
+told head records cs = record { head = head; waitingTable = replicate records zeroRequest; clientTable = cs }
+
+-- what open is told: the numbers given, and the lengths of both tables
+abbrev pub openTold : ℕ → ℕ → ℕ → ℕ → State
+openTold clients period records accounts =
+    told (record { clients = clients; period = period; clock = 0; last = 0; waiting = 0 }) records (replicate accounts zeroCounts)
+
+unfoldable pub openMatch : ℕ → ℕ → ℕ → ℕ → ℕ
+openMatch clients period records accounts =
+    firstMatch (openRefusals clients period (openTold clients period records accounts))
+
+unfoldable pub submitMatch : ℕ → Head → ℕ → List Counts → ℕ → ℕ → ℕ
+submitMatch tables head records cs client deadline =
+    firstMatch
+    (ofTables tables
+    ∷ refusal6 client (told head records cs)
+    ∷ refusal7 deadline (told head records cs)
+    ∷ refusal8 client (told head records cs)
+    ∷ refusal9 (told head records cs)
+    ∷ refusal10 (told head records cs)
+    ∷ [])
+
+unfoldable pub tickMatch : ℕ → Head → ℕ
+tickMatch tables head = firstMatch (ofTables tables ∷ refusal11 (told head 0 []) ∷ [])
+
+unfoldable pub reportMatch : ℕ → Head → ℕ → ℕ
+reportMatch tables head client = firstMatch (ofTables tables ∷ refusal6 client (told head 0 []) ∷ [])
+
+-- by the length of the output
+unfoldable pub chartMatch : ℕ → Head → ℕ → ℕ
+chartMatch tables head entries =
+    firstMatch (ofTables tables ∷ refusal12 (replicate entries 0) (told head 0 []) ∷ [])
