@@ -1,5 +1,4 @@
 -- The passes over the records in a walk.
---     of-request       a request's type, with its laws
 --     reads            `table::get` on the function's first slice, at i: the record is in a local
 --     Turn             where a turn of a loop stands: how far the pass has come (`Reached`), and that the record before is in hand
 -- Assumes `Given`, and that the callee meets its contract.
@@ -26,21 +25,18 @@ use denote.Triple.Spec.{tripleOf}
 use Rattle.spec.specs.declared.types.Head.{Head}
 use Rattle.spec.specs.declared.types.Request.{Request}
 use Rattle.spec.specs.Tables.{zeroRequest}
-use Rattle.table.proofs.Rows.{R, mach, vals, tells, lawful, makes}
+use Rattle.table.proofs.Rows.{R, mach, vals, of-request}
 use Rattle.table.proofs.get as get
 use Rattle.walk.proofs.Enter.{Slice, so}
 use Rattle.walk.proofs.Locals.{held, Vars, vars}
 use Rattle.walk.proofs.At.{items, sourced, holes, passed-on}
 use Rattle.walk.proofs.Slices.Loans.{Param, Choices, Asked, keeps, machine, number}
 use Rattle.sound.specs.Checks.{Standing, recordBefore}
-use Rattle.sound.proofs.Walking.{Result, returned, Takes, asks-for}
+use Rattle.sound.proofs.Walking.{restored, Takes, asks-for}
 use Rattle.sound.proofs.Turns.{Reached}
 
 -- ---- a record read
 module _ {M : Type 1} {𝓤 : URA M} {H : Heap 𝓤} {A : Atoms 𝓤} (W : Given 𝓤 H A) where
-  abbrev pub of-request : Result W R
-  of-request = record { val = mach; tells = tells; lawful = lawful 𝓤 H A W; makes = makes 𝓤 H A W }
-
   abbrev pub Reading : {κ : Lft} {s : Share} (t : Slice R κ s) (i : ℕ) → i < length (t .list) → List (Param 𝓤 H A)
   Reading t i here = passed-on W t ∷ number W i (lt-trans here (t .room .0)) ∷ []
 
@@ -51,7 +47,7 @@ Get 𝓤 H A = tripleOf 𝓤 H A get.signature (get.spec 𝓤 H A (λ _. emp �
 module _ {M : Type 1} {𝓤 : URA M} {H : Heap 𝓤} {A : Atoms 𝓤} {K : Type 0} {W : Given 𝓤 H A} {Γ : List (Item 𝓤)} {E : Env 𝓤 H} {xs : List Operand} {q : Post 𝓤 H} {x : ℕ} {rest : Body} where
   pub reads : K → (𝓣 : Tables 𝓤 H) → Triple 𝓤 (𝓣 .C get.Symbol.name) (Get 𝓤 H A) → {κ : Lft} {s : Share} (t : Slice R κ s) (i : ℕ) (here : i < length (t .list))
       → let ps : List (Param 𝓤 H A) = Reading W t i here in
-      let Δ : List (Item 𝓤) = returned H A Γ (0 ∷ []) ps (tt, (tt, tt)) in
+      let Δ : List (Item 𝓤) = restored H A Γ (0 ∷ []) ps (tt, (tt, tt)) in
       items H A (0 ∷ []) Γ ≡ sourced H A ps → ((c : Choices ps) → Vars H A (raw (Asked ps c (fact 𝓤 (i < length (t .list)))) ∷ ‵ (keeps ps c) ∷ holes H A (0 ∷ []) Γ) E xs (machine ps)) → Takes H A Δ E x R
       → (Is R (getD (t .list) i zeroRequest) (vals (getD (t .list) i zeroRequest)) → Seq K W (held H A Δ E x (mach (getD (t .list) i zeroRequest))) (runs (𝓣 .C) (𝓣 .Λ) E rest q))
       → Seq K W Γ (runs (𝓣 .C) (𝓣 .Λ) E (seq (call get.Symbol.name xs (place x [])) rest) q)

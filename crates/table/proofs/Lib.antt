@@ -1,4 +1,3 @@
-pub mod Calls
 pub mod Ends
 pub mod Heads
 pub mod Laws

@@ -4,10 +4,10 @@ use Rattle.walk.proofs.Prelude.{_≡_, refl, not, ℕ, _<_, _≤_, _-_, lt-tran
 use Rattle.sound.proofs.Walking.{shown, uint, so, Shape, Walk, heard, var, gives, gives-within, branches-then, into-assign, skips-then, fit, proved, writes}
 use Rattle.spec.specs.declared.types.Request.{Request}
 use Rattle.spec.specs.Tables.{zeroRequest}
-use Rattle.table.proofs.Rows.{R, mach, lawful, zero-is}
+use Rattle.table.proofs.Rows.{R, of-request, mach, lawful, zero-is}
 use Rattle.table.proofs.get as get
 use Rattle.sound.specs.Checks.{recordBefore}
-use Rattle.sound.proofs.Calls.{of-request, Get, reads}
+use Rattle.sound.proofs.Calls.{Get, reads}
 use Rattle.sound.proofs.Turns.{comes-next}
 use Rattle.sound.proofs.Laws.{not-zero}
 use Rattle.sound.proofs.tables.previous as f

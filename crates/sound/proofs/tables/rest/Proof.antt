@@ -5,12 +5,12 @@ use Rattle.walk.proofs.Prelude.{refl, _∙_, _&&_, true, ℕ, _+_, _-_, lt-tran
 use Rattle.sound.proofs.Walking.{shown, lent, uint, boolean, so, Shape, Walk, heard, Lent-at, var, vars, field-var, relends, gives, passed-on, mut-of, tests, number, flag, fit, of-flag, iterates, proved, copies, computes, adds-last, asks, asks-for}
 use Rattle.spec.specs.declared.types.Request.{Request}
 use Rattle.spec.specs.Tables.{zeroRequest}
-use Rattle.table.proofs.Rows.{R, mach, lawful, request, deadline-fits}
+use Rattle.table.proofs.Rows.{R, of-request, mach, lawful, request, deadline-fits}
 use Rattle.table.proofs.Heads.{a-head, the-head}
 use Rattle.table.proofs.get as get
 use Rattle.sound.specs.Checks.{recordBefore, isNear}
 use Rattle.sound.proofs.Turns.{comes-next, sets-out, may-step, steps-on, asked-over}
-use Rattle.sound.proofs.Calls.{Get, of-request, reads, Turn, goes-on}
+use Rattle.sound.proofs.Calls.{Get, reads, Turn, goes-on}
 use Rattle.sound.proofs.record.is_near as is-near
 use Rattle.sound.proofs.tables.previous as previous
 use Rattle.sound.proofs.tables.step as step
