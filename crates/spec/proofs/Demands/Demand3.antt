@@ -109,8 +109,8 @@ largest-passing clients period s cs es a w h =
     largest-same (run (openOf clients period s .after) cs) w (largest-calls clients period s cs a (none-opened w h))
 
 -- "The list starts from the head and tables that an accepted open left, whatever its arguments and whatever lengths of table it took."
--- Arguments in the list are free, and it may be empty. Refused calls of every kind are in it, of those lent the queue's tables and of
--- others. "A later accepted open begins another list", so no open in it is accepted
+-- Arguments in the list are free, and it may be empty. Refused calls of every kind are in it, whether they were lent the queue's tables
+-- or others. "A later accepted open begins another list", so no open in it is accepted
 pub largest-plan : (clients period : ℕ) (s : State) (cs : List Call) (es : List Event)
     → isRefused (openOf clients period s .answer) ≡ false
     → WithRefused (history (openOf clients period s .after) cs) es
