@@ -20,7 +20,7 @@ use Rattle.session.specs.Parts.{Lent, Through, begins, goes}
 use Rattle.session_main.specs.declared.flow.Flow.{Flow}
 use Rattle.session_main.specs.declared.system.Got.{Got}
 use Rattle.session_main.specs.Flowing.{bufferLength, deliveredBy, isFailed, atFirst, afterRead, CanRead, ReadsOn, toWrite, GoesOn, Reserved, first, amount, AllDeliver, Delivers, Write, handedTo, AllWritten, Writes, Handed, Served}
-use Rattle.session_main.proofs.Answering.{at-most, failed-none}
+use Rattle.session_main.proofs.Reading.{at-most, failed-none}
 
 -- ---- an input of which more is read
 -- what was cut from it can still be cut from it

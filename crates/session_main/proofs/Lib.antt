@@ -1,5 +1,5 @@
-pub mod Answering
+pub mod Borrows
 pub mod Flows
-pub mod Lending
+pub mod Reading
 pub mod Turns
 pub mod Values

@@ -1,10 +1,12 @@
 -- What the program does between two parts of the input, and what it has then read, fed and handed to the write.
 --
--- Two lines of the program are outside of every proof, since no contract says what a system call does: in src/system.rt the call of
--- `read`, whose contract tells how much it may deliver and not that this is the next of standard input, and the call of `write_all`,
--- whose answer says whether all is written and whose contract says nothing. tests/src/bin/session.rs shows both: a program that
--- reads or writes something else, or less, fails its first session; one that takes a failed write or read for a good one fails in
--- `try_unread_answers` or `try_unreadable_inputs`. Assumes nothing.
+-- Two lines of the program are outside of every proof, since no contract says what a system call does; both are in src/system.rt.
+--     the call of `read`           how much it may deliver is in its contract; that this is what stands next in standard input is not
+--     the call of `write_all`      of what it writes and of its answer, whether all is written, its contract says nothing
+-- tests/src/bin/session.rs shows what they do. Each session of `CASES` fails where other characters are read or written than those,
+-- or where a good read or write is taken for a failed one; `try_unread_answers` and `try_nonblocking_output` fail where a failed
+-- write is taken for a good one, `try_unreadable_inputs` and `try_nonblocking_input` where a failed read is taken for the input's end.
+-- Assumes nothing.
 use Prim.Native.Nat.{ℕ, _+_, _-_, _≤_, _<_}
 use mathlib.Core.Bool.{Bool, true, false, not, cond, _&&_}
 use mathlib.Core.List.{List, [], _∷_, _++_}

@@ -752,10 +752,10 @@ fn start(command: Command) -> Child {
     start_to(command, Stdio::piped())
 }
 
-// Two ends, of which the second hands back an error where it would have to wait.
-fn half_hasty() -> (UnixStream, UnixStream) {
+// Two ends. The second is the program's: where it would have to wait, a read or a write of it fails.
+fn nonblocking_pair() -> (UnixStream, UnixStream) {
     let (ours, theirs) = or_fail("two sockets", UnixStream::pair());
-    or_fail("a socket that does not wait", theirs.set_nonblocking(true));
+    or_fail("two sockets", theirs.set_nonblocking(true));
     (ours, theirs)
 }
 
@@ -989,16 +989,16 @@ impl Program {
         }
     }
 
-    // The answers are read only when the program has ended, and it does not wait for that: those that had room came.
-    fn try_slow_reader(&mut self) {
+    // The answers are read only when the program has ended. Its write fails where it would have to wait; what came is the beginning.
+    fn try_nonblocking_output(&mut self) {
         let mut session = Session::default();
         many_ticks(&mut session);
         self.sessions += 1;
-        self.name("a slow reader", "through a socket that does not wait");
+        self.name("a slow reader", "no write waits");
         or_fail("the file for inputs", write(&self.scratch, session.lines.concat()));
         let mut command = self.command();
         command.stdin(or_fail("the file for inputs", File::open(&self.scratch)));
-        let (mut ours, theirs) = half_hasty();
+        let (mut ours, theirs) = nonblocking_pair();
         let child = start_to(command, OwnedFd::from(theirs));
         let ended = self.end(child);
         self.hold_said(UNWRITTEN, &ended);
@@ -1026,14 +1026,14 @@ impl Program {
         }
     }
 
-    // More of the input is to come, and the program does not wait for it.
-    fn try_hasty_reads(&mut self) {
+    // More of the input is to come. A read of it fails where it would have to wait.
+    fn try_nonblocking_input(&mut self) {
         for fill in [nothing, document, document_and_more] {
             let mut session = Session::default();
             fill(&mut session);
             self.sessions += 1;
-            self.name("more to come", "through a socket that does not wait");
-            let (mut ours, theirs) = half_hasty();
+            self.name("more to come", "no read waits");
+            let (mut ours, theirs) = nonblocking_pair();
             or_fail("the first part of the input", ours.write_all(&session.lines.concat()));
             let mut command = self.command();
             command.stdin(OwnedFd::from(theirs));
@@ -1065,9 +1065,9 @@ fn main() {
     program.try_last_lines();
     program.try_buffer_ends();
     program.try_unread_answers();
-    program.try_slow_reader();
+    program.try_nonblocking_output();
     program.try_unreadable_inputs();
-    program.try_hasty_reads();
+    program.try_nonblocking_input();
     println!(
         "{} sessions, run {} times: all as document 01 says",
         program.sessions, program.runs

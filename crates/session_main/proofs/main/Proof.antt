@@ -16,7 +16,7 @@ use Rattle.walk.proofs.Slices.Loans.{Param, loan, bound}
 use Rattle.walk.proofs.Slices.Arrays.{Held-array, array-lent, repeats}
 use Rattle.session.specs.Standing.{doFit}
 use Rattle.session_main.specs.Flowing.{bufferLength, Reserved}
-use Rattle.session_main.proofs.Lending.{lends-slice, zeros, zeros-long, zeroes, all-zeros, ends-array}
+use Rattle.session_main.proofs.Borrows.{lends-slice, zeros, zeros-long, zeroes, all-zeros, ends-array}
 use Rattle.session_main.proofs.Values.{FlowT, flow-val, flow-tells, flow-lawful, the-flow}
 use Rattle.session_main.proofs.serve as serve
 use Rattle.session_main.proofs.flow.say_why as say-why

@@ -19,7 +19,7 @@ use Rattle.frame.specs.Written.{mostBytes}
 use Rattle.table.proofs.Rows.{R}
 use Rattle.session.proofs.Values.{FedT, fed-lawful}
 use Rattle.session_main.specs.Flowing.{bufferLength, Reserved}
-use Rattle.session_main.proofs.Lending.{points, lends-slice, front-of}
+use Rattle.session_main.proofs.Borrows.{points, lends-slice, front-of}
 use Rattle.session_main.proofs.Values.{FlowT, flow-val, flow-vals, flow-tells, flow-lawful, flow-makes, have-fits, the-flow, the-session, the-fed}
 use Rattle.session_main.proofs.Flows.{flows-begin, can-read, reads-on, fed-within, feeds-through, flows-end}
 use Rattle.session_main.proofs.Turns.{Turns, Nearer, Nearer-wf, as-long, none-left}

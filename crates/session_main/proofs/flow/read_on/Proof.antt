@@ -5,7 +5,7 @@ use mathlib.Core.Path.{refl, sym, subst}
 use native.Mathlib.Omega.{arith}
 use borrow.Author.Needs.{needs}
 use Rattle.session_main.specs.Flowing.{bufferLength, ReadsOn}
-use Rattle.session_main.proofs.Answering.{at-most}
+use Rattle.session_main.proofs.Reading.{at-most}
 use Rattle.session_main.proofs.flow.read_on.Statement.{statement}
 use Rattle.session_main.proofs.flow.read_on.Tie as tie
 
