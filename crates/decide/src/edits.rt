@@ -35,15 +35,15 @@ fn drop_edit(records: usize, place: usize, victim: usize) -> Edit
 fn serve_edit(records: usize, head: Head) -> Edit
     ensures { λ r. ⌜ r ≡ serveEdit records (head .waiting) ⌝ }
 {
-    if head.waiting == 0 {
+    if 0 < head.waiting {
         return Edit {
-            out: records,
-            at: 0,
+            out: 0,
+            at: head.waiting as usize - 1,
         };
     }
     Edit {
-        out: 0,
-        at: head.waiting as usize - 1,
+        out: records,
+        at: 0,
     }
 }
 
