@@ -1,11 +1,13 @@
 -- What the program does between two parts of the input, and what it has then read, fed and handed to the write.
 --
--- Two lines of the program are outside of every proof, since no contract says what a system call does; both are in src/system.rt.
+-- Three lines of the program are outside of every proof, since no contract says what a system call does; all are in src/system.rt.
 --     the call of `read`           how much it may deliver is in its contract; that this is what stands next in standard input is not
 --     the call of `write_all`      of what it writes and of its answer, whether all is written, its contract says nothing
+--     its other call, in `say`     the line on standard error where the program cannot go on
 -- tests/src/bin/session.rs shows what they do. Each session of `CASES` fails where other characters are read or written than those,
 -- or where a good read or write is taken for a failed one; `try_unread_answers` and `try_nonblocking_output` fail where a failed
 -- write is taken for a good one, `try_unreadable_inputs` and `try_nonblocking_input` where a failed read is taken for the input's end.
+-- These four also fail where another line is said, or none.
 -- Assumes nothing.
 use Prim.Native.Nat.{ℕ, _+_, _-_, _≤_, _<_}
 use mathlib.Core.Bool.{Bool, true, false, not, cond, _&&_}
