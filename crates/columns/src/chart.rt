@@ -45,7 +45,7 @@ pub struct Run {
     pub next: usize,
 }
 
-// The segment that begins with the interval of the start slot at the index i: it has as many of them as slots.
+// The segment that begins with the interval of the start slot at the index i: it spans as many start slots as it has slots.
 pub fn segment_at(starts: &[u64], n: usize, i: usize) -> Run
     requires { ⌜ (i < n) × (n ≤ length (now starts)) × ((k : ℕ) → k < n → getD (now starts) k 0 < largest64) ⌝ }
     ensures { λ r. ⌜

@@ -5,7 +5,7 @@ use spec::types::Head;
 use spec::types::Request;
 ghost use mathlib.Core.Path.{_≡_};
 ghost use mathlib.Core.Bool.{cond};
-ghost use Prim.Native.Nat.{_<_};
+ghost use Prim.Native.Nat.{_-_, _<_};
 ghost use lib.Dec.{eqb};
 ghost use Rattle.decide.specs.Replies.{dropEdit, serveEdit, editOf, raised, numberedRequest};
 
@@ -31,20 +31,30 @@ fn drop_edit(records: usize, place: usize, victim: usize) -> Edit
     }
 }
 
+// What a tick that serves takes out of a table of so many records: the first, where one waits.
+fn served_place(records: usize, head: Head) -> usize
+    ensures { λ r. ⌜ r ≡ cond (eqb (head .waiting) 0) records 0 ⌝ }
+{
+    if 0 < head.waiting { 0 } else { records }
+}
+
+// The place behind all that still wait when one is served.
+fn last_place(head: Head) -> usize
+    ensures { λ r. ⌜ r ≡ head .waiting - 1 ⌝ }
+{
+    if head.waiting == 0 {
+        return 0;
+    }
+    head.waiting as usize - 1
+}
+
 // The first record goes out, and another goes in behind those that wait; where none waits, nothing changes.
 fn serve_edit(records: usize, head: Head) -> Edit
     ensures { λ r. ⌜ r ≡ serveEdit records (head .waiting) ⌝ }
 {
-    if 0 < head.waiting {
-        return Edit {
-            out: 0,
-            at: head.waiting as usize - 1,
-        };
-    }
-    Edit {
-        out: records,
-        at: 0,
-    }
+    let out = served_place(records, head);
+    let at = last_place(head);
+    Edit { out, at }
 }
 
 // The change of a table of so many records, of which the first ones wait. A change that leaves the table as it is takes out

@@ -1,4 +1,5 @@
--- Lists of calls of the library: each is handed the head and the tables that the one before handed back. Assumes nothing.
+-- Lists of calls of the library: each is handed the head and the tables that the one before handed back, but for refused calls that were
+-- lent others. Assumes nothing.
 use Prim.Native.Nat.{ℕ}
 use mathlib.Core.Path.{_≡_}
 use mathlib.Core.Bool.{true}

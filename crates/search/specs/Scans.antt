@@ -36,8 +36,8 @@ halved (suc looks) xs d low high =
 abbrev pub placeBy : List ℕ → ℕ → ℕ → ℕ
 placeBy xs n d = halved n xs d 0 n
 
--- "Candidates .. are exactly those with deadlines up to the smallest overfull one": of n waiting requests those that are due by it;
--- none where no deadline is overfull
+-- "These are exactly those with deadlines up to the smallest overfull one": how many of n waiting requests are marked as candidates,
+-- those that are due by it, and never more than wait; none has to be marked where no deadline is overfull
 abbrev pub candidateCount : ℕ → ℕ → ℕ → ℕ
 candidateCount n due found = cond (eqb found 0) 0 (min due n)
 

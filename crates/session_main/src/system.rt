@@ -26,8 +26,9 @@ pub(crate) fn read_behind(buffer: &mut [u8], have: usize) -> Got
     requires { ⌜ (length (now buffer) ≡ bufferLength) × (have < bufferLength) ⌝ }
     ensures { λ r. ⌜ ReadBehind have (now (buffer .entry)) (now (buffer .exit)) r ⌝ }
 {
-    let answer = libc::read(STDIN_FILENO, &mut buffer[have..]);
-    Got { answer }
+    Got {
+        answer: libc::read(STDIN_FILENO, &mut buffer[have..]),
+    }
 }
 
 pub(crate) fn delivered(got: Got) -> usize
@@ -51,8 +52,10 @@ pub(crate) fn write_front(out: &[u8], n: usize) -> Receipt
     requires { ⌜ (mostBytes ≤ length (now out)) × (n ≤ length (now out)) ⌝ }
     ensures { λ r. ⌜ r .asked ≡ n ⌝ }
 {
-    let written = io::write_all(STDOUT_FILENO, &out[..n]);
-    Receipt { asked: n, written }
+    Receipt {
+        asked: n,
+        written: io::write_all(STDOUT_FILENO, &out[..n]),
+    }
 }
 
 pub(crate) fn is_written(receipt: Receipt) -> bool
@@ -61,7 +64,7 @@ pub(crate) fn is_written(receipt: Receipt) -> bool
     receipt.written
 }
 
-// A line to whoever runs the program.
+// Says a line to whoever runs the program.
 pub(crate) fn say(line: &[u8]) {
     io::write_all(STDERR_FILENO, line);
 }

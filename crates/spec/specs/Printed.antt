@@ -1,15 +1,16 @@
 -- What is read off a session's input and the lines that it prints: its calls with their answers, and the list of them since the last
 -- accepted open. Document 01, "Session lines" and "Lists and plans". Assumes nothing.
 use Prim.Native.Nat.{ℕ}
-use mathlib.Core.Bool.{Bool, not, cond}
+use mathlib.Core.Bool.{Bool, true, not, cond}
 use mathlib.Core.List.{List, [], _∷_, _++_, map}
+use mathlib.Core.Path.{_≡_}
 use lib.Dec.{eqb}
 use Rattle.spec.specs.declared.types.Answer.{Answer}
 use Rattle.spec.specs.declared.types.Answer.the-variants.{Opened, Kept, Dropped, Served, Idle, Reported, Charted, Refused}
 use Rattle.spec.specs.declared.types.Frame.{Frame}
 use Rattle.spec.specs.declared.types.Frame.the-variants.{Open, Submit, Tick, Report, Chart, Bad}
 use Rattle.spec.specs.Every.{select}
-use Rattle.spec.specs.Lists.{Call, opening, submit, tick, report, chart, Event, isOpened}
+use Rattle.spec.specs.Lists.{Call, opening, submit, tick, report, chart, Event, isRefused, isOpened}
 use Rattle.spec.specs.Frames.{fieldAt, frameOf}
 use Rattle.spec.specs.Session.{textOf, blank}
 
@@ -65,11 +66,26 @@ eventsFrom es (line ∷ lines) (a ∷ answers) = eventsFrom (eventsBy (frameOf l
 unfoldable pub eventsIn : List ℕ → List ℕ → List Event
 eventsIn input output = eventsFrom [] (textOf input .lines) (answersIn (textOf output .lines))
 
+-- how many lines are begun behind the last line feed
+abbrev pub unended : List ℕ → ℕ
+unended [] = 0
+unended (b ∷ bs) = 1
+
 -- ---- the list
 -- "A later accepted open begins another list.": the events since the last accepted open
 unfoldable pub sinceOpen : List Event → List Event
 sinceOpen [] = []
 sinceOpen (e ∷ es) = cond (isOpened e) [] (e ∷ sinceOpen es)
+
+-- the list that is read off, beside the calls that were lent the session's tables, with the answers that they got: it has also refused
+-- calls, as the open that names too many records and "gets refusal 4 in its place", and charts, whose printed count is that of segments
+pub data AsPrinted : List Event → List Event → Type 0 where
+  empty : AsPrinted [] []
+  own : {es fs : List Event} (e : Event) → AsPrinted es fs → AsPrinted (e ∷ es) (e ∷ fs)
+  refused : {es fs : List Event} (e : Event) → isRefused (e .answer) ≡ true → AsPrinted es fs → AsPrinted es (e ∷ fs)
+  charted :
+      {es fs : List Event} (count : ℕ) → AsPrinted es fs
+      → AsPrinted es (record { call = chart blank; answer = Charted count } ∷ fs)
 
 -- the period that this open set, for the counts
 abbrev pub periodBy : Call → ℕ

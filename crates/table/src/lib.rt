@@ -44,7 +44,7 @@ pub fn exchange(t: &mut [Request], out: usize, at: usize, r: Request) -> Request
     gone
 }
 
-// A record that is zero.
+// The record that stands where none waits: its fields are zero.
 pub fn zero() -> Request
     ensures { λ r. ⌜ r ≡ zeroRequest ⌝ }
 {
@@ -68,7 +68,7 @@ pub fn clear(t: &mut [Request], n: usize)
     }
 }
 
-// A record's deadline written.
+// The deadline of w becomes the entry at i.
 fn put_deadline(xs: &mut [u64], i: usize, w: Request)
     requires { ⌜ i < length (now xs) ⌝ }
     ensures { λ _. ⌜ now (xs .exit) ≡ set (now (xs .entry)) i (w .deadline) ⌝ }

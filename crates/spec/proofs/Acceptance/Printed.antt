@@ -5,10 +5,10 @@ use mathlib.Core.Path.{_≡_, refl}
 use mathlib.Core.Bool.{Bool, true}
 use mathlib.Core.List.{List, [], _∷_, _++_, map}
 use Rattle.spec.specs.declared.types.Answer.{Answer}
-use Rattle.spec.specs.declared.types.Answer.the-variants.{Kept, Dropped, Served, Charted, Refused}
+use Rattle.spec.specs.declared.types.Answer.the-variants.{Kept, Dropped, Served, Reported, Charted, Refused}
 use Rattle.spec.specs.Every.{exists, select}
 use Rattle.spec.specs.Calls.{chartOutput}
-use Rattle.spec.specs.Lists.{Call, opening, submit, tick, chart, Event, isOpened, ticks, Asked, asked, bookings, victims}
+use Rattle.spec.specs.Lists.{Call, opening, submit, tick, report, chart, Event, isOpened, ticks, Asked, asked, bookings, victims}
 use Rattle.spec.specs.Lists.{servedRequests, waitingRequests}
 use Rattle.spec.specs.Frames.{digitOf, characterOf, numberFrom, digits, frameWith, frameOf, field, kindOf, valuesOf, fieldDigits}
 use Rattle.spec.specs.Frames.{lineOf, segmentLines}
@@ -36,6 +36,7 @@ input =
     ++ submitLine 1 1
     ++ lineOf 0x05 []
     ++ lineOf 0x03 []
+    ++ lineOf 0x04 (field 2 1 ∷ [])
     ++ digits 2 0x03
 
 -- ---- what is read off it
@@ -68,7 +69,8 @@ expected =
       opened = true;
       period = 100;
       list =
-          answered tick (Served 0 1 0)
+          answered (report 1) (Reported 1 2 0 1 1)
+          ∷ answered tick (Served 0 1 0)
           ∷ answered (chart blank) (Charted 1)
           ∷ answered (submit 1 1) (Dropped 3 3 1)
           ∷ answered (opening 2 100) (Refused 4)

@@ -1,5 +1,6 @@
 -- The refusals of each call in their order, as one table that is checked by one theorem: at first every condition of the call holds,
--- and each row takes the first of them away, up to an accepted call. Each row lists the conditions that hold. Assumes nothing.
+-- and each row takes the first of them away, but for submit's second (see there), up to an accepted call. Each row lists the conditions that
+-- hold. Assumes nothing.
 use Prim.Native.Nat.{ℕ}
 use mathlib.Core.Path.{_≡_, refl}
 use mathlib.Core.List.{List, [], _∷_, map}
@@ -52,7 +53,7 @@ rows =
     ∷ row (opening 1 10) (state 0 0 0 [] (oneClient 0 0 0)) (4 ∷ []) (Refused 4)
     ∷ row (opening 1 10) (state 0 0 0 full (oneClient 0 0 0)) [] Opened
     -- 8 holds beside 6 only where the client table is too long, for else a client that does not exist has no record; 10 holds beside 4
-    -- only where the waiting count is not too large. So 4 is given in two rows, and 8 comes back when 6 is taken away
+    -- only where the waiting count is not too large. So 4 is given in two rows; 10 comes back when 4 is taken away, and 8 when 6 is
     ∷ row (submit 9 0) (state clockEnd numberEnd 1 full (replicate 10 (counts mostCounted 0 0))) (4 ∷ 5 ∷ 6 ∷ 7 ∷ 8 ∷ 9 ∷ 10 ∷ [])
     (Refused 4)
     ∷ row (submit 9 0) (state clockEnd numberEnd 2 full (oneClient mostCounted 0 0)) (4 ∷ 5 ∷ 6 ∷ 7 ∷ 9 ∷ []) (Refused 4)

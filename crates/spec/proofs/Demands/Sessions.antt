@@ -10,12 +10,13 @@ use Rattle.spec.specs.Tables.{State}
 use Rattle.spec.specs.Calls.{openOf}
 use Rattle.spec.specs.Lists.{Call, run, Event, history, isRefused, isOpened}
 use Rattle.spec.specs.Session.{textOf, session, sessionState}
-use Rattle.spec.specs.Printed.{answersIn, eventsIn, sinceOpen, periodSet}
+use Rattle.spec.specs.Printed.{answersIn, eventsIn, sinceOpen, periodSet, unended}
+use Rattle.spec.proofs.Demands.Words.{FromOpen}
 use Rattle.spec.proofs.Demands.Demand1.{CountsGiven, counts-passing}
 use Rattle.spec.proofs.Demands.Demand3.{Largest, largest-passing}
 use Rattle.spec.proofs.Lists.Passing.{WithPassing}
-use Rattle.spec.proofs.Lines.Printed.{unended, session-answered}
-use Rattle.spec.proofs.Lines.SinceOpen.{since-opened}
+use Rattle.spec.proofs.Lines.Printed.{session-answered}
+use Rattle.spec.proofs.Lines.SinceOpen.{since-opened, printed-pass}
 
 -- "One frame a line": each line gets one answer, and so does "a last line without its line feed"
 pub each-answered : (input : List ℕ)
@@ -30,6 +31,12 @@ module _ (input : List ℕ) (opened : exists isOpened (eventsIn input (session i
   abbrev period : ℕ
   period = periodSet (eventsIn input (session input))
 
+  -- the frames since the last accepted open, with their answers, are a list of calls from an accepted open on, as a session prints it:
+  -- each submit, tick and report in it has the answer that its definition gives
+  pub session-list :
+      FromOpen (periodSet (eventsIn input (session input))) (sinceOpen (eventsIn input (session input))) (sessionState input)
+  session-list = since-opened input opened
+
   -- what holds of every list from an accepted open on holds of the session's
   of-session : (Φ : State → Type 0)
       → ((clients : ℕ) (before : State) (cs : List Call) → isRefused (openOf clients period before .answer) ≡ false
@@ -37,15 +44,15 @@ module _ (input : List ℕ) (opened : exists isOpened (eventsIn input (session i
       → Φ (run (openOf clients period before .after) cs))
       → Φ (sessionState input)
   of-session Φ f =
-      let F = since-opened input opened in
-      subst Φ (F .state) (f (F .clients) (F .before) (F .calls) (F .accepted) (F .passed) (F .none-opened))
+      let F = session-list in
+      subst Φ (F .state) (f (F .clients) (F .before) (F .calls) (F .accepted) (printed-pass (F .printed)) (F .none-opened))
 
   -- "For every list of calls from open on, served plus waiting is as many as the largest plan has, even one made by somebody who knew
   -- the whole list beforehand.": the list is what the input and the printed lines show since the last accepted open
   pub session-largest : Largest (sinceOpen (eventsIn input (session input))) (sessionState input)
   session-largest = of-session (Largest list) (λ clients before cs. largest-passing clients period before cs list)
 
-  -- To be shut out: "counts in a report that the calls since open do not give"
+  -- To be shut out: "counts in a report that the calls since open do not give": the counts, and what a report then gives
   pub session-counts :
       CountsGiven (periodSet (eventsIn input (session input))) (sinceOpen (eventsIn input (session input))) (sessionState input)
   session-counts =

@@ -13,7 +13,10 @@ use Rattle.spec.specs.Tables.{State, deadlinesOf}
 use Rattle.spec.specs.Chart.{capacityOf, Segment}
 use Rattle.spec.specs.Refusals.{Refusal, openRefusals, submitRefusals, tickRefusals, reportRefusals, chartRefusals}
 use Rattle.spec.specs.Frames.{Field}
-use Rattle.spec.specs.Lists.{Asked, Call, opening, submit, tick, report, chart}
+use Rattle.spec.specs.Calls.{openOf}
+use Rattle.spec.specs.Every.{exists}
+use Rattle.spec.specs.Lists.{Asked, Call, opening, submit, tick, report, chart, run, Event, history, isRefused, isOpened}
+use Rattle.spec.specs.Printed.{AsPrinted}
 
 -- ---- refusals
 -- the call's refusals, in the paper's order
@@ -90,6 +93,16 @@ pub record LongestRuns (starts : List ℕ) (gs : List Segment) : Type 0 where
 abbrev pub Numbered : List Asked → Type 0
 Numbered [] = Unit {0}
 Numbered (a ∷ rs) = (a .request .number ≡ suc (length rs)) × Numbered rs
+
+-- from an accepted open on, calls that are lent the queue's tables lead to the state s; es is the list of them as a session prints it
+pub record FromOpen (period : ℕ) (es : List Event) (s : State) : Type 0 where
+  pub clients : ℕ
+  pub before : State
+  pub calls : List Call
+  pub accepted : isRefused (openOf clients period before .answer) ≡ false
+  pub printed : AsPrinted (history (openOf clients period before .after) calls) es
+  pub none-opened : exists isOpened es ≡ false
+  pub state : run (openOf clients period before .after) calls ≡ s
 
 -- ---- lines
 -- a value has no more bytes than its field

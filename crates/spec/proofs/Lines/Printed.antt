@@ -20,7 +20,7 @@ use Rattle.spec.specs.Lists.{opening, submit, tick, report, chart, outco
 use Rattle.spec.specs.Frames.{lineFeed, numberFrom, digits, Field, field, kindOf, valuesOf, fieldDigits, lineOf, answerLine}
 use Rattle.spec.specs.Frames.{segmentLines, frameOf}
 use Rattle.spec.specs.Session.{Text, textOf, atStart, lent, blank, chartBytes, reply, replies, atEnd, session}
-use Rattle.spec.specs.Printed.{answerWith, kindIn, answersIn}
+use Rattle.spec.specs.Printed.{answerWith, kindIn, answersIn, unended}
 use Rattle.spec.proofs.Demands.Words.{FitsField}
 use Rattle.spec.proofs.Laws.Accepted.{chart-ready, waiting-length}
 use Rattle.spec.proofs.Calls.Refused.{accepted-same, accepted-none}
@@ -210,11 +210,6 @@ lines-answered [] s ys = omega arith
 lines-answered (line ∷ lines) s ys =
     ap length (line-answered line lines s ys)
     ∙ omega (arith, lines-answered lines (reply (frameOf line) s .after) ys)
-
--- how many lines stand behind the last line feed
-abbrev pub unended : List ℕ → ℕ
-unended [] = 0
-unended (b ∷ bs) = 1
 
 end-answered : (rest : List ℕ) → length (answersOf (atEnd rest)) ≡ unended rest
 unfolding textOf answersIn select valuesOf

@@ -17,22 +17,22 @@ use Rattle.spec.specs.Lists.{isOpenCall, isOpened}
 use Rattle.spec.specs.Frames.{frameOf}
 use Rattle.spec.specs.Session.{textOf, atStart, lent, blank, reply, replies, stateAfter, atEnd, session, sessionState}
 use Rattle.spec.specs.Printed.{callsBy, eventsBy, eventsFrom, eventsIn, sinceOpen, periodSet}
-use Rattle.spec.proofs.Lists.Trace.{event, Passing}
+use Rattle.spec.specs.Printed.{AsPrinted, empty, own, refused, charted}
+use Rattle.spec.proofs.Demands.Words.{FromOpen}
+use Rattle.spec.proofs.Lists.Trace.{event}
 use Rattle.spec.proofs.Lists.Passing.{WithPassing, nothing, also, passing, refused-event}
 use Rattle.spec.proofs.Lines.Printed.{answersOf, segmentsIn, answerTo, line-answered}
 
--- from an accepted open on, the calls that are lent the queue's tables lead to the state; es has such events among them that change
--- nothing
-pub record FromOpen (period : ℕ) (es : List Event) (s : State) : Type 0 where
-  pub clients : ℕ
-  pub before : State
-  pub calls : List Call
-  pub accepted : isRefused (openOf clients period before .answer) ≡ false
-  pub passed : WithPassing (history (openOf clients period before .after) calls) es
-  pub none-opened : exists isOpened es ≡ false
-  pub state : run (openOf clients period before .after) calls ≡ s
+-- nothing that is read off the list depends on what it has beside those calls
+pub printed-pass : {es fs : List Event} → AsPrinted es fs → WithPassing es fs
+printed-pass empty = nothing
+printed-pass (own e p) = also e (printed-pass p)
+printed-pass (refused e r p) = passing e (refused-event (e .call) (e .answer) r) (printed-pass p)
+printed-pass (charted count p) =
+    passing (event (chart blank) (Charted count))
+    (record { no-tick = refl; none-asked = λ clock. refl; none-served = refl; none-dropped = refl }) (printed-pass p)
 
--- so it is with all events since the last accepted open, where there is one
+-- all events since the last accepted open are such a list, where there is one
 abbrev pub SinceOpened : List Event → State → Type 0
 SinceOpened es s = exists isOpened es ≡ true → FromOpen (periodSet es) (sinceOpen es) s
 
@@ -56,7 +56,7 @@ module _ (es : List Event) (s : State) (so-far : SinceOpened es s) where
         before = F .before;
         calls = c ∷ F .calls;
         accepted = F .accepted;
-        passed = rw (F .state) (also e (F .passed));
+        printed = rw (F .state) (own e (F .printed));
         none-opened = rw none (F .none-opened);
         state = ap (λ (t : State). outcomeOf c t .after) (F .state);
       })
@@ -67,8 +67,10 @@ module _ (es : List Event) (s : State) (so-far : SinceOpened es s) where
       none : isOpened e ≡ false
       none = rw n
 
-  -- an event that asks for nothing, serves nothing and drops nothing
-  event-goes-on : (e : Event) → isOpened e ≡ false → Passing e → SinceOpened (e ∷ es) s
+  -- an event beside those calls
+  event-goes-on : (e : Event) → isOpened e ≡ false
+      → ((ds fs : List Event) → AsPrinted ds fs → AsPrinted ds (e ∷ fs))
+      → SinceOpened (e ∷ es) s
   unfolding exists
   event-goes-on e n p =
       goes-on e s n
@@ -78,7 +80,7 @@ module _ (es : List Event) (s : State) (so-far : SinceOpened es s) where
         before = F .before;
         calls = F .calls;
         accepted = F .accepted;
-        passed = passing e p (F .passed);
+        printed = p _ _ (F .printed);
         none-opened = rw n (F .none-opened);
         state = F .state;
       })
@@ -95,7 +97,7 @@ module _ (es : List Event) (s : State) (so-far : SinceOpened es s) where
 
       go : (b : Bool) → isRefused a ≡ b
           → SinceOpened (event (opening clients period) a ∷ es) (cond b s (openOf clients period before .after))
-      go true r = event-goes-on (event (opening clients period) a) (rw r) (refused-event (opening clients period) a r)
+      go true r = event-goes-on (event (opening clients period) a) (rw r) (λ ds fs. refused (event (opening clients period) a) r)
       go false r =
           λ h.
           rw r (record {
@@ -103,21 +105,23 @@ module _ (es : List Event) (s : State) (so-far : SinceOpened es s) where
             before = before;
             calls = [];
             accepted = r;
-            passed = nothing;
+            printed = empty;
             none-opened = refl;
             state = refl;
           })
 
   -- chart: whatever it answers, the state stays
   chart-goes-on : SinceOpened (event (chart blank) (answerTo Chart s) ∷ es) s
-  chart-goes-on = event-goes-on (event (chart blank) (answerTo Chart s)) refl (go (isRefused a) refl)
+  chart-goes-on = go (isRefused a) refl
     where
       a : Answer
       a = chartOf blank s .answer
 
-      go : (b : Bool) → isRefused a ≡ b → Passing (event (chart blank) (cond b a (Charted (length (segmentsIn s)))))
-      go true r = refused-event (chart blank) a r
-      go false r = record { no-tick = refl; none-asked = λ clock. refl; none-served = refl; none-dropped = refl }
+      go : (b : Bool) → isRefused a ≡ b
+          → SinceOpened (event (chart blank) (cond b a (Charted (length (segmentsIn s)))) ∷ es) s
+      go true r = event-goes-on (event (chart blank) a) refl (λ ds fs. refused (event (chart blank) a) r)
+      go false r =
+          event-goes-on (event (chart blank) (Charted (length (segmentsIn s)))) refl (λ ds fs. charted (length (segmentsIn s)))
 
   frame-goes-on : (frame : Frame) → SinceOpened (eventsBy frame (answerTo frame s) ++ es) (reply frame s .after)
   unfolding callsBy reply outcomeOf
