@@ -7,8 +7,8 @@
 -- Assumes nothing.
 use prog.Routine.{Env}
 use Rattle.walk.proofs.Prelude.{_≡_, List, _∷_, URA, Name, Fn, SProp, Memory, Model, Routine, Heap, Atoms, Fun, GhostRules, Running, givenOf, Given, u64, Clauses, tripleOf, Contract, Triple}
+use Rattle.walk.proofs.Prelude.{Shape}
 use Rattle.walk.proofs.Enter.{Kind, Lies, endedOf}
-use Rattle.walk.proofs.Proves.{Shape}
 use Rattle.exports.proofs.numbers.head_of as head-of
 use Rattle.exports.proofs.numbers.write_head as write-head
 use Rattle.exports.proofs.numbers.write_values as write-values

@@ -2,25 +2,18 @@
 -- whose definition is `of`, and meets the contract that each of the two has at its callee. A walk of four calls.
 -- Assumes `Given`, and that each callee meets its contract.
 use mir.Syntax.{Opd}
-use types.Kit.{drop}
-use denote.Plain.{nothing-lawful, nothing-tells}
-use Rattle.walk.proofs.Prelude.{ℕ, suc, refl, List, [], _∷_, URA, Name, Ty, Mutability, named, erased, imm, mut, w32, w64, tyInt, tyUnit, tyRef, Fn, Local, local, valueLocal, place, field, deref, copy, Body, seq, assign, addrOf, aggregate, call, return}
-use Rattle.walk.proofs.Prelude.{vint, vunit, SProp, emp, Memory, Routine, Heap, Tables, Atoms, Fun, fact, Given, _$_, !, FmC, fmOf, lone, pointee, Nothing, uint-makes, u32, u64, now, sliceTy, tripleOf, Clauses, closing}
+use Rattle.walk.proofs.Prelude.{ℕ, suc, refl, List, [], _∷_, URA, Name, Ty, Mutability, named, erased, imm, mut, w32, w64, tyInt, tyUnit, tyRef, Fn, Local, local, valueLocal, place, field, deref, copy, Body, seq, assign, addrOf, aggregate, call, return, vint, SProp, emp, Memory, Routine, Heap, Tables, Atoms, Fun, fact, Given, _$_, !, FmC, fmOf, lone, pointee, u32, u64, now, sliceTy, tripleOf, Clauses, closing, id⊢}
+use Rattle.walk.proofs.Prelude.{drop, number, lent, taken, so, Shape, Walk, vars, relends, gives, made, of-number, of-nothing, calls-for, given, mut-own, shr-own}
 use Rattle.spec.specs.Tables.{State}
 use Rattle.spec.specs.Calls.{Outcome}
 use Rattle.columns.specs.Columns.{stateOf}
 use Rattle.queue.specs.Gives.{Gives}
 use Rattle.exports.specs.Numbers.{headOf, Exported}
 use Rattle.table.proofs.Rows.{R}
-use Rattle.table.proofs.Heads.{HeadT, the-head, head-val, head-tells, head-lawful}
-use Rattle.walk.proofs.Slices.Loans.{Param, number, bound}
-use Rattle.queue.proofs.Values.{ReplyT, reply-lawful, the-reply}
+use Rattle.table.proofs.Heads.{HeadT, the-head, a-head}
+use Rattle.queue.proofs.Values.{ReplyT, a-reply}
 use Rattle.exports.proofs.Calls.{Exports, WriteHead}
 use Rattle.exports.proofs.Exporting.{exports-given}
-use Rattle.walk.proofs.Enter.{lent, uint, so}
-use Rattle.walk.proofs.Proves.{Shape, Walk}
-use Rattle.walk.proofs.Locals.{vars, relends, gets, gets-told, gets-number, gives}
-use Rattle.walk.proofs.At.{shr-of, mut-of, calls-now}
 use Rattle.queue.proofs.open as library
 use Rattle.exports.proofs.numbers.head_of as head-of
 use Rattle.exports.proofs.numbers.write_head as write-head
@@ -32,8 +25,8 @@ abbrev held : Ty → Local
 held T = local T valueLocal
 
 -- a parameter that is a slice, and the two locals by which a slice is lent again
-abbrev given : ℕ → Ty → Local
-given i T = held (sliceTy (tyRef (named i) mut T))
+abbrev passed : ℕ → Ty → Local
+passed i T = held (sliceTy (tyRef (named i) mut T))
 
 abbrev again : Mutability → Ty → List Local → List Local
 again m T ls = held (tyRef erased m T) ∷ held (sliceTy (tyRef erased m T)) ∷ ls
@@ -52,8 +45,8 @@ module _ (callee : Name) (of : ℕ → ℕ → State → Outcome) where
     outlives = [];
     params = 8;
     locals =
-        held (tyInt w64) ∷ given 0 (tyInt w64) ∷ given 1 (pointee (R .written)) ∷ given 2 (tyInt w32) ∷ given 3 (tyInt w32) ∷ given 4 (tyInt w32)
-        ∷ held (tyInt w64) ∷ held (tyInt w64) ∷ given 5 (tyInt w64) ∷ held (lone (HeadT .mir)) ∷ held (lone (ReplyT .mir))
+        held (tyInt w64) ∷ passed 0 (tyInt w64) ∷ passed 1 (pointee (R .written)) ∷ passed 2 (tyInt w32) ∷ passed 3 (tyInt w32) ∷ passed 4 (tyInt w32)
+        ∷ held (tyInt w64) ∷ held (tyInt w64) ∷ passed 5 (tyInt w64) ∷ held (lone (HeadT .mir)) ∷ held (lone (ReplyT .mir))
         ∷ again imm (tyInt w64) (again mut (pointee (R .written)) (again mut (tyInt w32) (again mut (tyInt w32) (again mut (tyInt w32) (held tyUnit ∷ again mut (tyInt w64) (again mut (tyInt w64) []))))));
     body =
         lend 1 (tyInt w64) 11 (seq (call head-of.Symbol.name (at 12 ∷ []) (place 9 []))
@@ -83,32 +76,24 @@ module _ (callee : Name) (of : ℕ → ℕ → State → Outcome) where
   module _ {M : Type 1} (𝓤 : URA M) (H : Heap 𝓤) (A : Atoms 𝓤) (W : Given 𝓤 H A) (mem : Memory → SProp 𝓤) (run : Routine → Fun 𝓤) where
     abbrev pub shape : Shape W
     shape =
-        Exports W mem run (lent u64 ∷ lent R ∷ lent u32 ∷ lent u32 ∷ lent u32 ∷ uint W w64 ∷ uint W w64 ∷ lent u64 ∷ []) (exported 𝓤) thin (λ κs a. refl)
+        Exports W mem run (lent u64 ∷ lent R ∷ lent u32 ∷ lent u32 ∷ lent u32 ∷ taken (of-number w64) ∷ taken (of-number w64) ∷ lent u64 ∷ []) (exported 𝓤) thin (λ κs a. refl)
         ((callee, tripleOf 𝓤 H A library.signature (closing 𝓤 H A library.ended (called 𝓤))) ∷ WriteHead W mem run ∷ [])
 
     pub walk : (𝓣 : Tables 𝓤 H) → Walk shape 𝓣
     walk 𝓣 known-head-of known-write-values known-call known-write-head κs qs head waiting submitted served dropped x x-is y y-is values g Q leaves bs =
         let fm : FmC 𝓤 H (W .laws) (𝓣 .C) = fmOf 𝓤 H (W .laws) 𝓣 in
         drop ! $
-        relends ! (head .room .0) refl refl refl $
+        relends ! head refl $
         -- let h = numbers::head_of(head);
-        let ps₁ : List (Param 𝓤 H A) = shr-of W head (head .list) refl ∷ [] in
-        calls-now ! fm (0 ∷ []) ps₁ HeadT _ (λ c. known-head-of (bound W ps₁ c)) refl (λ c. vars ! (refl, tt)) (λ w₁ h last₁ is-head kept₁.
-        gets-told ! HeadT (head-lawful 𝓤 H A W) head-val head-tells w₁ h refl refl (λ h-is.
-        relends ! (waiting .room .0) refl refl refl $ relends ! (submitted .room .0) refl refl refl $ relends ! (served .room .0) refl refl refl $ relends ! (dropped .room .0) refl refl refl $
+        calls-for ! 𝓣 (0 ∷ []) (shr-own W head ∷ []) a-head (λ c. known-head-of) (λ c h. h) (id⊢ 𝓤 _) refl (λ c. vars ! (refl, tt)) (λ _. refl) (λ h last₁ is-head kept₁ h-is.
+        relends ! waiting refl $ relends ! submitted refl $ relends ! served refl $ relends ! dropped refl $
         -- let reply = callee(h, ..);
-        let ps₂ : List (Param 𝓤 H A) = the-head W h h-is ∷ mut-of W waiting (waiting .list) refl ∷ mut-of W submitted (submitted .list) refl ∷ mut-of W served (served .list) refl ∷ mut-of W dropped (dropped .list) refl ∷ number W x (x-is .1) ∷ number W y (y-is .1) ∷ [] in
-        calls-now ! fm (1 ∷ 2 ∷ 3 ∷ 4 ∷ []) ps₂ ReplyT _ (λ c. known-call (bound W ps₂ c)) refl (λ c. vars ! (refl, (refl, (refl, (refl, (refl, (refl, (refl, tt)))))))) (λ w₂ reply last₂ given kept₂.
-        gets ! ReplyT (reply-lawful 𝓤 H A W) w₂ reply refl refl (λ reply-is.
-        relends ! (head .room .0) refl refl refl $
+        calls-for ! 𝓣 (1 ∷ 2 ∷ 3 ∷ 4 ∷ []) (the-head W h h-is ∷ mut-own W waiting ∷ mut-own W submitted ∷ mut-own W served ∷ mut-own W dropped ∷ number W x (x-is .1) ∷ number W y (y-is .1) ∷ []) a-reply (λ c. known-call) (λ c h. h) (id⊢ 𝓤 _) refl (λ c. vars ! (refl, (refl, (refl, (refl, (refl, (refl, (refl, tt)))))))) (λ _. refl) (λ reply last₂ gave kept₂ reply-is.
+        relends ! head refl $
         -- numbers::write_head(head, reply);
-        let ps₃ : List (Param 𝓤 H A) = mut-of W head (head .list) refl ∷ the-reply W reply w₂ reply-is ∷ [] in
-        calls-now ! fm (0 ∷ []) ps₃ Nothing _ (λ c. known-write-head (bound W ps₃ c)) refl (λ c. vars ! (refl, (refl, tt))) (λ w₃ u last₃ headed kept₃.
-        gets-told ! Nothing (nothing-lawful 𝓤 H A W) (λ _. vunit) nothing-tells w₃ u refl refl (λ _.
-        relends ! (values .room .0) refl refl refl $
+        calls-for ! 𝓣 (0 ∷ []) (mut-own W head ∷ given W a-reply reply reply-is ∷ []) of-nothing (λ c. known-write-head) (λ c h. h) (id⊢ 𝓤 _) refl (λ c. vars ! (refl, (refl, tt))) (λ _. refl) (λ u last₃ headed kept₃ _.
+        relends ! values refl $
         -- numbers::write_values(values, reply)
-        let ps₄ : List (Param 𝓤 H A) = mut-of W values (values .list) refl ∷ the-reply W reply w₂ reply-is ∷ [] in
-        calls-now ! fm (5 ∷ []) ps₄ u64 _ (λ c. known-write-values (bound W ps₄ c)) refl (λ c. vars ! (refl, (refl, tt))) (λ w₄ r last₄ told kept₄.
-        gets-number ! w64 w₄ r refl refl (λ r-fits. gives ! refl refl $
+        calls-for ! 𝓣 (5 ∷ []) (mut-own W values ∷ given W a-reply reply reply-is ∷ []) (of-number w64) (λ c. known-write-values) (λ c h. h) (id⊢ 𝓤 _) refl (λ c. vars ! (refl, (refl, tt))) (λ _. refl) (λ r last₄ told kept₄ r-is. gives ! refl refl $
         leaves (vint w64 r) r (last₃ .0, (last₂ .1 .0, (last₂ .1 .1 .0, (last₂ .1 .1 .1 .0, (last₂ .1 .1 .1 .1 .0, (last₄ .0, tt)))))) (kept₃ .0, (kept₂ .0, (kept₂ .1 .0, (kept₂ .1 .1 .0, (kept₂ .1 .1 .1 .0, (kept₄ .0, tt))))))
-        (uint-makes 𝓤 H A W w64 r (vint w64 r ∷ []) (refl, r-fits)) (so 𝓤 (exports-given (of x y) (head .list) (values .list) is-head given told headed))))))))))
+        (made W (of-number w64) r r-is) (so 𝓤 (exports-given (of x y) (head .list) (values .list) is-head gave told headed))))))

@@ -1,5 +1,4 @@
 pub mod Answering
-pub mod Calling
 pub mod Going
 pub mod Leading
 pub mod Lending

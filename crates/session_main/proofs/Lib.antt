@@ -1,4 +1,3 @@
-pub mod Borrows
 pub mod Flows
 pub mod Reading
 pub mod Turns

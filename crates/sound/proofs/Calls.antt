@@ -25,14 +25,15 @@ use denote.Triple.Spec.{tripleOf}
 use Rattle.spec.specs.declared.types.Head.{Head}
 use Rattle.spec.specs.declared.types.Request.{Request}
 use Rattle.spec.specs.Tables.{zeroRequest}
-use Rattle.table.proofs.Rows.{R, mach, vals, of-request}
+use Rattle.table.proofs.Rows.{R, mach, vals, a-request}
 use Rattle.table.proofs.get as get
-use Rattle.walk.proofs.Enter.{Slice, so}
-use Rattle.walk.proofs.Locals.{held, Vars, vars}
-use Rattle.walk.proofs.At.{items, sourced, holes, passed-on}
-use Rattle.walk.proofs.Slices.Loans.{Param, Choices, Asked, keeps, machine, number}
+use Rattle.walk.proofs.Prelude.{so, vars, passed-on, Param, number, calls-giving}
+use Rattle.walk.proofs.Enter.{Slice}
+use Rattle.walk.proofs.Locals.{held, Vars}
+use Rattle.walk.proofs.Slices.At.{items, sourced, holes}
+use Rattle.walk.proofs.Slices.Calls.{restored, Takes}
+use Rattle.walk.proofs.Slices.Loans.{Choices, Asked, keeps, machine}
 use Rattle.sound.specs.Checks.{Standing, recordBefore}
-use Rattle.sound.proofs.Walking.{restored, Takes, asks-for}
 use Rattle.sound.proofs.Turns.{Reached}
 
 -- ---- a record read
@@ -52,7 +53,7 @@ module _ {M : Type 1} {𝓤 : URA M} {H : Heap 𝓤} {A : Atoms 𝓤} {K : Type 
       → (Is R (getD (t .list) i zeroRequest) (vals (getD (t .list) i zeroRequest)) → Seq K W (held H A Δ E x (mach (getD (t .list) i zeroRequest))) (runs (𝓣 .C) (𝓣 .Λ) E rest q))
       → Seq K W Γ (runs (𝓣 .C) (𝓣 .Λ) E (seq (call get.Symbol.name xs (place x [])) rest) q)
   reads k 𝓣 known t i here e vs at go =
-      asks-for k 𝓣 (0 ∷ []) (Reading W t i here) (of-request W) (getD (t .list) i zeroRequest) (λ c. known) (λ c h. h) (so 𝓤 here) e (λ c. vars k (vs c)) (λ ws. at) (λ ws. go)
+      calls-giving k 𝓣 (0 ∷ []) (Reading W t i here) a-request (getD (t .list) i zeroRequest) (λ c. known) (λ c h. h) (so 𝓤 here) e (λ c. vars k (vs c)) (λ ws. at) (λ ws. go)
 
 -- ---- a loop
 pub record Turn (head : Head) (ys : List Request) (start : ℕ) (s : Standing) (n : ℕ) : Type 0 where

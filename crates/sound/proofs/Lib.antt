@@ -3,7 +3,6 @@ pub mod Laws
 pub mod Turns
 pub mod Zeros
 pub mod Calls
-pub mod Walking
 pub mod Pass
 pub mod Found
 pub mod Contents

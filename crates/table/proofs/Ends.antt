@@ -5,16 +5,10 @@ use mir.Syntax.{Opd as Operand}
 use prog.Wp.{Env}
 use types.Run.{Opd}
 use Rattle.walk.proofs.Prelude.{refl, ℕ, _<_, lt-trans, Bool, true, false, cond, List, [], _∷_, length, URA, Ty, named, erased, mut, w64, tyInt, tyUnit, tyRef, Fn, local, valueLocal, place, field, deref, copy, int, opdTrue, opdFalse, opdUnit, seq, assign, addrOf, aggregate, rvOpd, call, return, vunit, vint, vbool, SProp, Memory, Routine, Heap, Tables, Atoms, Fun, fact, Given, Item, _$_, !, lit, true-lit, false-lit, unit-lit, of-opd, and-then, no-more, pointee, now, sliceTy, Nothing, tripleOf}
-use denote.Steps.{heard}
-use Rattle.walk.proofs.Enter.{lent, uint, so}
-use Rattle.walk.proofs.Proves.{Shape, Walk}
-use Rattle.walk.proofs.Locals.{var, sets, relends, gives}
-use Rattle.walk.proofs.Results.{of-nothing, calls-for}
-use Rattle.walk.proofs.Slices.Loans.{Param, number, flag, bound}
-use Rattle.walk.proofs.At.{mut-of}
+use Rattle.walk.proofs.Prelude.{heard, lent, taken, so, Shape, Walk, var, sets, relends, gives, of-nothing, calls-for, number, flag, made, of-number, mut-own}
 use Rattle.table.specs.Records.{Shifted}
 use Rattle.table.proofs.Rows.{R}
-use Rattle.table.proofs.Laws.{Asked, asks}
+use Rattle.table.proofs.Laws.{asks, Asked}
 use Rattle.table.proofs.moves.shift as shift
 
 -- operands that `up` chooses
@@ -46,7 +40,7 @@ module _ (up : Bool) (D : Ty) where
   module _ {M : Type 1} (𝓤 : URA M) (H : Heap 𝓤) (A : Atoms 𝓤) (W : Given 𝓤 H A) (mem : Memory → SProp 𝓤) (run : Routine → Fun 𝓤) where
     abbrev pub shape : Shape W
     shape = record {
-      params = lent R ∷ uint W w64 ∷ [];
+      params = lent R ∷ taken (of-number w64) ∷ [];
       result = Nothing;
       clauses = λ κs a. record {
         ghost = Unit {0};
@@ -62,9 +56,8 @@ module _ (up : Bool) (D : Ty) where
     walk 𝓣 known-shift κs qs t last last-is g Q leaves bs =
         heard ! (last < length (t .list)) (λ within.
         let places : Asked up (cond up last 0) (cond up 0 last) (length (t .list)) = asks up last (length (t .list)) within in
-        let ps : List (Param 𝓤 H A) = mut-of W t (t .list) refl ∷ number W (cond up last 0) (lt-trans (places .0) (t .room .0)) ∷ number W (cond up 0 last) (lt-trans (places .1) (t .room .0)) ∷ flag W up ∷ [] in
-        relends ! (t .room .0) refl refl refl $
-        calls-for ! 𝓣 (0 ∷ []) ps _ (so 𝓤 places) (of-nothing W) _ (λ c. known-shift (bound W ps c)) refl
+        relends ! t refl $
+        calls-for ! 𝓣 (0 ∷ []) (mut-own W t ∷ number W (cond up last 0) (lt-trans (places .0) (t .room .0)) ∷ number W (cond up 0 last) (lt-trans (places .1) (t .room .0)) ∷ flag W up ∷ []) of-nothing (λ c. known-shift) (λ c h. h) (so 𝓤 places) refl
         (λ c. and-then ! (var ! refl) (and-then ! (chosen up (var ! refl) (lit ! tt)) (and-then ! (chosen up (lit ! tt) (var ! refl)) (and-then ! (itself ! up) (no-more !))))) (λ ws. refl) (λ u zs moved len _.
         sets ! (of-opd ! (unit-lit !)) refl (tt, tt) $ gives ! refl refl $
-        leaves vunit tt (zs .0, tt) (len .0, tt) (of-nothing W .makes tt _ refl) (so 𝓤 moved)))
+        leaves vunit tt (zs .0, tt) (len .0, tt) (made W of-nothing tt refl) (so 𝓤 moved)))

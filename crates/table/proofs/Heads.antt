@@ -14,8 +14,8 @@ use denote.Struct.Laws as LL
 use Rattle.spec.specs.declared.types.Head.{Head}
 use Rattle.spec.proofs.types.Head as T
 use Rattle.spec.proofs.types.Head.Laws as T′
-use Rattle.walk.proofs.Enter.{Kind, value as by-value}
-use Rattle.walk.proofs.Slices.Loans.{Param, value}
+use Rattle.walk.proofs.Plain.{PlainType}
+use Rattle.walk.proofs.Slices.Loans.{Param, given}
 
 abbrev pub HeadT : RattleType
 HeadT = T.the-row
@@ -38,13 +38,12 @@ module _ {M : Type 1} (𝓤 : URA M) (H : Heap 𝓤) (A : Atoms 𝓤) (W : Given
   pub head-makes : Makes 𝓤 H A HeadT (Is HeadT)
   head-makes = LL.makes T.the-type T′.the-plain 𝓤 H A
 
--- the head as a parameter of a function
-abbrev pub a-head : {M : Type 1} {𝓤 : URA M} {H : Heap 𝓤} {A : Atoms 𝓤} (W : Given 𝓤 H A) → Kind 𝓤 H A
-a-head {𝓤 = 𝓤} {H} {A} W = by-value HeadT record { vals = head-vals; tells = head-tells; lawful = head-lawful 𝓤 H A W; last = λ x. tt; silent = λ x w. refl }
+abbrev pub a-head : PlainType HeadT
+a-head = record { val = head-val; tells = head-tells; lawful = head-lawful; makes = head-makes; last = λ x. tt; silent = λ x w. refl }
 
 -- the head as a parameter of a call
 abbrev pub the-head : {M : Type 1} {𝓤 : URA M} {H : Heap 𝓤} {A : Atoms 𝓤} (W : Given 𝓤 H A) (h : Head) → Is HeadT h (head-vals h) → Param 𝓤 H A
-the-head {𝓤 = 𝓤} {H} {A} W h is = value HeadT h (head-vals h) (head-makes 𝓤 H A W h (head-vals h) is)
+the-head W h is = given W a-head h is
 
 -- fields that a walk reads fit
 pub clients-fit : (h : Head) → Is HeadT h (head-vals h) → h .clients < 2 ^ 64

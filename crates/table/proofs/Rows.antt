@@ -19,9 +19,8 @@ use Rattle.spec.specs.declared.types.Request.{Request}
 use Rattle.spec.specs.Tables.{zeroRequest}
 use Rattle.spec.proofs.types.Request as T
 use Rattle.spec.proofs.types.Request.Laws as T′
-use Rattle.walk.proofs.Enter.{Kind, value as by-value}
-use Rattle.walk.proofs.Results.{Result}
-use Rattle.walk.proofs.Slices.Loans.{Param, value}
+use Rattle.walk.proofs.Plain.{PlainType}
+use Rattle.walk.proofs.Slices.Loans.{Param, given}
 
 abbrev pub R : RattleType
 R = T.the-row
@@ -46,17 +45,12 @@ module _ {M : Type 1} (𝓤 : URA M) (H : Heap 𝓤) (A : Atoms 𝓤) (W : Given
   pub makes : Makes 𝓤 H A R (Is R)
   makes = LL.makes T.the-type T′.the-plain 𝓤 H A
 
--- a request as a parameter of a function
-abbrev pub a-request : {M : Type 1} {𝓤 : URA M} {H : Heap 𝓤} {A : Atoms 𝓤} (W : Given 𝓤 H A) → Kind 𝓤 H A
-a-request {𝓤 = 𝓤} {H} {A} W = by-value R record { vals = vals; tells = tells; lawful = lawful 𝓤 H A W; last = λ x. tt; silent = λ x w. refl }
-
--- a request as the result of a call
-abbrev pub of-request : {M : Type 1} {𝓤 : URA M} {H : Heap 𝓤} {A : Atoms 𝓤} (W : Given 𝓤 H A) → Result W R
-of-request {𝓤 = 𝓤} {H} {A} W = record { val = mach; tells = tells; lawful = lawful 𝓤 H A W; makes = makes 𝓤 H A W }
+abbrev pub a-request : PlainType R
+a-request = record { val = mach; tells = tells; lawful = lawful; makes = makes; last = λ x. tt; silent = λ x w. refl }
 
 -- a request as a parameter of a call
 abbrev pub request : {M : Type 1} {𝓤 : URA M} {H : Heap 𝓤} {A : Atoms 𝓤} (W : Given 𝓤 H A) (r : Request) → Is R r (vals r) → Param 𝓤 H A
-request {𝓤 = 𝓤} {H} {A} W r is = value R r (vals r) (makes 𝓤 H A W r (vals r) is)
+request W r is = given W a-request r is
 
 pub zero-is : Is R zeroRequest (vals zeroRequest)
 zero-is = LL.owes T.the-type T′.the-laws zeroRequest ((refl, lit< tt), ((refl, lit< tt), ((refl, lit< tt), tt)))

@@ -1,12 +1,10 @@
-pub mod At
 pub mod Enter
 pub mod Frees
-pub mod Inside
 pub mod Locals
 pub mod Loops
 pub mod Matches
+pub mod Plain
 pub mod Prelude
 pub mod Proves
-pub mod Results
 pub mod Slices
 pub mod Steps

@@ -1,20 +1,15 @@
 -- `exports::queue_chart` meets its contract: a walk of three calls.
 -- Assumes nothing.
-use types.Kit.{drop}
-use Rattle.walk.proofs.Prelude.{_∙_, ap, refl, List, [], _∷_, URA, w64, vint, SProp, Memory, Routine, Heap, Tables, Atoms, Fun, givenOf, Given, _$_, !, FmC, fmOf, uint-makes, u32, u64, tripleOf}
+use Rattle.walk.proofs.Prelude.{_∙_, ap, refl, [], _∷_, URA, w64, vint, SProp, Memory, Routine, Heap, Tables, Atoms, Fun, givenOf, Given, _$_, !, FmC, fmOf, u32, u64, tripleOf, id⊢}
+use Rattle.walk.proofs.Prelude.{drop, lent, shown, so, Shape, Walk, proves, vars, relends, gives, passed-on, made, of-number, calls-for, given, mut-own}
+use Rattle.queue.proofs.Values.{a-reply}
 use Rattle.spec.specs.declared.types.Head.{Head}
 use Rattle.spec.specs.Calls.{chartOf, chartOutput}
 use Rattle.columns.specs.Columns.{stateOf}
 use Rattle.table.proofs.Rows.{R}
-use Rattle.table.proofs.Heads.{HeadT, the-head, head-val, head-tells, head-lawful}
-use Rattle.walk.proofs.Slices.Loans.{Param, bound}
-use Rattle.queue.proofs.Values.{ReplyT, reply-lawful, the-reply}
+use Rattle.table.proofs.Heads.{the-head, a-head}
 use Rattle.exports.proofs.Calls.{Exports, cites-numbers}
 use Rattle.exports.proofs.Exporting.{chart-stays, exports-read}
-use Rattle.walk.proofs.Enter.{lent, shown, so}
-use Rattle.walk.proofs.Proves.{Shape, Walk, proves}
-use Rattle.walk.proofs.Locals.{vars, relends, gets, gets-told, gets-number, gives}
-use Rattle.walk.proofs.At.{passed-on, mut-of, calls-now}
 use Rattle.queue.proofs.chart as chart
 use Rattle.exports.proofs.queue_chart as f
 
@@ -29,21 +24,15 @@ module _ {M : Type 1} (𝓤 : URA M) (H : Heap 𝓤) (A : Atoms 𝓤) (W : Given
       let fm : FmC 𝓤 H (W .laws) (𝓣 .C) = fmOf 𝓤 H (W .laws) 𝓣 in
       drop ! $
       -- let h = numbers::head_of(head);
-      let ps₁ : List (Param 𝓤 H A) = passed-on W head ∷ [] in
-      calls-now ! fm (0 ∷ []) ps₁ HeadT _ (λ c. known-head-of (bound W ps₁ c)) refl (λ c. vars ! (refl, tt)) (λ w₁ h last₁ is-head kept₁.
-      gets-told ! HeadT (head-lawful 𝓤 H A W) head-val head-tells w₁ h refl refl (λ h-is.
-      relends ! (output .room .0) refl refl refl $
+      calls-for ! 𝓣 (0 ∷ []) (passed-on W head ∷ []) a-head (λ c. known-head-of) (λ c h. h) (id⊢ 𝓤 _) refl (λ c. vars ! (refl, tt)) (λ _. refl) (λ h last₁ is-head kept₁ h-is.
+      relends ! output refl $
       -- let reply = queue::chart(h, ..);
-      let ps₂ : List (Param 𝓤 H A) = the-head W h h-is ∷ passed-on W waiting ∷ passed-on W submitted ∷ passed-on W served ∷ passed-on W dropped ∷ mut-of W output (output .list) refl ∷ [] in
-      calls-now ! fm (1 ∷ 2 ∷ 3 ∷ 4 ∷ 5 ∷ []) ps₂ ReplyT _ (λ c. known-chart (bound W ps₂ c)) refl (λ c. vars ! (refl, (refl, (refl, (refl, (refl, (refl, tt))))))) (λ w₂ reply last₂ given kept₂.
-      gets ! ReplyT (reply-lawful 𝓤 H A W) w₂ reply refl refl (λ reply-is.
-      relends ! (values .room .0) refl refl refl $
+      calls-for ! 𝓣 (1 ∷ 2 ∷ 3 ∷ 4 ∷ 5 ∷ []) (the-head W h h-is ∷ passed-on W waiting ∷ passed-on W submitted ∷ passed-on W served ∷ passed-on W dropped ∷ mut-own W output ∷ []) a-reply (λ c. known-chart) (λ c h. h) (id⊢ 𝓤 _) refl (λ c. vars ! (refl, (refl, (refl, (refl, (refl, (refl, tt))))))) (λ _. refl) (λ reply last₂ gave kept₂ reply-is.
+      relends ! values refl $
       -- numbers::write_values(values, reply)
-      let ps₃ : List (Param 𝓤 H A) = mut-of W values (values .list) refl ∷ the-reply W reply w₂ reply-is ∷ [] in
-      calls-now ! fm (6 ∷ []) ps₃ u64 _ (λ c. known-write-values (bound W ps₃ c)) refl (λ c. vars ! (refl, (refl, tt))) (λ w₃ r last₃ told kept₃.
-      gets-number ! w64 w₃ r refl refl (λ r-fits. gives ! refl refl $
-      leaves (vint w64 r) r (last₂ .1 .1 .1 .1 .1 .0, (last₃ .0, tt)) (kept₂ .1 .1 .1 .1 .0, (kept₃ .0, tt)) (uint-makes 𝓤 H A W w64 r (vint w64 r ∷ []) (refl, r-fits))
-      (so 𝓤 (exports-read (chartOf (output .list)) (head .list) (values .list) is-head (given .0) told (chart-stays (output .list)), given .1 ∙ ap (λ (x : Head). chartOutput (output .list) (stateOf x (waiting .list) (submitted .list) (served .list) (dropped .list))) is-head))))))))
+      calls-for ! 𝓣 (6 ∷ []) (mut-own W values ∷ given W a-reply reply reply-is ∷ []) (of-number w64) (λ c. known-write-values) (λ c h. h) (id⊢ 𝓤 _) refl (λ c. vars ! (refl, (refl, tt))) (λ _. refl) (λ r last₃ told kept₃ r-is. gives ! refl refl $
+      leaves (vint w64 r) r (last₂ .1 .1 .1 .1 .1 .0, (last₃ .0, tt)) (kept₂ .1 .1 .1 .1 .0, (kept₃ .0, tt)) (made W (of-number w64) r r-is)
+      (so 𝓤 (exports-read (chartOf (output .list)) (head .list) (values .list) is-head (gave .0) told (chart-stays (output .list)), gave .1 ∙ ap (λ (x : Head). chartOutput (output .list) (stateOf x (waiting .list) (submitted .list) (served .list) (dropped .list))) is-head)))))
 
 pub queue-chart-spec : {M : Type 1} → f.Statement.statement M
 unfolding f.Code.routine

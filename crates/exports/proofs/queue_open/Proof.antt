@@ -1,7 +1,7 @@
 -- `exports::queue_open` meets its contract: `Pair.antt`'s walk, with `queue::open` for its callee. Assumes nothing.
 use Rattle.walk.proofs.Prelude.{givenOf, Given}
+use Rattle.walk.proofs.Prelude.{proves}
 use Rattle.spec.specs.Calls.{openOf}
-use Rattle.walk.proofs.Proves.{proves}
 use Rattle.exports.proofs.Calls.{cites-numbers, cites-write-head}
 use Rattle.exports.proofs.Pair.{shape, walk}
 use Rattle.queue.proofs.open as library

@@ -1,7 +1,7 @@
 -- `exports::queue_submit` meets its contract: `Pair.antt`'s walk, with `queue::submit` for its callee. Assumes nothing.
 use Rattle.walk.proofs.Prelude.{givenOf, Given}
+use Rattle.walk.proofs.Prelude.{proves}
 use Rattle.spec.specs.Calls.{submitOf}
-use Rattle.walk.proofs.Proves.{proves}
 use Rattle.exports.proofs.Calls.{cites-numbers, cites-write-head}
 use Rattle.exports.proofs.Pair.{shape, walk}
 use Rattle.queue.proofs.submit as library

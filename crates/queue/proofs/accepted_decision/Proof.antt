@@ -1,25 +1,18 @@
 -- `queue::accepted_decision` meets its contract: a walk of nine calls, of which three write what is known of the clients, in an
 -- array of its own, and one reads it.
 -- Assumes nothing.
-use denote.Plain.{nothing-lawful, nothing-tells}
-use denote.Steps.{heard}
-use Rattle.walk.proofs.Prelude.{_≡_, refl, sym, _∙_, subst, ℕ, _+_, _<_, _≤_, _^_, List, [], _∷_, arith, length, replicate, length-replicate, lit<, URA, w16, w64, tyArray, vint, vunit, SProp, froom, Memory, Routine, Heap, Tables, Atoms, Fun, givenOf, Given, ‵, _$_, ! }
-use Rattle.walk.proofs.Prelude.{use1, agg, stop, from, addr, lit, of-opd, bin, and-then, no-more, FmC, fmOf, lone, uint-makes, uint-lawful, uint-copy, Nothing, u16, u32, u64, usize, Room, tripleOf}
+use Rattle.walk.proofs.Prelude.{_≡_, refl, sym, _∙_, subst, ℕ, _+_, _<_, _≤_, _^_, List, [], _∷_, arith, length, replicate, length-replicate, lit<, URA, w16, w64, tyArray, vint, SProp, froom, Memory, Routine, Heap, Tables, Atoms, Fun, givenOf, Given, ‵, _$_, !, use1, agg, stop, from, addr, lit, of-opd, bin, and-then, no-more, FmC, fmOf, lone, uint-makes, uint-lawful, uint-copy, u16, u32, Room, tripleOf, id⊢}
+use Rattle.walk.proofs.Prelude.{heard, Param, number, loan, shown, taken, so, Shape, Walk, proves, var, vars, field-var, sets, empties, gives, takes-out, puts-back, passed-on, made, fit, of-number, of-nothing, calls-for}
+use Rattle.walk.proofs.Slices.Arrays.{array-room, array-lent, array-shared, repeats}
 use Rattle.columns.specs.Columns.{stateOf, largest16}
 use Rattle.decide.proofs.Choosing.Chosen.{choice-found}
 use Rattle.decide.proofs.Choosing.Shown.{waits, few, clock, clients, rises, placed-within, candidates-within, found-all}
-use Rattle.queue.proofs.Values.{DecisionT, decision-lawful, decision-makes}
+use Rattle.queue.proofs.Values.{DecisionT, a-decision}
 use Rattle.spec.specs.Refusals.{firstMatch, submitRefusals}
 use Rattle.spec.specs.Tables.{mostRecords}
 use Rattle.spec.specs.declared.types.Request.{Request}
 use Rattle.table.proofs.Heads.{a-head, the-head, waiting-fits}
 use Rattle.table.proofs.Rows.{R}
-use Rattle.walk.proofs.Slices.Arrays.{array-room, array-lent, array-shared, repeats}
-use Rattle.walk.proofs.Slices.Loans.{Param, number, loan, bound}
-use Rattle.walk.proofs.Enter.{shown, uint, so}
-use Rattle.walk.proofs.Proves.{Shape, Walk, proves}
-use Rattle.walk.proofs.Locals.{var, vars, field-var, sets, empties, gets, gets-told, gets-number, gives}
-use Rattle.walk.proofs.At.{takes-out, puts-back, passed-on, calls-now, calls-at}
 use Rattle.search.proofs.records.due_by as due-by
 use Rattle.search.proofs.records.first_overfull as first-overfull
 use Rattle.search.proofs.records.candidates as candidates
@@ -43,7 +36,7 @@ fits k n h l = (omega arith, omega arith)
 module _ {M : Type 1} (𝓤 : URA M) (H : Heap 𝓤) (A : Atoms 𝓤) (W : Given 𝓤 H A) (mem : Memory → SProp 𝓤) (run : Routine → Fun 𝓤) where
   abbrev shape : Shape W
   shape = record {
-    params = shown R ∷ shown u32 ∷ shown u32 ∷ shown u32 ∷ a-head W ∷ uint W w64 ∷ uint W w64 ∷ [];
+    params = shown R ∷ shown u32 ∷ shown u32 ∷ shown u32 ∷ taken a-head ∷ taken (of-number w64) ∷ taken (of-number w64) ∷ [];
     result = DecisionT;
     clauses = f.clauses 𝓤 H A mem run;
     code = f.Code.function;
@@ -77,68 +70,47 @@ module _ {M : Type 1} (𝓤 : URA M) (H : Heap 𝓤) (A : Atoms 𝓤) (W : Given
       let within : n ≤ length ws = waits head ws su se dr client deadline accepted in
       let small : n ≤ mostRecords = few head ws su se dr client deadline accepted in
       takes-out ! 8 refl $ repeats ! u16 (uint-lawful 𝓤 H A W w16) (uint-copy 𝓤 H A W w16) (uint-makes 𝓤 H A W w16) 256 0 (vint w16 0) (refl, lit< tt) l₈ (lit ! tt) (from ! (stop !)) (
-      sets ! (of-opd ! (field-var ! refl refl refl)) refl (tt, record { fits = n-fits }) $
+      sets ! (of-opd ! (field-var ! refl refl refl)) refl (tt, fit n-fits) $
       -- let place = records::due_by(waiting, n, deadline);
-      let ps₁ : List (Param 𝓤 H A) = passed-on W waiting ∷ number W n n-fits ∷ number W deadline (deadline-is .1) ∷ [] in
-      calls-at ! fm (1 ∷ []) ps₁ _ (so 𝓤 within) usize _ (λ c. known-due-by (bound W ps₁ c)) refl (λ c. vars ! (refl, (refl, (refl, tt)))) (λ w₁ place last₁ placed kept₁.
-      gets-number ! w64 w₁ place refl refl (λ place-fits.
+      calls-for ! 𝓣 (1 ∷ []) (passed-on W waiting ∷ number W n n-fits ∷ number W deadline (deadline-is .1) ∷ []) (of-number w64) (λ c. known-due-by) (λ c h. h) (so 𝓤 within) refl (λ c. vars ! (refl, (refl, (refl, tt)))) (λ _. refl) (λ place last₁ placed kept₁ place-is.
       let place-within : place ≤ n = placed-within head ws su se dr client deadline accepted deadline place placed in
       -- let found = records::first_overfull(head, waiting, n, place, deadline);
-      let ps₂ : List (Param 𝓤 H A) = the-head W head head-is ∷ passed-on W waiting ∷ number W n n-fits ∷ number W place place-fits ∷ number W deadline (deadline-is .1) ∷ [] in
-      calls-at ! fm (1 ∷ []) ps₂ _ (so 𝓤 (within, small, place-within, clock head ws su se dr client deadline accepted)) u64 _ (λ c. known-first-overfull (bound W ps₂ c)) refl (λ c. vars ! (refl, (refl, (refl, (refl, (refl, tt)))))) (λ w₂ found last₂ searched kept₂.
-      gets-number ! w64 w₂ found refl refl (λ found-fits.
+      calls-for ! 𝓣 (1 ∷ []) (the-head W head head-is ∷ passed-on W waiting ∷ number W n n-fits ∷ number W place (place-is .1) ∷ number W deadline (deadline-is .1) ∷ []) (of-number w64) (λ c. known-first-overfull) (λ c h. h) (so 𝓤 (within, small, place-within, clock head ws su se dr client deadline accepted)) refl (λ c. vars ! (refl, (refl, (refl, (refl, (refl, tt)))))) (λ _. refl) (λ found last₂ searched kept₂ found-is.
       -- let due = records::due_by(waiting, n, found);
-      let ps₃ : List (Param 𝓤 H A) = passed-on W waiting ∷ number W n n-fits ∷ number W found found-fits ∷ [] in
-      calls-at ! fm (1 ∷ []) ps₃ _ (so 𝓤 within) usize _ (λ c. known-due-by (bound W ps₃ c)) refl (λ c. vars ! (refl, (refl, (refl, tt)))) (λ w₃ due last₃ ended kept₃.
-      gets-number ! w64 w₃ due refl refl (λ due-fits.
+      calls-for ! 𝓣 (1 ∷ []) (passed-on W waiting ∷ number W n n-fits ∷ number W found (found-is .1) ∷ []) (of-number w64) (λ c. known-due-by) (λ c h. h) (so 𝓤 within) refl (λ c. vars ! (refl, (refl, (refl, tt)))) (λ _. refl) (λ due last₃ ended kept₃ due-is.
       -- let last = records::candidates(n, due, found);
-      let ps : List (Param 𝓤 H A) = number W n n-fits ∷ number W due due-fits ∷ number W found found-fits ∷ [] in
-      calls-now ! fm [] ps usize _ (λ c. known-candidates (bound W ps c)) refl (λ c. vars ! (refl, (refl, (refl, tt)))) (λ w end last chosen kept.
-      gets-number ! w64 w end refl refl (λ end-fits.
+      calls-for ! 𝓣 [] (number W n n-fits ∷ number W due (due-is .1) ∷ number W found (found-is .1) ∷ []) (of-number w64) (λ c. known-candidates) (λ c h. h) (id⊢ 𝓤 _) refl (λ c. vars ! (refl, (refl, (refl, tt)))) (λ _. refl) (λ end last chosen kept end-is.
       let end-within : end ≤ n = candidates-within head ws su se dr client deadline accepted found due end chosen in
       -- let before = rows::smaller(place, last);
-      let ps₄ : List (Param 𝓤 H A) = number W place place-fits ∷ number W end end-fits ∷ [] in
-      calls-now ! fm [] ps₄ usize _ (λ c. known-smaller (bound W ps₄ c)) refl (λ c. vars ! (refl, (refl, tt))) (λ w₄ before last₄ fewer kept₄.
-      gets-number ! w64 w₄ before refl refl (λ before-fits.
+      calls-for ! 𝓣 [] (number W place (place-is .1) ∷ number W end (end-is .1) ∷ []) (of-number w64) (λ c. known-smaller) (λ c h. h) (id⊢ 𝓤 _) refl (λ c. vars ! (refl, (refl, tt))) (λ _. refl) (λ before last₄ fewer kept₄ before-is.
       let spare : (before ≤ length ws) × (before + 1 ≤ largest16) = (omega (arith, fewer, place-within, within), omega (arith, fewer, fits place n (place-within) small .0)) in
       sets ! (addr ! (from ! (stop !))) refl (tt, tt) $
-      sets ! (agg ! (and-then ! (var ! refl) (and-then ! (lit ! tt) (no-more !)))) refl (tt, (tt, (record { fits = lit< tt }, tt))) $
+      sets ! (agg ! (and-then ! (var ! refl) (and-then ! (lit ! tt) (no-more !)))) refl (tt, (tt, (fit (lit< tt), tt))) $
       -- records::mark(waiting, &mut latest, 0, before, 1);
-      let ps₅ : List (Param 𝓤 H A) = passed-on W waiting ∷ known-lent l₈ zeros zeros-long ∷ number W 0 (lit< tt) ∷ number W before before-fits ∷ number W 1 (lit< tt) ∷ [] in
-      calls-at ! fm (1 ∷ 0 ∷ []) ps₅ _ (so 𝓤 (spare .0, zeros-long, spare .1)) Nothing _ (λ c. known-mark (bound W ps₅ c)) refl
-      (λ c. and-then ! (var ! refl) (and-then ! (var ! refl) (and-then ! (lit ! tt) (and-then ! (var ! refl) (and-then ! (lit ! tt) (no-more !)))))) (λ w₅ u₅ last₅ marked₁ kept₅.
-      gets-told ! Nothing (nothing-lawful 𝓤 H A W) (λ _. vunit) nothing-tells w₅ u₅ refl refl (λ _.
+      calls-for ! 𝓣 (1 ∷ 0 ∷ []) (passed-on W waiting ∷ known-lent l₈ zeros zeros-long ∷ number W 0 (lit< tt) ∷ number W before (before-is .1) ∷ number W 1 (lit< tt) ∷ []) of-nothing (λ c. known-mark) (λ c h. h) (so 𝓤 (spare .0, zeros-long, spare .1)) refl (λ c. and-then ! (var ! refl) (and-then ! (var ! refl) (and-then ! (lit ! tt) (and-then ! (var ! refl) (and-then ! (lit ! tt) (no-more !)))))) (λ _. refl) (λ u₅ last₅ marked₁ kept₅ _.
       let known₁ : List ℕ = last₅ .1 .0 in
       let long₁ : length known₁ ≡ 256 = kept₅ .1 .0 ∙ zeros-long in
       sets ! (addr ! (from ! (stop !))) refl (tt, tt) $
-      sets ! (agg ! (and-then ! (var ! refl) (and-then ! (lit ! tt) (no-more !)))) refl (tt, (tt, (record { fits = lit< tt }, tt))) $
+      sets ! (agg ! (and-then ! (var ! refl) (and-then ! (lit ! tt) (no-more !)))) refl (tt, (tt, (fit (lit< tt), tt))) $
       let next-fits : place + 1 < 2 ^ 64 = fits place n (place-within) small .1 in
-      sets ! (bin ! (var ! refl) (lit ! tt) (record { fits = next-fits })) refl (tt, record { fits = next-fits }) $ empties ! 15 refl $
+      sets ! (bin ! (var ! refl) (lit ! tt) (fit next-fits)) refl (tt, fit next-fits) $ empties ! 15 refl $
       -- records::note(&mut latest, client, place + 1);
-      let ps₆ : List (Param 𝓤 H A) = known-lent l₈ known₁ long₁ ∷ number W client (client-is .1) ∷ number W (place + 1) next-fits ∷ [] in
-      calls-at ! fm (0 ∷ []) ps₆ _ (so 𝓤 (long₁, omega (arith, fits place n (place-within) small .0))) Nothing _ (λ c. known-note (bound W ps₆ c)) refl (λ c. vars ! (refl, (refl, (refl, tt)))) (λ w₆ u₆ last₆ marked₂ kept₆.
-      gets-told ! Nothing (nothing-lawful 𝓤 H A W) (λ _. vunit) nothing-tells w₆ u₆ refl refl (λ _.
+      calls-for ! 𝓣 (0 ∷ []) (known-lent l₈ known₁ long₁ ∷ number W client (client-is .1) ∷ number W (place + 1) next-fits ∷ []) of-nothing (λ c. known-note) (λ c h. h) (so 𝓤 (long₁, omega (arith, fits place n (place-within) small .0))) refl (λ c. vars ! (refl, (refl, (refl, tt)))) (λ _. refl) (λ u₆ last₆ marked₂ kept₆ _.
       let known₂ : List ℕ = last₆ .0 in
       let long₂ : length known₂ ≡ 256 = kept₆ .0 ∙ long₁ in
       sets ! (addr ! (from ! (stop !))) refl (tt, tt) $
-      sets ! (agg ! (and-then ! (var ! refl) (and-then ! (lit ! tt) (no-more !)))) refl (tt, (tt, (record { fits = lit< tt }, tt))) $ empties ! 15 refl $
+      sets ! (agg ! (and-then ! (var ! refl) (and-then ! (lit ! tt) (no-more !)))) refl (tt, (tt, (fit (lit< tt), tt))) $ empties ! 15 refl $
       -- records::mark(waiting, &mut latest, place, last, 2);
-      let ps₇ : List (Param 𝓤 H A) = passed-on W waiting ∷ known-lent l₈ known₂ long₂ ∷ number W place place-fits ∷ number W end end-fits ∷ number W 2 (lit< tt) ∷ [] in
-      calls-at ! fm (1 ∷ 0 ∷ []) ps₇ _ (so 𝓤 (omega (arith, end-within, within), long₂, fits end n (end-within) small .0)) Nothing _ (λ c. known-mark (bound W ps₇ c)) refl
-      (λ c. and-then ! (var ! refl) (and-then ! (var ! refl) (and-then ! (var ! refl) (and-then ! (var ! refl) (and-then ! (lit ! tt) (no-more !)))))) (λ w₇ u₇ last₇ marked₃ kept₇.
-      gets-told ! Nothing (nothing-lawful 𝓤 H A W) (λ _. vunit) nothing-tells w₇ u₇ refl refl (λ _.
+      calls-for ! 𝓣 (1 ∷ 0 ∷ []) (passed-on W waiting ∷ known-lent l₈ known₂ long₂ ∷ number W place (place-is .1) ∷ number W end (end-is .1) ∷ number W 2 (lit< tt) ∷ []) of-nothing (λ c. known-mark) (λ c h. h) (so 𝓤 (omega (arith, end-within, within), long₂, fits end n (end-within) small .0)) refl (λ c. and-then ! (var ! refl) (and-then ! (var ! refl) (and-then ! (var ! refl) (and-then ! (var ! refl) (and-then ! (lit ! tt) (no-more !)))))) (λ _. refl) (λ u₇ last₇ marked₃ kept₇ _.
       let known₃ : List ℕ = last₇ .1 .0 in
       let long₃ : length known₃ ≡ 256 = kept₇ .1 .0 ∙ long₂ in
       sets ! (addr ! (from ! (stop !))) refl (tt, tt) $
-      sets ! (agg ! (and-then ! (var ! refl) (and-then ! (lit ! tt) (no-more !)))) refl (tt, (tt, (record { fits = lit< tt }, tt))) $
+      sets ! (agg ! (and-then ! (var ! refl) (and-then ! (lit ! tt) (no-more !)))) refl (tt, (tt, (fit (lit< tt), tt))) $
       -- calls::submit_choice(head, &latest, submitted, served, dropped, client, place, found)
-      let ps₈ : List (Param 𝓤 H A) = the-head W head head-is ∷ loan (array-shared W u16 256 l₈ tt known₃ (subst (Room u16) (sym long₃) (lit< tt, lit< tt)) long₃) ∷ passed-on W submitted ∷ passed-on W served ∷ passed-on W dropped ∷ number W client (client-is .1) ∷ number W place place-fits ∷ number W found found-fits ∷ [] in
-      calls-at ! fm (0 ∷ 2 ∷ 3 ∷ 4 ∷ []) ps₈ _ (so 𝓤 (subst (λ (k : ℕ). head .clients ≤ k) (sym long₃) (clients head ws su se dr client deadline accepted), rises head ws su se dr client deadline accepted)) DecisionT _
-      (λ c. known-submit-choice (bound W ps₈ c)) refl (λ c. vars ! (refl, (refl, (refl, (refl, (refl, (refl, (refl, (refl, tt))))))))) (λ w₈ r last₈ told kept₈.
-      gets ! DecisionT (decision-lawful 𝓤 H A W) w₈ r refl refl (λ r-is.
+      calls-for ! 𝓣 (0 ∷ 2 ∷ 3 ∷ 4 ∷ []) (the-head W head head-is ∷ loan (array-shared W u16 256 l₈ tt known₃ (subst (Room u16) (sym long₃) (lit< tt, lit< tt)) long₃) ∷ passed-on W submitted ∷ passed-on W served ∷ passed-on W dropped ∷ number W client (client-is .1) ∷ number W place (place-is .1) ∷ number W found (found-is .1) ∷ []) a-decision (λ c. known-submit-choice) (λ c h. h) (so 𝓤 (subst (λ (k : ℕ). head .clients ≤ k) (sym long₃) (clients head ws su se dr client deadline accepted), rises head ws su se dr client deadline accepted)) refl (λ c. vars ! (refl, (refl, (refl, (refl, (refl, (refl, (refl, (refl, tt))))))))) (λ _. refl) (λ r last₈ told kept₈ r-is.
       use1 W (‵ (froom (tyArray (lone (u16 .mir)) 256) l₈ 0)) (array-room W u16 256 l₈ known₃) $ puts-back ! 8 $ gives ! refl refl $
-      leaves w₈ r tt tt (decision-makes 𝓤 H A W r (w₈ ∷ []) r-is)
-      (so 𝓤 (told ∙ choice-found (found-all head ws su se dr client deadline accepted place found due end before placed searched ended chosen fewer known₁ known₂ known₃ marked₁ marked₂ marked₃)))))))))))))))))))))))
+      leaves (a-decision .val r) r tt tt (made W a-decision r r-is)
+      (so 𝓤 (told ∙ choice-found (found-all head ws su se dr client deadline accepted place found due end before placed searched ended chosen fewer known₁ known₂ known₃ marked₁ marked₂ marked₃))))))))))))))
 
 pub accepted-decision-spec : {M : Type 1} → f.Statement.statement M
 unfolding f.Code.routine

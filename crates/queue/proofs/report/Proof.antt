@@ -1,21 +1,11 @@
 -- `queue::report` meets its contract: a walk of three calls.
 -- Assumes nothing.
-use types.Kit.{drop}
-use Rattle.walk.proofs.Prelude.{ℕ, _≡_, refl, List, [], _∷_, getD, URA, w64, SProp, Memory, Routine, Heap, Tables, Atoms, Fun, Given, givenOf, _$_, !, FmC, fmOf, u32, u64, tripleOf}
+use Rattle.walk.proofs.Prelude.{ℕ, refl, List, [], _∷_, URA, w64, SProp, Memory, Routine, Heap, Tables, Atoms, Fun, Given, givenOf, _$_, !, FmC, fmOf, u32, tripleOf, id⊢}
+use Rattle.walk.proofs.Prelude.{drop, number, shown, taken, so, Shape, Walk, proves, vars, gives, passed-on, made, of-number, calls-for}
 use Rattle.spec.specs.declared.types.Request.{Request}
-use Rattle.spec.specs.Tables.{zeroCounts}
-use Rattle.columns.specs.Columns.{countsOf, stateOf}
-use Rattle.sound.specs.Checks.{tablesRefusal}
-use Rattle.decide.specs.Matches.{reportMatch}
-use Rattle.decide.specs.Replies.{reportReply}
 use Rattle.table.proofs.Rows.{R}
 use Rattle.table.proofs.Heads.{a-head, the-head}
-use Rattle.walk.proofs.Slices.Loans.{Param, number, bound}
-use Rattle.walk.proofs.Enter.{shown, uint, so}
-use Rattle.walk.proofs.Proves.{Shape, Walk, proves}
-use Rattle.walk.proofs.Locals.{vars, gets, gets-number, gives}
-use Rattle.walk.proofs.At.{passed-on, calls-now}
-use Rattle.queue.proofs.Values.{ReplyT, reply-lawful, reply-makes}
+use Rattle.queue.proofs.Values.{ReplyT, a-reply}
 use Rattle.queue.proofs.Together.{reported}
 use Rattle.sound.proofs.check.tables_refusal as tables-refusal
 use Rattle.decide.proofs.refusals.report_refusal as report-refusal
@@ -25,7 +15,7 @@ use Rattle.queue.proofs.report as f
 module _ {M : Type 1} (𝓤 : URA M) (H : Heap 𝓤) (A : Atoms 𝓤) (W : Given 𝓤 H A) (mem : Memory → SProp 𝓤) (run : Routine → Fun 𝓤) where
   abbrev shape : Shape W
   shape = record {
-    params = a-head W ∷ shown R ∷ shown u32 ∷ shown u32 ∷ shown u32 ∷ uint W w64 ∷ [];
+    params = taken a-head ∷ shown R ∷ shown u32 ∷ shown u32 ∷ shown u32 ∷ taken (of-number w64) ∷ [];
     result = ReplyT;
     clauses = f.clauses 𝓤 H A mem run;
     code = f.Code.function;
@@ -46,18 +36,12 @@ module _ {M : Type 1} (𝓤 : URA M) (H : Heap 𝓤) (A : Atoms 𝓤) (W : Given
       let dr : List ℕ = dropped .list in
       drop ! $
       -- let tables = check::tables_refusal(waiting, submitted, served, dropped, head);
-      let ps₁ : List (Param 𝓤 H A) = passed-on W waiting ∷ passed-on W submitted ∷ passed-on W served ∷ passed-on W dropped ∷ the-head W head head-is ∷ [] in
-      calls-now ! fm (0 ∷ 1 ∷ 2 ∷ 3 ∷ []) ps₁ u64 (λ r last. r ≡ tablesRefusal (stateOf head ws su se dr)) (λ c. known-tables-refusal (bound W ps₁ c)) refl (λ c. vars ! (refl, (refl, (refl, (refl, (refl, tt)))))) (λ w₁ tables last₁ found kept₁.
-      gets-number ! w64 w₁ tables refl refl (λ tables-fits.
+      calls-for ! 𝓣 (0 ∷ 1 ∷ 2 ∷ 3 ∷ []) (passed-on W waiting ∷ passed-on W submitted ∷ passed-on W served ∷ passed-on W dropped ∷ the-head W head head-is ∷ []) (of-number w64) (λ c. known-tables-refusal) (λ c h. h) (id⊢ 𝓤 _) refl (λ c. vars ! (refl, (refl, (refl, (refl, (refl, tt)))))) (λ _. refl) (λ tables last₁ found kept₁ tables-is.
       -- let refusal = refusals::report_refusal(tables, head, client);
-      let ps₂ : List (Param 𝓤 H A) = number W tables tables-fits ∷ the-head W head head-is ∷ number W client (client-is .1) ∷ [] in
-      calls-now ! fm [] ps₂ u64 (λ r last. r ≡ reportMatch tables head client) (λ c. known-report-refusal (bound W ps₂ c)) refl (λ c. vars ! (refl, (refl, (refl, tt)))) (λ w₂ refusal last₂ refuses kept₂.
-      gets-number ! w64 w₂ refusal refl refl (λ refusal-fits.
+      calls-for ! 𝓣 [] (number W tables (tables-is .1) ∷ the-head W head head-is ∷ number W client (client-is .1) ∷ []) (of-number w64) (λ c. known-report-refusal) (λ c h. h) (id⊢ 𝓤 _) refl (λ c. vars ! (refl, (refl, (refl, tt)))) (λ _. refl) (λ refusal last₂ refuses kept₂ refusal-is.
       -- replies::report_reply(head, submitted, served, dropped, refusal, client)
-      let ps₃ : List (Param 𝓤 H A) = the-head W head head-is ∷ passed-on W submitted ∷ passed-on W served ∷ passed-on W dropped ∷ number W refusal refusal-fits ∷ number W client (client-is .1) ∷ [] in
-      calls-now ! fm (1 ∷ 2 ∷ 3 ∷ []) ps₃ ReplyT (λ r last. r ≡ reportReply refusal head client (getD (countsOf su se dr) client zeroCounts)) (λ c. known-report-reply (bound W ps₃ c)) refl (λ c. vars ! (refl, (refl, (refl, (refl, (refl, (refl, tt))))))) (λ w₃ r last₃ told kept₃.
-      gets ! ReplyT (reply-lawful 𝓤 H A W) w₃ r refl refl (λ r-is. gives ! refl refl $
-      leaves w₃ r tt tt (reply-makes 𝓤 H A W r (w₃ ∷ []) r-is) (so 𝓤 (reported head ws su se dr client tables refusal r found refuses told))))))))
+      calls-for ! 𝓣 (1 ∷ 2 ∷ 3 ∷ []) (the-head W head head-is ∷ passed-on W submitted ∷ passed-on W served ∷ passed-on W dropped ∷ number W refusal (refusal-is .1) ∷ number W client (client-is .1) ∷ []) a-reply (λ c. known-report-reply) (λ c h. h) (id⊢ 𝓤 _) refl (λ c. vars ! (refl, (refl, (refl, (refl, (refl, (refl, tt))))))) (λ _. refl) (λ r last₃ told kept₃ r-is. gives ! refl refl $
+      leaves (a-reply .val r) r tt tt (made W a-reply r r-is) (so 𝓤 (reported head ws su se dr client tables refusal r found refuses told)))))
 
 pub report-spec : {M : Type 1} → f.Statement.statement M
 unfolding f.Code.routine

@@ -3,24 +3,20 @@
 -- Assumes nothing.
 use prog.Wp.{Env, spotOf}
 use types.Kit.{drop, use0}
-use Rattle.walk.proofs.Prelude.{_≡_, refl, sym, _∙_, subst, ℕ, _<_, List, [], _∷_, length, lit<, URA, w8, tyArray, SProp, Lft, Share, ftrue, froom, id⊢, Memory, Routine, Heap, Tables, Out, Wp, afterSeq, afterBlock, afterTurn, atReturn, Atoms, Fun, givenOf, Given, Item, Sq, runs, anyQ, atRet, ‵, _$_, !, move, rewrite, use1, use2}
-use Rattle.walk.proofs.Prelude.{agg, addr, stop, from, lit, of-opd, and-then, no-more, first, blocks, exec, Below, again, loops, lone, Is, RattleType, u8, u32, u64, sliceVal, Room, Array, tripleOf, InvImage·wf, Nat·lt-wfRel}
+use Rattle.walk.proofs.Prelude.{_≡_, refl, sym, _∙_, subst, ℕ, _<_, List, [], _∷_, length, lit<, URA, w8, SProp, Lft, Share, ftrue, id⊢, Memory, Routine, Heap, Tables, Out, Wp, afterSeq, afterBlock, afterTurn, atReturn, Atoms, Fun, givenOf, Given, Item, Sq, runs, anyQ, atRet, ‵, _$_, !, move, rewrite, use2, agg, addr, stop, from, lit, of-opd, and-then, no-more, first, blocks, exec, Below, again, loops, Is, RattleType, u8, u32, u64, sliceVal, Room, Array, tripleOf, InvImage·wf, Nat·lt-wfRel}
+use Rattle.walk.proofs.Prelude.{lent, shown, so, Shape, Walk, proves, Lent-at, tests, var, vars, field-var, sets, sets-last, empties, gives, mut-of, passed-on, takes-out, loan, of-number, taken, given, relends, calls-for, made, fit, copies}
+use Rattle.walk.proofs.Enter.{envAt, Slice}
+use Rattle.walk.proofs.Frees.{Held, holds, empty}
+use Rattle.walk.proofs.Locals.{standing, puts}
+use Rattle.walk.proofs.Plain.{PlainType, of-array}
+use Rattle.walk.proofs.Slices.Arrays.{Held-array, array-in, array-shared, ends-array}
+use Rattle.walk.proofs.Slices.Inside.{Shown}
 use Rattle.spec.specs.declared.types.Request.{Request}
 use Rattle.frame.specs.Digits.{digitTable}
 use Rattle.frame.proofs.Fields.{table-length}
 use Rattle.table.proofs.Rows.{R}
-use Rattle.walk.proofs.Enter.{envAt, Slice, lent, shown, so}
-use Rattle.walk.proofs.Proves.{Shape, Walk, proves}
-use Rattle.walk.proofs.Inside.{Lent-at, Shown}
-use Rattle.walk.proofs.Frees.{Held, holds, empty}
-use Rattle.walk.proofs.Steps.{tests}
-use Rattle.walk.proofs.Locals.{standing, puts, var, vars, field-var, sets, resets-last, empties, gives}
-use Rattle.walk.proofs.At.{mut-of, passed-on, takes-out, puts-back}
-use Rattle.walk.proofs.Slices.Loans.{Param, loan, bound}
-use Rattle.walk.proofs.Slices.Arrays.{Held-array, array-in, array-room, array-shared}
 use Rattle.session.specs.declared.types.Session.{Session}
 use Rattle.session.specs.declared.types.Fed.{Fed}
-use Rattle.session.proofs.Calling.{PlainType, of-number, of-array, taken, given, lends-on, lets}
 use Rattle.session.proofs.Values.{FedT, a-session, a-fed}
 use Rattle.session.proofs.Stepping.{Feeding, turnsLeft, fed-begins, fed-steps, fed-ends, turns-less}
 use Rattle.session.proofs.Going.{is-true, is-false}
@@ -46,7 +42,7 @@ record Turns (session : Session) (inp : List ℕ) (ws₀ : List Request) (su₀ 
 module _ {M : Type 1} (𝓤 : URA M) (H : Heap 𝓤) (A : Atoms 𝓤) (W : Given 𝓤 H A) (mem : Memory → SProp 𝓤) (run : Routine → Fun 𝓤) where
   abbrev shape : Shape W
   shape = record {
-    params = taken W a-session (λ x. tt) (λ x w. refl) ∷ shown u8 ∷ lent R ∷ lent u32 ∷ lent u32 ∷ lent u32 ∷ lent u64 ∷ lent u8 ∷ [];
+    params = taken a-session ∷ shown u8 ∷ lent R ∷ lent u32 ∷ lent u32 ∷ lent u32 ∷ lent u64 ∷ lent u8 ∷ [];
     result = FedT;
     clauses = f.clauses 𝓤 H A mem run;
     code = f.Code.function;
@@ -61,16 +57,15 @@ module _ {M : Type 1} (𝓤 : URA M) (H : Heap 𝓤) (A : Atoms 𝓤) (W : Given
   walk : (𝓣 : Tables 𝓤 H) → Walk shape 𝓣
   unfolding afterTurn
   walk 𝓣 known-digit-table known-begin known-step κs qs session session-is input waiting submitted served dropped starts out g Q leaves bs =
-      let table : PlainType (Array u8 256) = of-array (of-number w8) 256 in
+      let table : PlainType (Array u8 256) = of-array (of-number w8) 256 (λ x. tt) (λ x w. refl) in
       drop ! $
       -- let table = values::digit_table();
-      lets ! 𝓣 [] [] (id⊢ 𝓤 _) table (λ c. known-digit-table (bound W [] c)) refl (λ c. no-more !) refl (λ last. refl) (λ made last₁ is-table kept₁ made-is.
-      sets ! (of-opd ! (var ! refl)) refl (table .lawful 𝓤 H A W .typed made (table .val made ∷ []) made-is .0) $ empties ! 12 refl $ takes-out ! 9 refl $
-      use0 W (‵ (Array u8 256 .own made (table .val made ∷ []))) (table .makes 𝓤 H A W made (table .val made ∷ []) made-is) $ move ! (1 ∷ 0 ∷ []) $
-      use2 W (‵ (Held-array u8 256 at-table made)) (array-in W u8 256 at-table made (table .val made)) $ rewrite ! 0 (λ (xs : List ℕ). ‵ (Held-array u8 256 at-table xs)) is-table refl $
+      calls-for ! 𝓣 [] [] table (λ c. known-digit-table) (λ c h. h) (id⊢ 𝓤 _) refl (λ c. no-more !) (λ _. refl) (λ digits last₁ is-table kept₁ digits-is.
+      copies ! refl refl (table .lawful 𝓤 H A W .typed digits _ digits-is .0) $ empties ! 12 refl $ takes-out ! 9 refl $
+      use0 W (‵ (Array u8 256 .own digits (table .val digits ∷ []))) (made W table digits digits-is) $ move ! (1 ∷ 0 ∷ []) $
+      use2 W (‵ (Held-array u8 256 at-table digits)) (array-in W u8 256 at-table digits (table .val digits)) $ rewrite ! 0 (λ (xs : List ℕ). ‵ (Held-array u8 256 at-table xs)) is-table refl $
       -- let mut fed = turns::begin(session);
-      let ps : List (Param 𝓤 H A) = given W a-session session session-is ∷ [] in
-      lets ! 𝓣 [] ps (id⊢ 𝓤 _) a-fed (λ c. known-begin (bound W ps c)) refl (λ c. vars ! (refl, tt)) refl (λ last. refl) (λ fed last₂ begins kept₂ fed-is.
+      calls-for ! 𝓣 [] (given W a-session session session-is ∷ []) a-fed (λ c. known-begin) (λ c h. h) (id⊢ 𝓤 _) refl (λ c. vars ! (refl, tt)) (λ _. refl) (λ fed last₂ begins kept₂ fed-is.
       first ! $ blocks ! $ loops ! 𝓣 Nearer (InvImage·wf (λ (t : Turn). turnsLeft (input .list) (t .fed)) (Nat·lt-wfRel .wf)) At turns
       (record { fed = fed; ws = waiting .list; su = submitted .list; se = served .list; dr = dropped .list; st = starts .list; out = out .list; fed-is = fed-is; starts-long = refl; fed-so = rw begins fed-begins })))
     where
@@ -107,12 +102,11 @@ module _ {M : Type 1} (𝓤 : URA M) (H : Heap 𝓤) (A : Atoms 𝓤) (W : Given
           tests ! (var ! refl)
           (λ held.
           sets ! (addr ! (from ! (stop !))) refl (tt, tt) $
-          sets ! (agg ! (and-then ! (var ! refl) (and-then ! (lit ! tt) (no-more !)))) refl (tt, (tt, (record { fits = lit< tt }, tt))) $
-          lends-on ! waiting refl $ lends-on ! submitted refl $ lends-on ! served refl $ lends-on ! dropped refl $ lends-on ! starts refl $ lends-on ! out refl $
+          sets ! (agg ! (and-then ! (var ! refl) (and-then ! (lit ! tt) (no-more !)))) refl (tt, (tt, (fit (lit< tt), tt))) $
+          relends ! waiting refl $ relends ! submitted refl $ relends ! served refl $ relends ! dropped refl $ relends ! starts refl $ relends ! out refl $
           -- let next = step(&table, fed, input, waiting, submitted, served, dropped, starts, out);
-          let ps : List (Param 𝓤 H A) = loan (array-shared W u8 256 at-table tt digitTable (subst (Room u8) (sym table-length) (lit< tt, lit< tt)) table-length) ∷ given W a-fed (t .fed) (t .fed-is) ∷ passed-on W input ∷ mut-of W waiting (t .ws) (long .waiting-long) ∷ mut-of W submitted (t .su) (long .submitted-long) ∷ mut-of W served (t .se) (long .served-long) ∷ mut-of W dropped (t .dr) (long .dropped-long) ∷ mut-of W starts (t .st) (t .starts-long) ∷ mut-of W out (t .out) (long .out-long) ∷ [] in
-          lets ! 𝓣 (0 ∷ 1 ∷ 2 ∷ 3 ∷ 4 ∷ 5 ∷ 6 ∷ 7 ∷ []) ps (so 𝓤 (refl, t .fed-so .within, rw (long .out-long) (t .fed-so .room))) a-fed (λ c. known-step (bound W ps c)) refl (λ c. vars ! (refl, (refl, (refl, (refl, (refl, (refl, (refl, (refl, (refl, tt)))))))))) refl (λ last. refl) (λ r last stepped kept r-is.
-          resets-last ! (of-opd ! (var ! refl)) refl (a-fed .lawful 𝓤 H A W .typed r (a-fed .val r ∷ []) r-is .0) $
+          calls-for ! 𝓣 (0 ∷ 1 ∷ 2 ∷ 3 ∷ 4 ∷ 5 ∷ 6 ∷ 7 ∷ []) (loan (array-shared W u8 256 at-table tt digitTable (subst (Room u8) (sym table-length) (lit< tt, lit< tt)) table-length) ∷ given W a-fed (t .fed) (t .fed-is) ∷ passed-on W input ∷ mut-of W waiting (t .ws) (long .waiting-long) ∷ mut-of W submitted (t .su) (long .submitted-long) ∷ mut-of W served (t .se) (long .served-long) ∷ mut-of W dropped (t .dr) (long .dropped-long) ∷ mut-of W starts (t .st) (t .starts-long) ∷ mut-of W out (t .out) (long .out-long) ∷ []) a-fed (λ c. known-step) (λ c h. h) (so 𝓤 (refl, t .fed-so .within, rw (long .out-long) (t .fed-so .room))) refl (λ c. vars ! (refl, (refl, (refl, (refl, (refl, (refl, (refl, (refl, (refl, tt)))))))))) (λ _. refl) (λ r last stepped kept r-is.
+          sets-last ! (of-opd ! (var ! refl)) refl (a-fed .lawful 𝓤 H A W .typed r (a-fed .val r ∷ []) r-is .0) $
           empties ! 11 refl $ empties ! 13 refl $ empties ! 14 refl $ empties ! 15 refl $ empties ! 16 refl $ empties ! 17 refl $ empties ! 18 refl $ empties ! 19 refl $ empties ! 20 refl $ empties ! 21 refl $ empties ! 22 refl $ empties ! 23 refl $ empties ! 24 refl $ empties ! 25 refl $ empties ! 26 refl $ empties ! 27 refl $
           again ! Nearer At t (record {
             fed = r;
@@ -127,10 +121,10 @@ module _ {M : Type 1} (𝓤 : URA M) (H : Heap 𝓤) (A : Atoms 𝓤) (W : Given
             fed-so = fed-steps stepped (t .fed-so) (record { waiting-long = kept .1 .1 .0; submitted-long = kept .1 .1 .1 .0; served-long = kept .1 .1 .1 .1 .0; dropped-long = kept .1 .1 .1 .1 .1 .0; out-long = kept .1 .1 .1 .1 .1 .1 .1 .0 }) (t .starts-long);
           }) (turns-less stepped (is-true (t .fed .going) held))))
           (λ over. exec ! (𝓣 .C) (𝓣 .Λ) E mir.t-5 (atRet E Q) $
-          sets ! (of-opd ! (var ! refl)) refl (a-fed .lawful 𝓤 H A W .typed (t .fed) (a-fed .val (t .fed) ∷ []) (t .fed-is) .0) $
-          use1 W (‵ (froom (tyArray (lone (u8 .mir)) 256) at-table 0)) (array-room W u8 256 at-table digitTable) $ puts-back ! 9 $ gives ! refl refl $
+          copies ! refl refl (a-fed .lawful 𝓤 H A W .typed (t .fed) (a-fed .val (t .fed) ∷ []) (t .fed-is) .0) $
+          ends-array ! 9 u8 256 at-table digitTable $ gives ! refl refl $
           leaves (a-fed .val (t .fed)) (t .fed) (t .ws, (t .su, (t .se, (t .dr, (t .st, (t .out, tt)))))) (long .waiting-long, (long .submitted-long, (long .served-long, (long .dropped-long, (t .starts-long, (long .out-long, tt))))))
-          (a-fed .makes 𝓤 H A W (t .fed) (a-fed .val (t .fed) ∷ []) (t .fed-is)) (so 𝓤 (fed-ends (is-false (t .fed .going) over) (t .fed-so))))
+          (made W a-fed (t .fed) (t .fed-is)) (so 𝓤 (fed-ends (is-false (t .fed .going) over) (t .fed-so))))
 
 pub feed-spec : {M : Type 1} → f.Statement.statement M
 unfolding f.Code.routine

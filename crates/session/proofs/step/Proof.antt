@@ -1,20 +1,16 @@
 -- `session::step` meets its contract: a walk with an early return and, behind it, six calls, one of which gets parts of the tables.
 -- Assumes nothing.
 use lib.ListN.{drop as drop-list}
-use denote.Steps.{heard}
 use Rattle.walk.proofs.Prelude.{_≡_, refl, false, ℕ, _≤_, List, [], _∷_, _++_, length, URA, w64, SProp, id⊢, Memory, Routine, Heap, Tables, Atoms, Fun, givenOf, Given, _$_, !, of-opd, first, u8, u32, u64, tripleOf}
+use Rattle.walk.proofs.Prelude.{heard, branches-then, skips-then, number, lent, shown, so, Shape, Walk, proves, var, vars, field-var, sets, shr-of, passed-on, of-number, taken, given, mut-own, mut-front, relends, lends-front, calls-for, hands-on, fit}
+use Rattle.walk.proofs.Slices.Loans.{bound}
+use Rattle.walk.proofs.Slices.Parts.{back-long}
 use Rattle.spec.specs.declared.types.Request.{Request}
 use Rattle.frame.specs.Digits.{digitTable}
 use Rattle.table.proofs.Rows.{R}
-use Rattle.walk.proofs.Steps.{branches-then, skips-then}
-use Rattle.walk.proofs.Slices.Loans.{Param, number, bound}
-use Rattle.walk.proofs.Slices.Parts.{back-long}
-use Rattle.walk.proofs.Enter.{lent, shown, so}
-use Rattle.walk.proofs.Proves.{Shape, Walk, proves}
-use Rattle.walk.proofs.Locals.{var, vars, field-var, sets}
-use Rattle.walk.proofs.At.{shr-of, passed-on}
-use Rattle.session.proofs.Calling.{of-number, taken, given, lends, lends-part, lends-on, lends-first, lets, hands-on}
-use Rattle.session.proofs.Values.{FedT, a-fed, a-turn, a-lent, a-frame, a-head, a-reply, records-fit, clients-fit}
+use Rattle.session.proofs.Values.{FedT, a-fed, a-turn, a-lent, a-frame, records-fit, clients-fit}
+use Rattle.table.proofs.Heads.{a-head}
+use Rattle.queue.proofs.Values.{a-reply}
 use Rattle.session.proofs.Stepping.{stops}
 use Rattle.session.proofs.Going.{is-true, is-false, lent-within, turn-goes}
 use Rattle.session.proofs.turns.next_turn as next-turn
@@ -30,7 +26,7 @@ use Rattle.session.proofs.step as f
 module _ {M : Type 1} (𝓤 : URA M) (H : Heap 𝓤) (A : Atoms 𝓤) (W : Given 𝓤 H A) (mem : Memory → SProp 𝓤) (run : Routine → Fun 𝓤) where
   abbrev shape : Shape W
   shape = record {
-    params = shown u8 ∷ taken W a-fed (λ x. tt) (λ x w. refl) ∷ shown u8 ∷ lent R ∷ lent u32 ∷ lent u32 ∷ lent u32 ∷ lent u64 ∷ lent u8 ∷ [];
+    params = shown u8 ∷ taken a-fed ∷ shown u8 ∷ lent R ∷ lent u32 ∷ lent u32 ∷ lent u32 ∷ lent u64 ∷ lent u8 ∷ [];
     result = FedT;
     clauses = f.clauses 𝓤 H A mem run;
     code = f.Code.function;
@@ -55,51 +51,43 @@ module _ {M : Type 1} (𝓤 : URA M) (H : Heap 𝓤) (A : Atoms 𝓤) (W : Given
       let dr : List ℕ = dropped .list in
       let st : List ℕ = starts .list in
       heard ! ((table .list ≡ digitTable) × (fed .used ≤ length (input .list)) × (fed .put ≤ length (out .list))) (λ required.
-      sets ! (of-opd ! (field-var ! refl refl refl)) refl (tt, record { fits = waiting .room .0 }) $
-      sets ! (of-opd ! (field-var ! refl refl refl)) refl (tt, record { fits = submitted .room .0 }) $
-      sets ! (of-opd ! (field-var ! refl refl refl)) refl (tt, record { fits = served .room .0 }) $
-      sets ! (of-opd ! (field-var ! refl refl refl)) refl (tt, record { fits = dropped .room .0 }) $
-      sets ! (of-opd ! (field-var ! refl refl refl)) refl (tt, record { fits = starts .room .0 }) $
-      sets ! (of-opd ! (field-var ! refl refl refl)) refl (tt, record { fits = out .room .0 }) $
+      sets ! (of-opd ! (field-var ! refl refl refl)) refl (tt, fit (waiting .room .0)) $
+      sets ! (of-opd ! (field-var ! refl refl refl)) refl (tt, fit (submitted .room .0)) $
+      sets ! (of-opd ! (field-var ! refl refl refl)) refl (tt, fit (served .room .0)) $
+      sets ! (of-opd ! (field-var ! refl refl refl)) refl (tt, fit (dropped .room .0)) $
+      sets ! (of-opd ! (field-var ! refl refl refl)) refl (tt, fit (starts .room .0)) $
+      sets ! (of-opd ! (field-var ! refl refl refl)) refl (tt, fit (out .room .0)) $
       -- let turn = turns::next_turn(table, input, fed, waiting.len(), .., out.len());
-      let ps₁ : List (Param 𝓤 H A) = passed-on W table ∷ passed-on W input ∷ given W a-fed fed fed-is ∷ number W (length ws) (waiting .room .0) ∷ number W (length su) (submitted .room .0) ∷ number W (length se) (served .room .0) ∷ number W (length dr) (dropped .room .0) ∷ number W (length st) (starts .room .0) ∷ number W (length (out .list)) (out .room .0) ∷ [] in
-      lets ! 𝓣 (0 ∷ 1 ∷ []) ps₁ (so 𝓤 required) a-turn (λ c. known-next-turn (bound W ps₁ c)) refl (λ c. vars ! (refl, (refl, (refl, (refl, (refl, (refl, (refl, (refl, (refl, tt)))))))))) refl (λ last. refl) (λ turn last₁ next kept₁ turn-is.
+      calls-for ! 𝓣 (0 ∷ 1 ∷ []) (passed-on W table ∷ passed-on W input ∷ given W a-fed fed fed-is ∷ number W (length ws) (waiting .room .0) ∷ number W (length su) (submitted .room .0) ∷ number W (length se) (served .room .0) ∷ number W (length dr) (dropped .room .0) ∷ number W (length st) (starts .room .0) ∷ number W (length (out .list)) (out .room .0) ∷ []) a-turn (λ c. known-next-turn) (λ c h. h) (so 𝓤 required) refl (λ c. vars ! (refl, (refl, (refl, (refl, (refl, (refl, (refl, (refl, (refl, tt)))))))))) (λ _. refl) (λ turn last₁ next kept₁ turn-is.
       sets ! (of-opd ! (field-var ! refl refl refl)) refl (tt, tt) $
       branches-then ! (var ! refl) (λ held.
       -- return turns::stopped(fed, turn);
-      let ps₂ : List (Param 𝓤 H A) = given W a-fed fed fed-is ∷ given W a-turn turn turn-is ∷ [] in
-      first ! $ hands-on ! 𝓣 [] ps₂ (id⊢ 𝓤 _) a-fed (λ c. known-stopped (bound W ps₂ c)) refl (λ c. vars ! (refl, (refl, tt))) refl (λ last. refl) Q refl (λ r last. (refl, refl)) (λ r last₂ told kept₂ own.
+      first ! $ hands-on ! 𝓣 [] (given W a-fed fed fed-is ∷ given W a-turn turn turn-is ∷ []) a-fed (λ c. known-stopped (bound W (given W a-fed fed fed-is ∷ given W a-turn turn turn-is ∷ []) c)) (id⊢ 𝓤 _) refl (λ c. vars ! (refl, (refl, tt))) (λ _. refl) Q refl (λ r last. (refl, refl)) (λ r last₂ told kept₂ own.
       leaves (a-fed .val r) r (ws, (su, (se, (dr, (st, (out .list, tt)))))) (refl, (refl, (refl, (refl, (refl, (refl, tt)))))) own (so 𝓤 (stops turn (is-true (turn .ends) held) (required .1) (required .2) next told))))
       (λ failed. skips-then ! $
       let goes : turn .ends ≡ false = is-false (turn .ends) failed in
       -- let frame = turns::frame_of(turn);
-      let ps₃ : List (Param 𝓤 H A) = given W a-turn turn turn-is ∷ [] in
-      lets ! 𝓣 [] ps₃ (id⊢ 𝓤 _) a-frame (λ c. known-frame-of (bound W ps₃ c)) refl (λ c. vars ! (refl, tt)) refl (λ last. refl) (λ asked last₃ asks kept₃ asked-is.
+      calls-for ! 𝓣 [] (given W a-turn turn turn-is ∷ []) a-frame (λ c. known-frame-of) (λ c h. h) (id⊢ 𝓤 _) refl (λ c. vars ! (refl, tt)) (λ _. refl) (λ asked last₃ asks kept₃ asked-is.
       -- let head = turns::head_of(fed);
-      let ps₄ : List (Param 𝓤 H A) = given W a-fed fed fed-is ∷ [] in
-      lets ! 𝓣 [] ps₄ (id⊢ 𝓤 _) a-head (λ c. known-head-of (bound W ps₄ c)) refl (λ c. vars ! (refl, tt)) refl (λ last. refl) (λ head last₄ heads kept₄ head-is.
+      calls-for ! 𝓣 [] (given W a-fed fed fed-is ∷ []) a-head (λ c. known-head-of) (λ c h. h) (id⊢ 𝓤 _) refl (λ c. vars ! (refl, tt)) (λ _. refl) (λ head last₄ heads kept₄ head-is.
       -- let lent = turns::lent(fed, turn);
-      let ps₅ : List (Param 𝓤 H A) = given W a-fed fed fed-is ∷ given W a-turn turn turn-is ∷ [] in
-      lets ! 𝓣 [] ps₅ (id⊢ 𝓤 _) a-lent (λ c. known-lent (bound W ps₅ c)) refl (λ c. vars ! (refl, (refl, tt))) refl (λ last. refl) (λ l last₅ lends-so kept₅ l-is.
+      calls-for ! 𝓣 [] (given W a-fed fed fed-is ∷ given W a-turn turn turn-is ∷ []) a-lent (λ c. known-lent) (λ c h. h) (id⊢ 𝓤 _) refl (λ c. vars ! (refl, (refl, tt))) (λ _. refl) (λ l last₅ lends-so kept₅ l-is.
       let within : (l .records ≤ length ws) × (l .clients ≤ length su) × (l .clients ≤ length se) × (l .clients ≤ length dr) = lent-within (input .list) fed ws su se dr st (out .list) turn goes next l lends-so in
-      lends-first ! (records-fit l l-is) refl (field-var ! refl refl refl) $ lends-first ! (clients-fit l l-is) refl (field-var ! refl refl refl) $
-      lends-first ! (clients-fit l l-is) refl (field-var ! refl refl refl) $ lends-first ! (clients-fit l l-is) refl (field-var ! refl refl refl) $ lends-on ! starts refl $
+      lends-front ! (records-fit l l-is) refl (field-var ! refl refl refl) $ lends-front ! (clients-fit l l-is) refl (field-var ! refl refl refl) $
+      lends-front ! (clients-fit l l-is) refl (field-var ! refl refl refl) $ lends-front ! (clients-fit l l-is) refl (field-var ! refl refl refl) $ relends ! starts refl $
       -- let reply = answer(frame, head, &mut waiting[..lent.records], &mut submitted[..lent.clients], .., starts);
-      let ps₆ : List (Param 𝓤 H A) = given W a-frame asked asked-is ∷ given W a-head head head-is ∷ lends-part W waiting (l .records) (within .0) ∷ lends-part W submitted (l .clients) (within .1) ∷ lends-part W served (l .clients) (within .2) ∷ lends-part W dropped (l .clients) (within .3) ∷ lends W starts ∷ [] in
-      lets ! 𝓣 (2 ∷ 3 ∷ 4 ∷ 5 ∷ 6 ∷ []) ps₆ (id⊢ 𝓤 _) a-reply (λ c. known-answer (bound W ps₆ c)) refl (λ c. vars ! (refl, (refl, (refl, (refl, (refl, (refl, (refl, tt)))))))) refl (λ last. refl) (λ reply last₆ answers-so kept₆ reply-is.
+      calls-for ! 𝓣 (2 ∷ 3 ∷ 4 ∷ 5 ∷ 6 ∷ []) (given W a-frame asked asked-is ∷ given W a-head head head-is ∷ mut-front W waiting (waiting .list) refl (l .records) (within .0) ∷ mut-front W submitted (submitted .list) refl (l .clients) (within .1) ∷ mut-front W served (served .list) refl (l .clients) (within .2) ∷ mut-front W dropped (dropped .list) refl (l .clients) (within .3) ∷ mut-own W starts ∷ []) a-reply (λ c. known-answer) (λ c h. h) (id⊢ 𝓤 _) refl (λ c. vars ! (refl, (refl, (refl, (refl, (refl, (refl, (refl, tt)))))))) (λ _. refl) (λ reply last₆ answers-so kept₆ reply-is.
       let zs : List Request = last₆ .1 .1 .0 in
       let us : List ℕ = last₆ .1 .1 .1 .0 in
       let vs : List ℕ = last₆ .1 .1 .1 .1 .0 in
       let ds : List ℕ = last₆ .1 .1 .1 .1 .1 .0 in
       let st₁ : List ℕ = last₆ .1 .1 .1 .1 .1 .1 .0 in
       let goes-on = turn-goes (input .list) fed ws su se dr st (out .list) turn goes next l lends-so asked head asks heads reply zs us vs ds st₁ answers-so (kept₆ .0) (kept₆ .1 .0) (kept₆ .1 .1 .0) (kept₆ .1 .1 .1 .0) in
-      lends-on ! out refl $ lends-on ! starts refl $
+      relends ! out refl $ relends ! starts refl $
       -- let put = turns::put_reply(out, fed, reply, starts);
-      let ps₇ : List (Param 𝓤 H A) = lends W out ∷ given W a-fed fed fed-is ∷ given W a-reply reply reply-is ∷ shr-of W starts st₁ (kept₆ .1 .1 .1 .1 .0) ∷ [] in
-      lets ! 𝓣 (7 ∷ 6 ∷ []) ps₇ (so 𝓤 (goes-on .0)) (of-number w64) (λ c. known-put-reply (bound W ps₇ c)) refl (λ c. vars ! (refl, (refl, (refl, (refl, tt))))) refl (λ last. refl) (λ put last₇ written kept₇ put-is.
+      calls-for ! 𝓣 (7 ∷ 6 ∷ []) (mut-own W out ∷ given W a-fed fed fed-is ∷ given W a-reply reply reply-is ∷ shr-of W starts st₁ (kept₆ .1 .1 .1 .1 .0) ∷ []) (of-number w64) (λ c. known-put-reply) (λ c h. h) (so 𝓤 (goes-on .0)) refl (λ c. vars ! (refl, (refl, (refl, (refl, tt))))) (λ _. refl) (λ put last₇ written kept₇ put-is.
       -- turns::answered(fed, turn, reply, put)
-      let ps₈ : List (Param 𝓤 H A) = given W a-fed fed fed-is ∷ given W a-turn turn turn-is ∷ given W a-reply reply reply-is ∷ number W put (put-is .1) ∷ [] in
-      hands-on ! 𝓣 [] ps₈ (id⊢ 𝓤 _) a-fed (λ c. known-answered (bound W ps₈ c)) refl (λ c. vars ! (refl, (refl, (refl, (refl, tt))))) refl (λ last. refl) Q refl (λ r last. (refl, refl)) (λ r last₈ told kept₈ own.
+      hands-on ! 𝓣 [] (given W a-fed fed fed-is ∷ given W a-turn turn turn-is ∷ given W a-reply reply reply-is ∷ number W put (put-is .1) ∷ []) a-fed (λ c. known-answered (bound W (given W a-fed fed fed-is ∷ given W a-turn turn turn-is ∷ given W a-reply reply reply-is ∷ number W put (put-is .1) ∷ []) c)) (id⊢ 𝓤 _) refl (λ c. vars ! (refl, (refl, (refl, (refl, tt))))) (λ _. refl) Q refl (λ r last. (refl, refl)) (λ r last₈ told kept₈ own.
       leaves (a-fed .val r) r (zs ++ drop-list (l .records) ws, (us ++ drop-list (l .clients) su, (vs ++ drop-list (l .clients) se, (ds ++ drop-list (l .clients) dr, (st₁, (last₇ .0, tt))))))
       (back-long (l .records) ws zs (kept₆ .0), (back-long (l .clients) su us (kept₆ .1 .0), (back-long (l .clients) se vs (kept₆ .1 .1 .0), (back-long (l .clients) dr ds (kept₆ .1 .1 .1 .0), (kept₆ .1 .1 .1 .1 .0, (kept₇ .0, tt)))))) own
       (so 𝓤 (goes-on .1 (last₇ .0) put r written told)))))))))))

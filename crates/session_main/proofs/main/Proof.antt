@@ -1,23 +1,15 @@
 -- `session_main::main` meets its contract, which asks nothing but that it ends: a walk that makes the arrays, lends them, and says
 -- where the program stopped.
 -- Assumes nothing.
-use types.Kit.{drop}
-use Rattle.walk.proofs.Prelude.{_≡_, refl, sym, subst, ℕ, List, [], _∷_, arith, length, replicate, length-replicate, lit<, URA, w64, w8, w32, vunit, vbool, bool, SProp, emp, id⊢, Memory, Routine, Heap, Tables, Atoms, Fun, givenOf, Given, ‵, _$_, !, rewrite, agg, stop, from, addr, lit, of-opd, and-then, no-more, unit-lit, FmC, fmOf, Nothing, u8, u32, u64, Room, tripleOf}
-use denote.Plain.{nothing-makes, bool-lawful, bool-tells}
+use Rattle.walk.proofs.Prelude.{_≡_, refl, sym, subst, ℕ, List, [], _∷_, arith, length, replicate, length-replicate, lit<, URA, w64, w8, w32, vunit, SProp, emp, id⊢, Memory, Routine, Heap, Tables, Atoms, Fun, givenOf, Given, ‵, _$_, !, rewrite, agg, stop, from, addr, lit, of-opd, and-then, no-more, unit-lit, FmC, fmOf, Nothing, u8, u32, u64, Room, tripleOf}
+use Rattle.walk.proofs.Prelude.{drop, so, Shape, Walk, proves, var, vars, sets, gives, takes-out, big-lit, loan, lends-slice, fit, of-flag, calls-for, made, of-nothing, given}
+use Rattle.walk.proofs.Slices.Arrays.{Held-array, array-lent, repeats, zeros, zeros-long, zeroes, mut-zeros, ends-array}
+use Rattle.session_main.proofs.Values.{a-flow}
 use Rattle.spec.specs.declared.types.Request.{Request}
 use Rattle.spec.specs.Tables.{zeroRequest}
 use Rattle.table.proofs.Rows.{R, mach, vals, lawful, copy, makes, zero-is}
-use Rattle.walk.proofs.Enter.{so}
-use Rattle.walk.proofs.Proves.{Shape, Walk, proves}
-use Rattle.walk.proofs.Locals.{var, vars, sets, gets-told, gives}
-use Rattle.walk.proofs.At.{takes-out, calls-at, calls-now}
-use Rattle.walk.proofs.Steps.{big-lit}
-use Rattle.walk.proofs.Slices.Loans.{Param, loan, bound}
-use Rattle.walk.proofs.Slices.Arrays.{Held-array, array-lent, repeats}
 use Rattle.session.specs.Standing.{doFit}
 use Rattle.session_main.specs.Flowing.{bufferLength, Reserved}
-use Rattle.session_main.proofs.Borrows.{lends-slice, zeros, zeros-long, zeroes, all-zeros, ends-array}
-use Rattle.session_main.proofs.Values.{FlowT, flow-val, flow-tells, flow-lawful, the-flow}
 use Rattle.session_main.proofs.serve as serve
 use Rattle.session_main.proofs.flow.say_why as say-why
 use Rattle.session_main.proofs.main as f
@@ -73,24 +65,20 @@ module _ {M : Type 1} (𝓤 : URA M) (H : Heap 𝓤) (A : Atoms 𝓤) (W : Given
       takes-out ! 1 refl $ repeats ! R (lawful 𝓤 H A W) (copy 𝓤 H A W) (makes 𝓤 H A W) 2048 zeroRequest (mach zeroRequest) zero-is l₁ (var ! refl) (from ! (stop !)) (
       rewrite ! 0 (λ (xs : List Request). ‵ (Held-array R 2048 l₁ xs)) records-is refl $
       zeroes ! (lit< tt) refl refl $ zeroes ! (lit< tt) refl refl $ zeroes ! (lit< tt) refl refl $ zeroes ! (lit< tt) refl refl $ zeroes ! (lit< tt) refl refl $ zeroes ! (lit< tt) refl refl $
-      lends-slice ! (addr ! (from ! (stop !))) (lit< tt) refl refl (big-lit ! (record { fits = lit< tt })) $
+      lends-slice ! (addr ! (from ! (stop !))) (lit< tt) refl refl (big-lit ! (fit (lit< tt))) $
       lends-slice ! (addr ! (from ! (stop !))) (lit< tt) refl refl (lit ! tt) $
       lends-slice ! (addr ! (from ! (stop !))) (lit< tt) refl refl (lit ! tt) $
       lends-slice ! (addr ! (from ! (stop !))) (lit< tt) refl refl (lit ! tt) $
-      lends-slice ! (addr ! (from ! (stop !))) (lit< tt) refl refl (big-lit ! (record { fits = lit< tt })) $
-      lends-slice ! (addr ! (from ! (stop !))) (lit< tt) refl refl (big-lit ! (record { fits = lit< tt })) $
-      lends-slice ! (addr ! (from ! (stop !))) (lit< tt) refl refl (big-lit ! (record { fits = lit< tt })) $
+      lends-slice ! (addr ! (from ! (stop !))) (lit< tt) refl refl (big-lit ! (fit (lit< tt))) $
+      lends-slice ! (addr ! (from ! (stop !))) (lit< tt) refl refl (big-lit ! (fit (lit< tt))) $
+      lends-slice ! (addr ! (from ! (stop !))) (lit< tt) refl refl (big-lit ! (fit (lit< tt))) $
       -- let flow = serve(&mut waiting, &mut submitted, &mut served, &mut dropped, &mut starts, &mut buffer, &mut out);
-      let ps : List (Param 𝓤 H A) = loan (array-lent W R 2048 l₁ tt records (subst (Room R) (sym records-long) (lit< tt, lit< tt)) records-long) ∷ all-zeros W w32 256 l₂ (lit< tt, lit< tt) ∷ all-zeros W w32 256 l₃ (lit< tt, lit< tt) ∷ all-zeros W w32 256 l₄ (lit< tt, lit< tt) ∷ all-zeros W w64 2048 l₅ (lit< tt, lit< tt) ∷ all-zeros W w8 65536 l₆ (lit< tt, lit< tt) ∷ all-zeros W w8 286748 l₇ (lit< tt, lit< tt) ∷ [] in
-      calls-at ! fm (6 ∷ 5 ∷ 4 ∷ 3 ∷ 2 ∷ 1 ∷ 0 ∷ []) ps _ (so 𝓤 reserved) FlowT _ (λ c. known-serve (bound W ps c)) refl (λ c. vars ! (refl, (refl, (refl, (refl, (refl, (refl, (refl, tt)))))))) (λ w flow last served kept.
-      gets-told ! FlowT (flow-lawful 𝓤 H A W) flow-val flow-tells w flow refl refl (λ flow-is.
+      calls-for ! 𝓣 (6 ∷ 5 ∷ 4 ∷ 3 ∷ 2 ∷ 1 ∷ 0 ∷ []) (loan (array-lent W R 2048 l₁ tt records (subst (Room R) (sym records-long) (lit< tt, lit< tt)) records-long) ∷ mut-zeros W w32 256 l₂ (lit< tt, lit< tt) ∷ mut-zeros W w32 256 l₃ (lit< tt, lit< tt) ∷ mut-zeros W w32 256 l₄ (lit< tt, lit< tt) ∷ mut-zeros W w64 2048 l₅ (lit< tt, lit< tt) ∷ mut-zeros W w8 65536 l₆ (lit< tt, lit< tt) ∷ mut-zeros W w8 286748 l₇ (lit< tt, lit< tt) ∷ []) a-flow (λ c. known-serve) (λ c h. h) (so 𝓤 reserved) refl (λ c. vars ! (refl, (refl, (refl, (refl, (refl, (refl, (refl, tt)))))))) (λ _. refl) (λ flow last served kept flow-is.
       -- flow::say_why(flow);
-      let ps′ : List (Param 𝓤 H A) = the-flow W flow flow-is ∷ [] in
-      calls-now ! fm [] ps′ bool _ (λ c. known-say-why (bound W ps′ c)) refl (λ c. vars ! (refl, tt)) (λ w′ said last′ told kept′.
-      gets-told ! bool (bool-lawful 𝓤 H A W) vbool bool-tells w′ said refl refl (λ said-is.
+      calls-for ! 𝓣 [] (given W a-flow flow flow-is ∷ []) of-flag (λ c. known-say-why) (λ c h. h) (id⊢ 𝓤 _) refl (λ c. vars ! (refl, tt)) (λ _. refl) (λ said last′ told kept′ said-is.
       sets ! (of-opd ! (unit-lit !)) refl (tt, tt) $
       ends-array ! 7 u8 286748 l₇ (last .1 .1 .1 .1 .1 .1 .0) $ ends-array ! 6 u8 65536 l₆ (last .1 .1 .1 .1 .1 .0) $ ends-array ! 5 u64 2048 l₅ (last .1 .1 .1 .1 .0) $ ends-array ! 4 u32 256 l₄ (last .1 .1 .1 .0) $ ends-array ! 3 u32 256 l₃ (last .1 .1 .0) $ ends-array ! 2 u32 256 l₂ (last .1 .0) $ ends-array ! 1 R 2048 l₁ (last .0) $
-      gives ! refl refl $ leaves vunit tt tt tt (nothing-makes 𝓤 H A W tt (vunit ∷ []) refl) (id⊢ 𝓤 (emp 𝓤)))))))
+      gives ! refl refl $ leaves vunit tt tt tt (made W of-nothing tt refl) (id⊢ 𝓤 (emp 𝓤)))))
 
 pub main-spec : {M : Type 1} → f.Statement.statement M
 unfolding f.Code.routine

@@ -3,24 +3,17 @@
 -- Assumes nothing.
 use prog.Wp.{Env}
 use prog.Routine.{Name}
-use denote.Steps.{heard}
-use Rattle.walk.proofs.Prelude.{_≡_, refl, sym, _∙_, subst, ℕ, _<_, List, [], _∷_, length, URA, Val, SProp, Lft, Share, Lfts, Shares, Memory, Routine, Heap, Tables, Out, Wp, afterSeq, afterBlock, afterTurn, atReturn, Atoms, Fun, givenOf, Given, Item, Sq, runs, anyQ, atRet, ‵, _$_, !, sliceVal, lit, of-opd, bin, no-more, first, blocks, exec, Below, again, loops, FmC, fmOf}
-use Rattle.walk.proofs.Prelude.{and-then, RattleType, u8, u32, u64, Contract, Triple, tripleOf, ltb→lt}
-use Rattle.walk.proofs.Enter.{Blocks, envAt, Slice, ref, Leaves, lent, so}
-use Rattle.walk.proofs.Proves.{Shape, Walk, proves}
-use Rattle.walk.proofs.Inside.{Lent-at}
+use Rattle.walk.proofs.Prelude.{_≡_, refl, sym, _∙_, subst, ℕ, _<_, List, [], _∷_, length, URA, Val, SProp, Lft, Share, Lfts, Shares, Memory, Routine, Heap, Tables, Out, Wp, afterSeq, afterBlock, afterTurn, atReturn, Atoms, Fun, givenOf, Given, Item, Sq, runs, anyQ, atRet, ‵, _$_, !, sliceVal, lit, of-opd, bin, no-more, first, blocks, exec, Below, again, loops, FmC, fmOf, and-then, RattleType, u8, u32, u64, Contract, Triple, tripleOf, ltb→lt, id⊢}
+use Rattle.walk.proofs.Prelude.{heard, lent, so, Shape, Walk, proves, Lent-at, tests, var, vars, field-var, sets, sets-last, relends, empties, gives, mut-of, shr-front, given, calls-for, copies, lends-front, made}
+use Rattle.walk.proofs.Enter.{Blocks, envAt, Slice, ref, Leaves}
 use Rattle.walk.proofs.Frees.{Held, holds, empty}
-use Rattle.walk.proofs.Steps.{tests}
-use Rattle.walk.proofs.Locals.{standing, var, vars, field-var, sets, resets-last, relends, gets, gets-told, empties, gives}
-use Rattle.walk.proofs.At.{mut-of, calls-at, calls-now}
-use Rattle.walk.proofs.Slices.Loans.{Param, bound}
+use Rattle.walk.proofs.Locals.{standing}
+use Rattle.session.proofs.Values.{a-session, a-fed}
 use Rattle.spec.specs.declared.types.Request.{Request}
 use Rattle.frame.specs.Written.{mostBytes}
 use Rattle.table.proofs.Rows.{R}
-use Rattle.session.proofs.Values.{FedT, fed-lawful}
 use Rattle.session_main.specs.Flowing.{bufferLength, Reserved}
-use Rattle.session_main.proofs.Borrows.{points, lends-slice, front-of}
-use Rattle.session_main.proofs.Values.{FlowT, flow-val, flow-vals, flow-tells, flow-lawful, flow-makes, have-fits, the-flow, the-session, the-fed}
+use Rattle.session_main.proofs.Values.{FlowT, flow-vals, have-fits, session-in, a-flow}
 use Rattle.session_main.proofs.Flows.{flows-begin, can-read, reads-on, fed-within, feeds-through, flows-end}
 use Rattle.session_main.proofs.Turns.{Turns, Nearer, Nearer-wf, as-long, none-left}
 use Rattle.session_main.proofs.flow.start as start
@@ -67,7 +60,7 @@ module _ {M : Type 1} (𝓤 : URA M) (H : Heap 𝓤) (A : Atoms 𝓤) (W : Given
     abbrev At : Turn → List (Item 𝓤)
     At t =
         ‵ (Lent-at waiting (t .ws)) ∷ ‵ (Lent-at submitted (t .su)) ∷ ‵ (Lent-at served (t .se)) ∷ ‵ (Lent-at dropped (t .dr)) ∷ ‵ (Lent-at starts (t .st)) ∷ ‵ (Lent-at buffer (t .bu)) ∷ ‵ (Lent-at out (t .out))
-        ∷ standing E (empty ∷ passed waiting ∷ passed submitted ∷ passed served ∷ passed dropped ∷ passed starts ∷ passed buffer ∷ passed out ∷ holds (flow-val (t .flow)) ∷ []) []
+        ∷ standing E (empty ∷ passed waiting ∷ passed submitted ∷ passed served ∷ passed dropped ∷ passed starts ∷ passed buffer ∷ passed out ∷ holds (a-flow .val (t .flow)) ∷ []) []
 
     -- a turn's postcondition: fewer turns are left, or the loop is left and the rest of the body runs
     abbrev Turned : Turn → Out → SProp 𝓤
@@ -83,19 +76,15 @@ module _ {M : Type 1} (𝓤 : URA M) (H : Heap 𝓤) (A : Atoms 𝓤) (W : Given
         (λ held.
         let going : 0 < t .flow .turns = ltb→lt 0 (t .flow .turns) held in
         -- let read = flow::read_on(flow, buffer);
-        relends ! (buffer .room .0) refl refl refl $
-        let ps₁ : List (Param 𝓤 H A) = the-flow W (t .flow) (t .flow-is) ∷ mut-of W buffer (t .bu) (t .bu-long) ∷ [] in
-        calls-at ! fm (5 ∷ []) ps₁ _ (so 𝓤 (buffer-long, can-read (t .so) buffer-long going)) FlowT _ (λ c. known-read-on (bound W ps₁ c)) refl (λ c. vars ! (refl, (refl, tt))) (λ w₁ read last₁ reads kept₁.
-        gets-told ! FlowT (flow-lawful 𝓤 H A W) flow-val flow-tells w₁ read refl refl (λ read-is.
+        relends ! buffer refl $
+        calls-for ! 𝓣 (5 ∷ []) (given W a-flow (t .flow) (t .flow-is) ∷ mut-of W buffer (t .bu) (t .bu-long) ∷ []) a-flow (λ c. known-read-on) (λ c h. h) (so 𝓤 (buffer-long, can-read (t .so) buffer-long going)) refl (λ c. vars ! (refl, (refl, tt))) (λ _. refl) (λ read last₁ reads kept₁ read-is.
         let bu₁ : List ℕ = last₁ .1 .0 in
         let bu₁-long : length bu₁ ≡ length (buffer .list) = kept₁ .0 ∙ t .bu-long in
         let fed-so = reads-on (t .so) buffer-long going bu₁ read reads (kept₁ .0) in
         -- let fed = session::feed(read.session, &buffer[..read.have], waiting, submitted, served, dropped, starts, out);
-        lends-slice ! (points ! refl refl) (have-fits read read-is) refl refl (field-var ! refl refl refl) $
-        relends ! (waiting .room .0) refl refl refl $ relends ! (submitted .room .0) refl refl refl $ relends ! (served .room .0) refl refl refl $ relends ! (dropped .room .0) refl refl refl $ relends ! (starts .room .0) refl refl refl $ relends ! (out .room .0) refl refl refl $
-        let ps₂ : List (Param 𝓤 H A) = the-session W read read-is ∷ front-of W buffer bu₁ bu₁-long (read .have) (fed-so .0 .stands .within) ∷ mut-of W waiting (t .ws) (t .ws-long) ∷ mut-of W submitted (t .su) (t .su-long) ∷ mut-of W served (t .se) (t .se-long) ∷ mut-of W dropped (t .dr) (t .dr-long) ∷ mut-of W starts (t .st) (t .st-long) ∷ mut-of W out (t .out) (t .out-long) ∷ [] in
-        calls-now ! fm (5 ∷ 0 ∷ 1 ∷ 2 ∷ 3 ∷ 4 ∷ 6 ∷ []) ps₂ FedT _ (λ c. known-feed (bound W ps₂ c)) refl (λ c. and-then ! (field-var ! refl refl refl) (vars ! (refl, (refl, (refl, (refl, (refl, (refl, (refl, tt))))))))) (λ w₂ fed last₂ is-fed kept₂.
-        gets ! FedT (fed-lawful 𝓤 H A W) w₂ fed refl refl (λ fed-is.
+        lends-front ! (have-fits read read-is) refl (field-var ! refl refl refl) $
+        relends ! waiting refl $ relends ! submitted refl $ relends ! served refl $ relends ! dropped refl $ relends ! starts refl $ relends ! out refl $
+        calls-for ! 𝓣 (5 ∷ 0 ∷ 1 ∷ 2 ∷ 3 ∷ 4 ∷ 6 ∷ []) (given W a-session (read .session) (session-in read read-is) ∷ shr-front W buffer bu₁ bu₁-long (read .have) (fed-so .0 .stands .within) ∷ mut-of W waiting (t .ws) (t .ws-long) ∷ mut-of W submitted (t .su) (t .su-long) ∷ mut-of W served (t .se) (t .se-long) ∷ mut-of W dropped (t .dr) (t .dr-long) ∷ mut-of W starts (t .st) (t .st-long) ∷ mut-of W out (t .out) (t .out-long) ∷ []) a-fed (λ c. known-feed) (λ c h. h) (id⊢ 𝓤 _) refl (λ c. and-then ! (field-var ! refl refl refl) (vars ! (refl, (refl, (refl, (refl, (refl, (refl, (refl, tt))))))))) (λ _. refl) (λ fed last₂ is-fed kept₂ fed-is.
         let ws₁ : List Request = last₂ .1 .1 .0 in
         let su₁ : List ℕ = last₂ .1 .1 .1 .0 in
         let se₁ : List ℕ = last₂ .1 .1 .1 .1 .0 in
@@ -104,29 +93,26 @@ module _ {M : Type 1} (𝓤 : URA M) (H : Heap 𝓤) (A : Atoms 𝓤) (W : Given
         let long = kept₂ .1 in
         let out₁-long : length out₁ ≡ length (out .list) = long .1 .1 .1 .1 .1 .0 ∙ t .out-long in
         -- let next = flow::go_on(read, fed, buffer, out);
-        relends ! (buffer .room .0) refl refl refl $ relends ! (out .room .0) refl refl refl $
-        let ps₃ : List (Param 𝓤 H A) = the-flow W read read-is ∷ the-fed W fed w₂ fed-is ∷ mut-of W buffer bu₁ bu₁-long ∷ mut-of W out out₁ out₁-long ∷ [] in
-        calls-at ! fm (5 ∷ 6 ∷ []) ps₃ _ (so 𝓤 (fed-so .0 .going, bu₁-long ∙ reserved .buffer-long, as-long (read .have) (sym (bu₁-long ∙ reserved .buffer-long)) (fed-so .0 .stands .within), fed-within (fed-so .0) (t .st-long) is-fed, as-long mostBytes out₁-long (reserved .answer-fits), as-long (fed .put) (long .1 .1 .1 .1 .1 .0) (is-fed .room))) FlowT _ (λ c. known-go-on (bound W ps₃ c)) refl (λ c. vars ! (refl, (refl, (refl, (refl, tt))))) (λ w₃ next last₃ on kept₃.
-        gets-told ! FlowT (flow-lawful 𝓤 H A W) flow-val flow-tells w₃ next refl refl (λ next-is.
+        relends ! buffer refl $ relends ! out refl $
+        calls-for ! 𝓣 (5 ∷ 6 ∷ []) (given W a-flow read read-is ∷ given W a-fed fed fed-is ∷ mut-of W buffer bu₁ bu₁-long ∷ mut-of W out out₁ out₁-long ∷ []) a-flow (λ c. known-go-on) (λ c h. h) (so 𝓤 (fed-so .0 .going, bu₁-long ∙ reserved .buffer-long, as-long (read .have) (sym (bu₁-long ∙ reserved .buffer-long)) (fed-so .0 .stands .within), fed-within (fed-so .0) (t .st-long) is-fed, as-long mostBytes out₁-long (reserved .answer-fits), as-long (fed .put) (long .1 .1 .1 .1 .1 .0) (is-fed .room))) refl (λ c. vars ! (refl, (refl, (refl, (refl, tt))))) (λ _. refl) (λ next last₃ on kept₃ next-is.
         -- flow = next
-        resets-last ! (of-opd ! (var ! refl)) refl (flow-lawful 𝓤 H A W .typed next (flow-vals next) next-is .0) $
+        sets-last ! (of-opd ! (var ! refl)) refl (a-flow .lawful 𝓤 H A W .typed next (flow-vals next) next-is .0) $
         empties ! 9 refl $ empties ! 10 refl $ empties ! 11 refl $ empties ! 12 refl $ empties ! 13 refl $ empties ! 14 refl $ empties ! 15 refl $ empties ! 16 refl $ empties ! 17 refl $ empties ! 18 refl $ empties ! 19 refl $ empties ! 20 refl $ empties ! 21 refl $ empties ! 22 refl $ empties ! 23 refl $ empties ! 24 refl $ empties ! 25 refl $ empties ! 26 refl $ empties ! 27 refl $ empties ! 28 refl $ empties ! 29 refl $ empties ! 30 refl $ empties ! 31 refl $ empties ! 32 refl $
         let turn = feeds-through (fed-so .0) (t .st-long) is-fed (as-long mostBytes (t .out-long) (reserved .answer-fits)) on (kept₃ .0) in
         again ! Nearer At t (record { flow = next; ws = ws₁; su = su₁; se = se₁; dr = dr₁; st = last₂ .1 .1 .1 .1 .1 .1 .0; bu = last₃ .1 .1 .0; out = last₃ .1 .1 .1 .0; flow-is = next-is; ws-long = long .0 ∙ t .ws-long; su-long = long .1 .0 ∙ t .su-long; se-long = long .1 .1 .0 ∙ t .se-long; dr-long = long .1 .1 .1 .0 ∙ t .dr-long; st-long = long .1 .1 .1 .1 .0 ∙ t .st-long; bu-long = kept₃ .0 ∙ bu₁-long; out-long = kept₃ .1 .0 ∙ out₁-long; so = turn .0 })
-        (subst (λ (n : ℕ). next .turns < n) (fed-so .1) (turn .1)))))))))
+        (subst (λ (n : ℕ). next .turns < n) (fed-so .1) (turn .1))))))
         (λ over. exec ! (𝓣 .C) (𝓣 .Λ) E code.t-3 (atRet E Q) $
-        sets ! (of-opd ! (var ! refl)) refl (flow-lawful 𝓤 H A W .typed (t .flow) (flow-vals (t .flow)) (t .flow-is) .0) $ gives ! refl refl $
-        leaves (flow-val (t .flow)) (t .flow) (t .ws, (t .su, (t .se, (t .dr, (t .st, (t .bu, (t .out, tt))))))) (t .ws-long, (t .su-long, (t .se-long, (t .dr-long, (t .st-long, (t .bu-long, (t .out-long, tt))))))) (flow-makes 𝓤 H A W (t .flow) (flow-vals (t .flow)) (t .flow-is))
+        copies ! refl refl (a-flow .lawful 𝓤 H A W .typed (t .flow) (flow-vals (t .flow)) (t .flow-is) .0) $ gives ! refl refl $
+        leaves (a-flow .val (t .flow)) (t .flow) (t .ws, (t .su, (t .se, (t .dr, (t .st, (t .bu, (t .out, tt))))))) (t .ws-long, (t .su-long, (t .se-long, (t .dr-long, (t .st-long, (t .bu-long, (t .out-long, tt))))))) (made W a-flow (t .flow) (t .flow-is))
         (so 𝓤 (flows-end (t .so) (none-left (t .flow .turns) over))))
 
   walk : (𝓣 : Tables 𝓤 H) → Walk shape 𝓣
   walk 𝓣 known-start known-read-on known-feed known-go-on κs qs waiting submitted served dropped starts buffer out g Q leaves bs =
       heard ! (Reserved (waiting .list) (submitted .list) (served .list) (dropped .list) (starts .list) (buffer .list) (out .list)) (λ reserved.
       -- let mut flow = flow::start();
-      calls-now ! (fmOf 𝓤 H (W .laws) 𝓣) [] [] FlowT _ (λ c. known-start (bound W [] c)) refl (λ c. no-more !) (λ w flow last starts-so kept.
-      gets-told ! FlowT (flow-lawful 𝓤 H A W) flow-val flow-tells w flow refl refl (λ flow-is.
+      calls-for ! 𝓣 [] [] a-flow (λ c. known-start) (λ c h. h) (id⊢ 𝓤 _) refl (λ c. no-more !) (λ _. refl) (λ flow last starts-so kept flow-is.
       first ! $ blocks ! $ loops ! 𝓣 Nearer Nearer-wf (At 𝓣 known-read-on known-feed known-go-on κs qs waiting submitted served dropped starts buffer out reserved Q leaves bs) (turns 𝓣 known-read-on known-feed known-go-on κs qs waiting submitted served dropped starts buffer out reserved Q leaves bs)
-      (record { flow = flow; ws = waiting .list; su = submitted .list; se = served .list; dr = dropped .list; st = starts .list; bu = buffer .list; out = out .list; flow-is = flow-is; ws-long = refl; su-long = refl; se-long = refl; dr-long = refl; st-long = refl; bu-long = refl; out-long = refl; so = flows-begin starts-so reserved }))))
+      (record { flow = flow; ws = waiting .list; su = submitted .list; se = served .list; dr = dropped .list; st = starts .list; bu = buffer .list; out = out .list; flow-is = flow-is; ws-long = refl; su-long = refl; se-long = refl; dr-long = refl; st-long = refl; bu-long = refl; out-long = refl; so = flows-begin starts-so reserved })))
 
 pub serve-spec : {M : Type 1} → f.Statement.statement M
 unfolding f.Code.routine

@@ -2,19 +2,11 @@
 -- `put_deadline` on a `&mut [u64]`.
 -- Assumes nothing.
 use Rattle.walk.proofs.Prelude.{_≡_, refl, sym, _∙_, subst, ℕ, _+_, _-_, _<_, _≤_, _^_, zero-le, le-antisymm, lt-of-le-of-lt, lt-of-lt-of-le, add-one-le, add-one-dec, List, [], _∷_, length, getD, take, ltb→lt, nltb→le, lit<, URA, w64, vunit, vint, SProp, Memory, Routine, Heap, Tables, Atoms, Fun, Given, ‵, _$_, !, rewrite, lit, of-opd, bin, unit-lit, u64, Nothing, tripleOf}
-use denote.Steps.{heard}
-use Rattle.walk.proofs.Enter.{lent, shown, uint, so}
-use Rattle.walk.proofs.Proves.{Shape, Walk, proved}
-use Rattle.walk.proofs.Inside.{Lent-at}
-use Rattle.walk.proofs.Locals.{var, vars, sets, resets-last, relends, gives}
-use Rattle.walk.proofs.Loops.{iterates}
-use Rattle.walk.proofs.Results.{fit, of-nothing, calls-for, calls-giving}
-use Rattle.walk.proofs.Steps.{tests, Upto}
-use Rattle.walk.proofs.Slices.Loans.{Param, number, bound}
-use Rattle.walk.proofs.At.{mut-of, passed-on}
+use Rattle.walk.proofs.Prelude.{heard, lent, shown, taken, so, Shape, Walk, proved, Lent-at, var, vars, sets, sets-last, relends, gives, iterates, fit, of-nothing, calls-for, calls-giving, tests, number, mut-of, passed-on, made, of-number, computes}
+use Rattle.walk.proofs.Steps.{Upto}
 use Rattle.spec.specs.declared.types.Request.{Request}
 use Rattle.spec.specs.Tables.{zeroRequest, deadlinesOf}
-use Rattle.table.proofs.Rows.{R, of-request, request}
+use Rattle.table.proofs.Rows.{R, a-request, request}
 use Rattle.table.proofs.Laws.{filled, fills, length-filled, filled-all, length-column, getD-column}
 use Rattle.table.proofs.get as get
 use Rattle.table.proofs.put_deadline as put-deadline
@@ -23,7 +15,7 @@ use Rattle.table.proofs.deadlines as f
 module _ {M : Type 1} (𝓤 : URA M) (H : Heap 𝓤) (A : Atoms 𝓤) (W : Given 𝓤 H A) (mem : Memory → SProp 𝓤) (run : Routine → Fun 𝓤) where
   abbrev shape : Shape W
   shape = record {
-    params = shown R ∷ lent u64 ∷ uint W w64 ∷ [];
+    params = shown R ∷ lent u64 ∷ taken (of-number w64) ∷ [];
     result = Nothing;
     clauses = f.clauses 𝓤 H A mem run;
     code = f.Code.function;
@@ -45,7 +37,7 @@ module _ {M : Type 1} (𝓤 : URA M) (H : Heap 𝓤) (A : Atoms 𝓤) (W : Given
       iterates ! 𝓣 {X = Upto n} (λ i. n - i .0) (λ i. (1, ‵ (Lent-at out (filled taken ds (i .0)))) ∷ []) (λ i. (4, vint w64 (i .0)) ∷ []) (0, zero-le) refl (λ i turn.
       let zs : List ℕ = filled taken ds (i .0) in
       let len : length zs ≡ length ds = length-filled taken ds n all (within .1) (i .0) (i .1) in
-      sets ! (bin ! (var ! refl) (var ! refl) tt) refl (tt, tt) $
+      computes ! refl refl tt refl (tt, tt) $
       tests ! (var ! refl)
       (λ less.
       let lt : i .0 < n = ltb→lt (i .0) n less in
@@ -54,20 +46,18 @@ module _ {M : Type 1} (𝓤 : URA M) (H : Heap 𝓤) (A : Atoms 𝓤) (W : Given
       let next-fits : i .0 + 1 < 2 ^ 64 = lt-of-le-of-lt (next .1) (n-is .1) in
       let r : Request = getD ys (i .0) zeroRequest in
       -- let w = get(t, i);
-      let ps : List (Param 𝓤 H A) = passed-on W t ∷ number W (i .0) fits ∷ [] in
-      calls-giving ! 𝓣 (0 ∷ []) ps _ (so 𝓤 (lt-of-lt-of-le lt (within .0))) (of-request W) r (λ c. known-get (bound W ps c)) refl (λ c. vars ! (refl, (refl, tt))) (λ ws. refl) (λ last is.
+      calls-giving ! 𝓣 (0 ∷ []) (passed-on W t ∷ number W (i .0) fits ∷ []) a-request r (λ c. known-get) (λ c h. h) (so 𝓤 (lt-of-lt-of-le lt (within .0))) refl (λ c. vars ! (refl, (refl, tt))) (λ ws. refl) (λ last is.
       -- put_deadline(out, i, w);
-      relends ! (out .room .0) refl refl refl $
-      let ps : List (Param 𝓤 H A) = mut-of W out zs len ∷ number W (i .0) fits ∷ request W r is ∷ [] in
-      calls-for ! 𝓣 (1 ∷ []) ps _ (so 𝓤 (subst (λ (m : ℕ). i .0 < m) (sym len) (lt-of-lt-of-le lt (within .1)))) (of-nothing W) _ (λ c. known-put-deadline (bound W ps c)) refl
+      relends ! out refl $
+      calls-for ! 𝓣 (1 ∷ []) (mut-of W out zs len ∷ number W (i .0) fits ∷ request W r is ∷ []) of-nothing (λ c. known-put-deadline) (λ c h. h) (so 𝓤 (subst (λ (m : ℕ). i .0 < m) (sym len) (lt-of-lt-of-le lt (within .1)))) refl
       (λ c. vars ! (refl, (refl, (refl, tt)))) (λ ws. refl) (λ u last stored kept _.
       -- i += 1
-      resets-last ! (bin ! (var ! refl) (lit ! tt) (fit next-fits)) refl (tt, fit next-fits) $
+      sets-last ! (bin ! (var ! refl) (lit ! tt) (fit next-fits)) refl (tt, fit next-fits) $
       rewrite ! 1 (λ (zs : List ℕ). ‵ (Lent-at out zs)) (stored ∙ fills taken ds n all (within .1) (i .0) (r .deadline) (zeroRequest .deadline) lt (getD-column (λ w. w .deadline) n ys (i .0) zeroRequest lt)) refl $
       turn .continues ! next (add-one-dec n (i .0) lt) refl)))
       (λ over. turn .breaks ! $
       sets ! (of-opd ! (unit-lit !)) refl (tt, tt) $ gives ! refl refl $
-      leaves vunit tt (zs, tt) (len, tt) (of-nothing W .makes tt _ refl) (so 𝓤 (filled-all taken ds n all (within .1) (i .0) (le-antisymm (i .1) (nltb→le (i .0) n over)))))))
+      leaves vunit tt (zs, tt) (len, tt) (made W of-nothing tt refl) (so 𝓤 (filled-all taken ds n all (within .1) (i .0) (le-antisymm (i .1) (nltb→le (i .0) n over)))))))
 
 pub deadlines-spec : {M : Type 1} → f.Statement.statement M
 unfolding f.Code.routine

@@ -1,14 +1,10 @@
 -- `table::get` meets its contract: a walk of its MIR, by hand. The place of `t[i]` is computed (i · 24 past the pointer), the
 -- `&[Request]` is looked into, element i is taken out of the row, read by `look-raw`, and put back.
 -- Assumes nothing.
-use Rattle.walk.proofs.Prelude.{refl, sym, ℕ, _<_, List, [], _∷_, length, getD, URA, w64, vptr, SProp, Memory, Routine, Heap, Tables, Atoms, Fun, Given, _$_, ! }
-use Rattle.walk.proofs.Prelude.{look-raw, stop, hop, from, load, lit, of-opd, bin, Is, shows, place-is, elem-out, elem-back}
-use denote.Steps.{heard}
-use Rattle.walk.proofs.Enter.{shown, uint, so}
-use Rattle.walk.proofs.Proves.{Shape, Walk, proved}
-use Rattle.walk.proofs.Inside.{looks-shown, shuts-shown}
-use Rattle.walk.proofs.Results.{fit}
-use Rattle.walk.proofs.Locals.{var, field-var, cell-of, revalues, sets, gives}
+use Rattle.walk.proofs.Prelude.{refl, sym, ℕ, _<_, List, [], _∷_, length, getD, URA, w64, vptr, SProp, Memory, Routine, Heap, Tables, Atoms, Fun, Given, _$_, !, look-raw, stop, hop, from, load, lit, of-opd, bin, Is, shows, place-is, elem-out, elem-back}
+use Rattle.walk.proofs.Prelude.{heard, shown, taken, so, Shape, Walk, proved, fit, var, field-var, sets, gives, of-number, copies}
+use Rattle.walk.proofs.Locals.{cell-of, revalues}
+use Rattle.walk.proofs.Slices.Inside.{looks-shown, shuts-shown}
 use Rattle.spec.specs.declared.types.Request.{Request}
 use Rattle.spec.specs.Tables.{zeroRequest}
 use Rattle.table.proofs.Rows.{R, mach, vals, tells, copy, lawful, makes, place-fits}
@@ -17,7 +13,7 @@ use Rattle.table.proofs.get as f
 module _ {M : Type 1} (𝓤 : URA M) (H : Heap 𝓤) (A : Atoms 𝓤) (W : Given 𝓤 H A) (mem : Memory → SProp 𝓤) (run : Routine → Fun 𝓤) where
   abbrev shape : Shape W
   shape = record {
-    params = shown R ∷ uint W w64 ∷ [];
+    params = shown R ∷ taken (of-number w64) ∷ [];
     result = R;
     clauses = f.clauses 𝓤 H A mem run;
     code = f.Code.function;
@@ -36,7 +32,7 @@ module _ {M : Type 1} (𝓤 : URA M) (H : Heap 𝓤) (A : Atoms 𝓤) (W : Given
       looks-shown ! tt t vals tells (copy 𝓤 H A W) (λ p. elem-out ! R (Is R) (shows 𝓤 H A R) vals tells p ys i zeroRequest (t .block) (t .offset) l (λ e-is.
       -- [t[i]; what it owns; the others; t looked into; the locals]
       sets ! (of-opd ! (load ! (from ! (hop ! (cell-of ! 4 refl) (stop !))) (look-raw ! 0 refl))) refl (lawful 𝓤 H A W .typed elem _ e-is .0) $
-      sets ! (of-opd ! (var ! refl)) refl (lawful 𝓤 H A W .typed elem _ e-is .0) $
+      copies ! refl refl (lawful 𝓤 H A W .typed elem _ e-is .0) $
       elem-back ! R p ys i zeroRequest (vals elem) (t .block) (t .offset) l $ shuts-shown ! tt t p $
       gives ! refl refl $ leaves (mach elem) elem tt tt (makes 𝓤 H A W elem (vals elem) e-is) (so 𝓤 refl))))
 

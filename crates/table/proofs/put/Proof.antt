@@ -1,15 +1,10 @@
 -- `table::put` meets its contract: a walk of its MIR, by hand. The place of `t[i]` is computed, the `&mut [Request]` is opened,
 -- element i is taken out of the row and stored to by `store-raw`, r takes its place, and the borrow is closed at `set ys i r`.
 -- Assumes nothing.
-use types.Kit.{drop}
-use Rattle.walk.proofs.Prelude.{refl, sym, ℕ, _<_, List, [], _∷_, length, set, length-set, URA, fullShare, w64, vunit, vptr, SProp, Memory, Routine, Heap, Tables, Atoms, Fun, Given, _$_, !, move}
-use Rattle.walk.proofs.Prelude.{store-raw, stop, hop, from, lit, unit-lit, of-opd, bin, assigns, Is, shows, place-is, elem-out, elem-put, owned, Nothing}
-use denote.Steps.{heard}
-use Rattle.walk.proofs.Enter.{lent, uint, so}
-use Rattle.walk.proofs.Proves.{Shape, Walk, proved}
-use Rattle.walk.proofs.Inside.{opens-lent, closes-lent}
-use Rattle.walk.proofs.Results.{fit, of-nothing}
-use Rattle.walk.proofs.Locals.{var, field-var, cell-of, revalues, sets, gives}
+use Rattle.walk.proofs.Prelude.{refl, sym, ℕ, _<_, List, [], _∷_, length, set, length-set, URA, fullShare, w64, vunit, vptr, SProp, Memory, Routine, Heap, Tables, Atoms, Fun, Given, _$_, !, move, store-raw, stop, hop, from, lit, unit-lit, of-opd, bin, assigns, Is, shows, place-is, elem-out, elem-put, owned, Nothing}
+use Rattle.walk.proofs.Prelude.{drop, heard, lent, taken, so, Shape, Walk, proved, fit, of-nothing, var, field-var, sets, gives, made, of-number}
+use Rattle.walk.proofs.Locals.{cell-of, revalues}
+use Rattle.walk.proofs.Slices.Inside.{opens-lent, closes-lent}
 use Rattle.spec.specs.declared.types.Request.{Request}
 use Rattle.spec.specs.Tables.{zeroRequest}
 use Rattle.table.proofs.Rows.{R, a-request, vals, tells, lawful, makes, place-fits}
@@ -18,7 +13,7 @@ use Rattle.table.proofs.put as f
 module _ {M : Type 1} (𝓤 : URA M) (H : Heap 𝓤) (A : Atoms 𝓤) (W : Given 𝓤 H A) (mem : Memory → SProp 𝓤) (run : Routine → Fun 𝓤) where
   abbrev shape : Shape W
   shape = record {
-    params = lent R ∷ uint W w64 ∷ a-request W ∷ [];
+    params = lent R ∷ taken (of-number w64) ∷ taken a-request ∷ [];
     result = Nothing;
     clauses = f.clauses 𝓤 H A mem run;
     code = f.Code.function;
@@ -39,7 +34,7 @@ module _ {M : Type 1} (𝓤 : URA M) (H : Heap 𝓤) (A : Atoms 𝓤) (W : Given
       move ! (1 ∷ []) $ drop ! $ owned ! R (Is R) (makes 𝓤 H A W) r _ r-is $ move ! (1 ∷ 0 ∷ []) $ elem-put ! R fullShare ys i r (vals r) (t .block) (t .offset) l $
       closes-lent ! tt t ys refl (set ys i r) (length-set ys i r) $
       sets ! (of-opd ! (unit-lit !)) refl (tt, tt) $ gives ! refl refl $
-      leaves vunit tt (set ys i r, tt) (length-set ys i r, tt) (of-nothing W .makes tt _ refl) (so 𝓤 refl)))
+      leaves vunit tt (set ys i r, tt) (length-set ys i r, tt) (made W of-nothing tt refl) (so 𝓤 refl)))
 
 pub put-spec : {M : Type 1} → f.Statement.statement M
 unfolding f.Code.routine

@@ -2,18 +2,10 @@
 -- which is passed on. A turn stands at any two places between which what is left to look at gives the whole (`leftBetween`).
 -- Assumes nothing.
 use Rattle.walk.proofs.Prelude.{_≡_, refl, _∙_, ℕ, _+_, _<_, _≤_, _-_, _^_, lt-of-le-of-lt, arith, List, [], _∷_, length, getD, List·getD-map, ltb→lt, nltb→le, leb→le, nleb→lt, lit<, URA, w64, vint, SProp, Memory, Routine, Heap, Tables, Atoms, Fun, Given, _$_, !, lit, of-opd, bin, branches, usize, tripleOf}
-use denote.Steps.{heard}
-use Rattle.walk.proofs.Enter.{shown, uint, so}
-use Rattle.walk.proofs.Proves.{Shape, Walk, proved}
-use Rattle.walk.proofs.Locals.{var, vars, field-var, sets, resets, resets-last, gives}
-use Rattle.walk.proofs.Loops.{iterates}
-use Rattle.walk.proofs.Results.{fit, of-number, calls-giving}
-use Rattle.walk.proofs.Steps.{tests}
-use Rattle.walk.proofs.Slices.Loans.{Param, number, bound}
-use Rattle.walk.proofs.At.{passed-on}
+use Rattle.walk.proofs.Prelude.{heard, shown, taken, so, Shape, Walk, proved, var, vars, field-var, sets, sets-last, gives, iterates, fit, of-number, calls-giving, tests, number, passed-on, made, copies, computes}
 use Rattle.spec.specs.declared.types.Request.{Request}
 use Rattle.spec.specs.Tables.{zeroRequest, deadlinesOf}
-use Rattle.table.proofs.Rows.{R, of-request}
+use Rattle.table.proofs.Rows.{R, a-request}
 use Rattle.table.proofs.get as get
 use Rattle.search.specs.Scans.{middle, placeBy}
 use Rattle.search.proofs.Scanning.{leftBetween, halves-low, halves-high, halves-end}
@@ -65,7 +57,7 @@ module _ (ys : List Request) (n d : ℕ) where
 module _ {M : Type 1} (𝓤 : URA M) (H : Heap 𝓤) (A : Atoms 𝓤) (W : Given 𝓤 H A) (mem : Memory → SProp 𝓤) (run : Routine → Fun 𝓤) where
   abbrev shape : Shape W
   shape = record {
-    params = shown R ∷ uint W w64 ∷ uint W w64 ∷ [];
+    params = shown R ∷ taken (of-number w64) ∷ taken (of-number w64) ∷ [];
     result = usize;
     clauses = f.clauses 𝓤 H A mem run;
     code = f.Code.function;
@@ -78,11 +70,11 @@ module _ {M : Type 1} (𝓤 : URA M) (H : Heap 𝓤) (A : Atoms 𝓤) (W : Given
       let ys : List Request = table .list in
       heard ! (n ≤ length ys) (λ within.
       sets ! (of-opd ! (lit ! tt)) refl (tt, fit (lit< tt)) $
-      sets ! (of-opd ! (var ! refl)) refl (tt, fit (n-is .1)) $
+      copies ! refl refl (tt, fit (n-is .1)) $
       iterates ! 𝓣 {X = Turn ys n d} (λ t. t .high - t .low) (λ t. []) (λ t. (4, vint w64 (t .low)) ∷ (5, vint w64 (t .high)) ∷ []) (start ys n d) refl (λ t turn.
       let high-fits : t .high < 2 ^ 64 = lt-of-le-of-lt (t .within) (n-is .1) in
       let low-fits : t .low < 2 ^ 64 = lt-of-le-of-lt (t .ordered) high-fits in
-      sets ! (bin ! (var ! refl) (var ! refl) tt) refl (tt, tt) $
+      computes ! refl refl tt refl (tt, tt) $
       tests ! (var ! refl)
       (λ less.
       let lt : t .low < t .high = ltb→lt (t .low) (t .high) less in
@@ -91,21 +83,20 @@ module _ {M : Type 1} (𝓤 : URA M) (H : Heap 𝓤) (A : Atoms 𝓤) (W : Given
       let next-fits : m + 1 < 2 ^ 64 = omega arith in
       let w : Request = getD ys m zeroRequest in
       -- let middle = low + (high - low) / 2;
-      sets ! (bin ! (var ! refl) (var ! refl) (t .ordered)) refl (tt, fit (omega arith)) $
+      computes ! refl refl (t .ordered) refl (tt, fit (omega arith)) $
       sets ! (bin ! (var ! refl) (lit ! tt) (lit< tt)) refl (tt, fit (omega arith)) $
-      sets ! (bin ! (var ! refl) (var ! refl) (fit m-fits)) refl (tt, fit m-fits) $
+      computes ! refl refl (fit m-fits) refl (tt, fit m-fits) $
       -- let w = table::get(t, middle);
-      let ps : List (Param 𝓤 H A) = passed-on W table ∷ number W m m-fits ∷ [] in
-      calls-giving ! 𝓣 (0 ∷ []) ps _ (so 𝓤 (omega (arith, t .within))) (of-request W) w (λ c. known-get (bound W ps c)) refl (λ c. vars ! (refl, (refl, tt))) (λ ws. refl) (λ last is.
-      resets ! (bin ! (field-var ! refl refl refl) (var ! refl) tt) refl (tt, tt) $
+      calls-giving ! 𝓣 (0 ∷ []) (passed-on W table ∷ number W m m-fits ∷ []) a-request w (λ c. known-get) (λ c h. h) (so 𝓤 (omega (arith, t .within))) refl (λ c. vars ! (refl, (refl, tt))) (λ ws. refl) (λ last is.
+      sets ! (bin ! (field-var ! refl refl refl) (var ! refl) tt) refl (tt, tt) $
       branches ! (var ! refl)
-      (λ due. resets-last ! (bin ! (var ! refl) (lit ! tt) (fit next-fits)) refl (tt, fit next-fits) $
+      (λ due. sets-last ! (bin ! (var ! refl) (lit ! tt) (fit next-fits)) refl (tt, fit next-fits) $
       turn .continues ! (upper ys n d t lt (omega (arith, leb→le _ d due))) (omega arith) refl)
-      (λ later. resets-last ! (of-opd ! (var ! refl)) refl (tt, fit m-fits) $
+      (λ later. sets-last ! (of-opd ! (var ! refl)) refl (tt, fit m-fits) $
       turn .continues ! (lower ys n d t lt (omega (arith, nleb→lt _ d later))) (omega arith) refl)))
       (λ over. turn .breaks ! $
-      sets ! (of-opd ! (var ! refl)) refl (tt, fit low-fits) $ gives ! refl refl $
-      leaves (vint w64 (t .low)) (t .low) tt tt (of-number W w64 .makes (t .low) _ (refl, low-fits)) (so 𝓤 (found ys n d t (nltb→le (t .low) (t .high) over))))))
+      copies ! refl refl (tt, fit low-fits) $ gives ! refl refl $
+      leaves (vint w64 (t .low)) (t .low) tt tt (made W (of-number w64) (t .low) (refl, low-fits)) (so 𝓤 (found ys n d t (nltb→le (t .low) (t .high) over))))))
 
 pub due-by-spec : {M : Type 1} → f.Statement.statement M
 unfolding f.Code.routine

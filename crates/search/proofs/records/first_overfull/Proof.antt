@@ -4,20 +4,12 @@
 -- Assumes nothing.
 use lib.ListN.{drop as dropN}
 use Rattle.walk.proofs.Prelude.{_≡_, refl, _∙_, Bool, ℕ, _+_, _<_, _≤_, _-_, _^_, lt-of-le-of-lt, lt-of-lt-of-le, add-one-le, add-one-dec, arith, List, [], _∷_, length, getD, take, ltb, ltb→lt, nltb→le, leb→le, nleb→lt, lit<, URA, w64, vint, SProp, Memory, Routine, Heap, Tables, Atoms, Fun, Given, _$_, !, lit, of-opd, bin, un, jumps, u64, tripleOf}
-use denote.Steps.{heard}
-use Rattle.walk.proofs.Enter.{shown, uint, so}
-use Rattle.walk.proofs.Proves.{Shape, Walk, proved}
-use Rattle.walk.proofs.Locals.{var, vars, field-var, sets, resets, resets-last, gives}
-use Rattle.walk.proofs.Loops.{iterates}
-use Rattle.walk.proofs.Results.{fit, of-number, of-flag, calls-giving}
-use Rattle.walk.proofs.Steps.{branches-out}
-use Rattle.walk.proofs.Slices.Loans.{Param, number, bound}
-use Rattle.walk.proofs.At.{passed-on}
+use Rattle.walk.proofs.Prelude.{heard, shown, taken, so, Shape, Walk, proved, var, vars, field-var, sets, sets-last, gives, iterates, fit, of-number, of-flag, calls-giving, branches-out, number, passed-on, made, copies, computes}
 use Rattle.spec.specs.declared.types.Head.{Head}
 use Rattle.spec.specs.declared.types.Request.{Request}
 use Rattle.spec.specs.Tables.{mostRecords, clockEnd, zeroRequest, deadlinesOf}
 use Rattle.spec.specs.Chart.{roomTo}
-use Rattle.table.proofs.Rows.{R, of-request, deadline-fits}
+use Rattle.table.proofs.Rows.{R, a-request, deadline-fits}
 use Rattle.table.proofs.Heads.{a-head, the-head}
 use Rattle.table.proofs.Laws.{not-not}
 use Rattle.table.proofs.get as get
@@ -41,7 +33,7 @@ record Turn (head : Head) (ys : List Request) (n place deadline : ℕ) : Type 0 
 module _ {M : Type 1} (𝓤 : URA M) (H : Heap 𝓤) (A : Atoms 𝓤) (W : Given 𝓤 H A) (mem : Memory → SProp 𝓤) (run : Routine → Fun 𝓤) where
   abbrev shape : Shape W
   shape = record {
-    params = a-head W ∷ shown R ∷ uint W w64 ∷ uint W w64 ∷ uint W w64 ∷ [];
+    params = taken a-head ∷ shown R ∷ taken (of-number w64) ∷ taken (of-number w64) ∷ taken (of-number w64) ∷ [];
     result = u64;
     clauses = f.clauses 𝓤 H A mem run;
     code = f.Code.function;
@@ -56,39 +48,37 @@ module _ {M : Type 1} (𝓤 : URA M) (H : Heap 𝓤) (A : Atoms 𝓤) (W : Given
   walk 𝓣 known-room known-get κs qs head head-is table n n-is place place-is deadline deadline-is g Q leaves bs =
       let ys : List Request = table .list in
       heard ! ((n ≤ length ys) × (n ≤ mostRecords) × (place ≤ n) × (head .clock ≤ clockEnd)) (λ within.
-      sets ! (of-opd ! (var ! refl)) refl (tt, fit (deadline-is .1)) $
-      sets ! (of-opd ! (var ! refl)) refl (tt, fit (place-is .1)) $
+      copies ! refl refl (tt, fit (deadline-is .1)) $
+      copies ! refl refl (tt, fit (place-is .1)) $
       iterates ! 𝓣 {X = Turn head ys n place deadline} (λ t. n - t .i) (λ t. []) (λ t. (6, vint w64 (t .d)) ∷ (7, vint w64 (t .i)) ∷ []) (record { i = place; d = deadline; d-fits = deadline-is .1; inside = within .2; left = refl }) refl (λ t turn.
       let i-fits : t .i < 2 ^ 64 = lt-of-le-of-lt (t .inside) (n-is .1) in
       let has : Bool = ltb (t .i) (roomTo head (t .d)) in
       -- !columns::rows::has_room(head, i as u64, d)
-      sets ! (of-opd ! (var ! refl)) refl (tt, fit i-fits) $
-      let ps : List (Param 𝓤 H A) = the-head W head head-is ∷ number W (t .i) i-fits ∷ number W (t .d) (t .d-fits) ∷ [] in
-      calls-giving ! 𝓣 [] ps _ (so 𝓤 (within .3, omega arith)) (of-flag W) has (λ c. known-room (bound W ps c)) refl (λ c. vars ! (refl, (refl, (refl, tt)))) (λ ws. refl) (λ last has-is.
+      copies ! refl refl (tt, fit i-fits) $
+      calls-giving ! 𝓣 [] (the-head W head head-is ∷ number W (t .i) i-fits ∷ number W (t .d) (t .d-fits) ∷ []) of-flag has (λ c. known-room) (λ c h. h) (so 𝓤 (within .3, omega arith)) refl (λ c. vars ! (refl, (refl, (refl, tt)))) (λ ws. refl) (λ last has-is.
       sets ! (un ! (var ! refl) tt) refl (tt, tt) $
       branches-out ! (var ! refl)
       -- break d;
-      (λ full. sets ! (of-opd ! (var ! refl)) refl (tt, fit (t .d-fits)) $ jumps ! $ turn .breaks ! $
-      sets ! (of-opd ! (var ! refl)) refl (tt, fit (t .d-fits)) $ gives ! refl refl $
-      leaves (vint w64 (t .d)) (t .d) tt tt (of-number W w64 .makes (t .d) _ (refl, t .d-fits)) (so 𝓤 (overfull-here head ys n (t .i) (t .d) (nltb→le (t .i) (roomTo head (t .d)) full) ∙ t .left)))
+      (λ full. copies ! refl refl (tt, fit (t .d-fits)) $ jumps ! $ turn .breaks ! $
+      copies ! refl refl (tt, fit (t .d-fits)) $ gives ! refl refl $
+      leaves (vint w64 (t .d)) (t .d) tt tt (made W (of-number w64) (t .d) (refl, t .d-fits)) (so 𝓤 (overfull-here head ys n (t .i) (t .d) (nltb→le (t .i) (roomTo head (t .d)) full) ∙ t .left)))
       (λ held.
       let room : t .i < roomTo head (t .d) = ltb→lt (t .i) (roomTo head (t .d)) (not-not has held) in
-      resets ! (bin ! (var ! refl) (var ! refl) tt) refl (tt, tt) $
+      computes ! refl refl tt refl (tt, tt) $
       branches-out ! (var ! refl)
       -- break 0;
       (λ past. sets ! (of-opd ! (lit ! tt)) refl (tt, fit (lit< tt)) $ jumps ! $ turn .breaks ! $
-      sets ! (of-opd ! (var ! refl)) refl (tt, fit (lit< tt)) $ gives ! refl refl $
-      leaves (vint w64 0) 0 tt tt (of-number W w64 .makes 0 _ (refl, lit< tt)) (so 𝓤 (overfull-none head ys n (t .i) (t .d) (omega (arith, leb→le _ (t .i) past)) room ∙ t .left)))
+      copies ! refl refl (tt, fit (lit< tt)) $ gives ! refl refl $
+      leaves (vint w64 0) 0 tt tt (made W (of-number w64) 0 (refl, lit< tt)) (so 𝓤 (overfull-none head ys n (t .i) (t .d) (omega (arith, leb→le _ (t .i) past)) room ∙ t .left)))
       (λ before.
       let lt : t .i < n = omega (arith, nleb→lt _ (t .i) before) in
       let next-fits : t .i + 1 < 2 ^ 64 = lt-of-le-of-lt (add-one-le lt) (n-is .1) in
       let w : Request = getD ys (t .i) zeroRequest in
       -- let w = table::get(t, i);
-      let ps : List (Param 𝓤 H A) = passed-on W table ∷ number W (t .i) i-fits ∷ [] in
-      calls-giving ! 𝓣 (0 ∷ []) ps _ (so 𝓤 (lt-of-lt-of-le lt (within .0))) (of-request W) w (λ c. known-get (bound W ps c)) refl (λ c. vars ! (refl, (refl, tt))) (λ ws. refl) (λ last is.
+      calls-giving ! 𝓣 (0 ∷ []) (passed-on W table ∷ number W (t .i) i-fits ∷ []) a-request w (λ c. known-get) (λ c h. h) (so 𝓤 (lt-of-lt-of-le lt (within .0))) refl (λ c. vars ! (refl, (refl, tt))) (λ ws. refl) (λ last is.
       -- d = w.deadline; i += 1
-      resets ! (of-opd ! (field-var ! refl refl refl)) refl (tt, fit (deadline-fits w is)) $
-      resets-last ! (bin ! (var ! refl) (lit ! tt) (fit next-fits)) refl (tt, fit next-fits) $
+      sets ! (of-opd ! (field-var ! refl refl refl)) refl (tt, fit (deadline-fits w is)) $
+      sets-last ! (bin ! (var ! refl) (lit ! tt) (fit next-fits)) refl (tt, fit next-fits) $
       turn .continues ! (record { i = t .i + 1; d = w .deadline; d-fits = deadline-fits w is; inside = add-one-le lt; left = overfull-next head ys n (t .i) (t .d) (within .0) lt room ∙ t .left }) (add-one-dec n (t .i) lt) refl))))))
 
 pub first-overfull-spec : {M : Type 1} → f.Statement.statement M

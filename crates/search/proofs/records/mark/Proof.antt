@@ -4,19 +4,10 @@
 -- Assumes nothing.
 use lib.ListN.{drop as dropN}
 use Rattle.walk.proofs.Prelude.{_≡_, refl, _∙_, ap, ℕ, _+_, _<_, _≤_, _-_, _^_, lt-trans, lt-of-le-of-lt, add-one-le, add-one-dec, arith, List, [], _∷_, length, getD, take, ltb→lt, nltb→le, lit<, URA, w64, vunit, vint, SProp, Memory, Routine, Heap, Tables, Atoms, Fun, Given, ‵, _$_, !, lit, unit-lit, of-opd, bin, and-then, no-more, Nothing, u16, tripleOf}
-use denote.Steps.{heard}
-use Rattle.walk.proofs.Enter.{lent, shown, uint, so}
-use Rattle.walk.proofs.Proves.{Shape, Walk, proved}
-use Rattle.walk.proofs.Inside.{Lent-at}
-use Rattle.walk.proofs.Locals.{var, vars, field-var, sets, resets-last, relends, gives}
-use Rattle.walk.proofs.Loops.{iterates}
-use Rattle.walk.proofs.Results.{fit, of-nothing, calls-for, calls-giving}
-use Rattle.walk.proofs.Steps.{tests}
-use Rattle.walk.proofs.Slices.Loans.{Param, number, bound}
-use Rattle.walk.proofs.At.{mut-of, passed-on}
+use Rattle.walk.proofs.Prelude.{heard, lent, shown, taken, so, Shape, Walk, proved, Lent-at, var, vars, field-var, sets, sets-last, relends, gives, iterates, fit, of-nothing, calls-for, calls-giving, tests, number, mut-of, passed-on, made, of-number, copies, computes}
 use Rattle.spec.specs.declared.types.Request.{Request}
 use Rattle.spec.specs.Tables.{mostClients, zeroRequest, clientsOf}
-use Rattle.table.proofs.Rows.{R, of-request, client-fits}
+use Rattle.table.proofs.Rows.{R, a-request, client-fits}
 use Rattle.table.proofs.get as get
 use Rattle.columns.specs.Columns.{largest16}
 use Rattle.search.specs.Scans.{latestOf}
@@ -38,7 +29,7 @@ record Turn (ys : List Request) (known₀ : List ℕ) (start end more : ℕ) : T
 module _ {M : Type 1} (𝓤 : URA M) (H : Heap 𝓤) (A : Atoms 𝓤) (W : Given 𝓤 H A) (mem : Memory → SProp 𝓤) (run : Routine → Fun 𝓤) where
   abbrev shape : Shape W
   shape = record {
-    params = shown R ∷ lent u16 ∷ uint W w64 ∷ uint W w64 ∷ uint W w64 ∷ [];
+    params = shown R ∷ lent u16 ∷ taken (of-number w64) ∷ taken (of-number w64) ∷ taken (of-number w64) ∷ [];
     result = Nothing;
     clauses = f.clauses 𝓤 H A mem run;
     code = f.Code.function;
@@ -53,9 +44,9 @@ module _ {M : Type 1} (𝓤 : URA M) (H : Heap 𝓤) (A : Atoms 𝓤) (W : Given
   walk 𝓣 known-get known-note κs qs table latest start start-is end end-is more more-is g Q leaves bs =
       let ys : List Request = table .list in
       heard ! ((end ≤ length ys) × (length (latest .list) ≡ mostClients) × (end + more ≤ largest16)) (λ within.
-      sets ! (of-opd ! (var ! refl)) refl (tt, fit (start-is .1)) $
+      copies ! refl refl (tt, fit (start-is .1)) $
       iterates ! 𝓣 {X = Turn ys (latest .list) start end more} (λ t. end - t .i) (λ t. (1, ‵ (Lent-at latest (t .known))) ∷ []) (λ t. (6, vint w64 (t .i)) ∷ []) (record { i = start; known = latest .list; size = refl; left = refl }) refl (λ t turn.
-      sets ! (bin ! (var ! refl) (var ! refl) tt) refl (tt, tt) $
+      computes ! refl refl tt refl (tt, tt) $
       tests ! (var ! refl)
       (λ less.
       let lt : t .i < end = ltb→lt (t .i) end less in
@@ -66,20 +57,18 @@ module _ {M : Type 1} (𝓤 : URA M) (H : Heap 𝓤) (A : Atoms 𝓤) (W : Given
       let place-fits : place < 2 ^ 64 = lt-of-le-of-lt place-small (lit< tt) in
       let w : Request = getD ys (t .i) zeroRequest in
       -- let w = table::get(t, i);
-      let ps : List (Param 𝓤 H A) = passed-on W table ∷ number W (t .i) i-fits ∷ [] in
-      calls-giving ! 𝓣 (0 ∷ []) ps _ (so 𝓤 (omega arith)) (of-request W) w (λ c. known-get (bound W ps c)) refl (λ c. vars ! (refl, (refl, tt))) (λ ws. refl) (λ last is.
+      calls-giving ! 𝓣 (0 ∷ []) (passed-on W table ∷ number W (t .i) i-fits ∷ []) a-request w (λ c. known-get) (λ c h. h) (so 𝓤 (omega arith)) refl (λ c. vars ! (refl, (refl, tt))) (λ ws. refl) (λ last is.
       -- note(latest, w.client, i + more);
-      relends ! (latest .room .0) refl refl refl $
-      sets ! (bin ! (var ! refl) (var ! refl) (fit place-fits)) refl (tt, fit place-fits) $
-      let ps : List (Param 𝓤 H A) = mut-of W latest (t .known) (t .size) ∷ number W (w .client) (client-fits w is) ∷ number W place place-fits ∷ [] in
-      calls-for ! 𝓣 (1 ∷ []) ps _ (so 𝓤 (t .size ∙ within .1, place-small)) (of-nothing W) _ (λ c. known-note (bound W ps c)) refl
+      relends ! latest refl $
+      computes ! refl refl (fit place-fits) refl (tt, fit place-fits) $
+      calls-for ! 𝓣 (1 ∷ []) (mut-of W latest (t .known) (t .size) ∷ number W (w .client) (client-fits w is) ∷ number W place place-fits ∷ []) of-nothing (λ c. known-note) (λ c h. h) (so 𝓤 (t .size ∙ within .1, place-small)) refl
       (λ c. and-then ! (var ! refl) (and-then ! (field-var ! refl refl refl) (and-then ! (var ! refl) (no-more !)))) (λ ws. refl) (λ u last noted kept _.
       -- i += 1
-      resets-last ! (bin ! (var ! refl) (lit ! tt) (fit next-fits)) refl (tt, fit next-fits) $
+      sets-last ! (bin ! (var ! refl) (lit ! tt) (fit next-fits)) refl (tt, fit next-fits) $
       turn .continues ! (record { i = t .i + 1; known = last .0; size = kept .0 ∙ t .size; left = ap (marked ys end more (t .i + 1)) noted ∙ latest-next ys end more (t .i) (t .known) (within .0) lt ∙ t .left }) (add-one-dec end (t .i) lt) refl)))
       (λ over. turn .breaks ! $
       sets ! (of-opd ! (unit-lit !)) refl (tt, tt) $ gives ! refl refl $
-      leaves vunit tt (t .known, tt) (t .size, tt) (of-nothing W .makes tt _ refl) (so 𝓤 (latest-all ys end more (t .i) (t .known) (nltb→le (t .i) end over) ∙ t .left)))))
+      leaves vunit tt (t .known, tt) (t .size, tt) (made W of-nothing tt refl) (so 𝓤 (latest-all ys end more (t .i) (t .known) (nltb→le (t .i) end over) ∙ t .left)))))
 
 pub mark-spec : {M : Type 1} → f.Statement.statement M
 unfolding f.Code.routine

@@ -1,7 +1,7 @@
 -- `sound::check::contents_refusal` meets its contract: a walk of four calls. The tally is a local array, lent to two of them.
 -- Assumes nothing.
 use Rattle.walk.proofs.Prelude.{ℕ, _≡_, refl, sym, _∙_, subst, List, [], _∷_, lit<, length, replicate, length-replicate, URA, w16, w64, tyArray, vint, SProp, emp, id⊢, froom, Memory, Routine, Heap, Tables, Atoms, Fun, Given, ‵, _$_, !, use1, agg, stop, from, addr, lit, of-opd, and-then, no-more, lone, uint-makes, uint-lawful, uint-copy, u16, u32, u64, Room, tripleOf}
-use Rattle.sound.proofs.Walking.{shown, so, Shape, Walk, heard, var, vars, field-var, gives, takes-out, puts-back, passed-on, big-lit, Param, number, flag, loan, fit, of-flag, of-number, proved, writes, asks}
+use Rattle.walk.proofs.Prelude.{shown, so, Shape, Walk, heard, var, vars, field-var, gives, takes-out, puts-back, passed-on, big-lit, Param, number, flag, loan, fit, of-flag, of-number, proved, sets, calls-for, made, taken}
 use Rattle.walk.proofs.Slices.Arrays.{array-room, array-lent, array-shared, repeats}
 use Rattle.spec.specs.declared.types.Request.{Request}
 use Rattle.table.proofs.Rows.{R}
@@ -22,7 +22,7 @@ zeros-long = length-replicate {A = ℕ} 1024 0
 module _ {M : Type 1} (𝓤 : URA M) (H : Heap 𝓤) (A : Atoms 𝓤) (W : Given 𝓤 H A) (mem : Memory → SProp 𝓤) (run : Routine → Fun 𝓤) where
   abbrev shape : Shape W
   shape = record {
-    params = shown R ∷ shown u32 ∷ shown u32 ∷ shown u32 ∷ a-head W ∷ [];
+    params = shown R ∷ shown u32 ∷ shown u32 ∷ shown u32 ∷ taken a-head ∷ [];
     result = u64;
     clauses = f.clauses 𝓤 H A mem run;
     code = f.Code.function;
@@ -46,28 +46,28 @@ module _ {M : Type 1} (𝓤 : URA M) (H : Heap 𝓤) (A : Atoms 𝓤) (W : Given
       let waiting : Param 𝓤 H A = number W (head .waiting) (waiting-fits head head-is) in
       heard ! _ (λ asked.
       takes-out ! 6 refl $ repeats ! u16 (uint-lawful 𝓤 H A W w16) (uint-copy 𝓤 H A W w16) (uint-makes 𝓤 H A W w16) 1024 0 (vint w16 0) (refl, lit< tt) l₆ (lit ! tt) (from ! (stop !)) (
-      writes ! (of-opd ! (field-var ! refl refl refl)) refl (tt, fit (waiting-fits head head-is)) $
-      writes ! (addr ! (from ! (stop !))) refl (tt, tt) $
-      writes ! (agg ! (and-then ! (var ! refl) (and-then ! (big-lit ! (fit (lit< tt))) (no-more !)))) refl (tt, (tt, (fit (lit< tt), tt))) $
+      sets ! (of-opd ! (field-var ! refl refl refl)) refl (tt, fit (waiting-fits head head-is)) $
+      sets ! (addr ! (from ! (stop !))) refl (tt, tt) $
+      sets ! (agg ! (and-then ! (var ! refl) (and-then ! (big-lit ! (fit (lit< tt))) (no-more !)))) refl (tt, (tt, (fit (lit< tt), tt))) $
       -- let next = tables::are_next(waiting, &mut tally, head, n);
-      asks ! 𝓣 (1 ∷ 0 ∷ []) (passed-on W s₀ ∷ loan (array-lent W u16 1024 l₆ tt zeros tally-room zeros-long) ∷ the-head W head head-is ∷ waiting ∷ []) (of-flag W) _
+      calls-for ! 𝓣 (1 ∷ 0 ∷ []) (passed-on W s₀ ∷ loan (array-lent W u16 1024 l₆ tt zeros tally-room zeros-long) ∷ the-head W head head-is ∷ waiting ∷ []) of-flag
       (λ c. known-next) (λ c h. h) (so 𝓤 (next-asked head ws su se dr asked)) refl (λ c. vars ! (refl, (refl, (refl, (refl, tt))))) (λ _. refl) (λ next last₁ passed-next kept₁ _.
       let tally : List ℕ = last₁ .1 .0 in
       let size : length tally ≡ 1024 = kept₁ .1 .0 ∙ zeros-long in
       -- let zero = tables::are_zero(waiting, n);
-      asks ! 𝓣 (1 ∷ []) (passed-on W s₀ ∷ waiting ∷ []) (of-flag W) _
+      calls-for ! 𝓣 (1 ∷ []) (passed-on W s₀ ∷ waiting ∷ []) of-flag
       (λ c. known-zero) (λ c h. h) (so 𝓤 (next-asked head ws su se dr asked .1)) refl (λ c. vars ! (refl, (refl, tt))) (λ _. refl) (λ zero last₂ told-zero kept₂ _.
-      writes ! (addr ! (from ! (stop !))) refl (tt, tt) $
-      writes ! (agg ! (and-then ! (var ! refl) (and-then ! (big-lit ! (fit (lit< tt))) (no-more !)))) refl (tt, (tt, (fit (lit< tt), tt))) $
-      writes ! (of-opd ! (field-var ! refl refl refl)) refl (tt, fit (clients-fit head head-is)) $
+      sets ! (addr ! (from ! (stop !))) refl (tt, tt) $
+      sets ! (agg ! (and-then ! (var ! refl) (and-then ! (big-lit ! (fit (lit< tt))) (no-more !)))) refl (tt, (tt, (fit (lit< tt), tt))) $
+      sets ! (of-opd ! (field-var ! refl refl refl)) refl (tt, fit (clients-fit head head-is)) $
       -- let balanced = tables::are_balanced(&tally, submitted, served, dropped, head.clients as usize);
-      asks ! 𝓣 (0 ∷ 2 ∷ 3 ∷ 4 ∷ []) (loan (array-shared W u16 1024 l₆ tt tally (subst (Room u16) (sym (kept₁ .1 .0)) tally-room) size) ∷ passed-on W s₁ ∷ passed-on W s₂ ∷ passed-on W s₃ ∷ number W (head .clients) (clients-fit head head-is) ∷ []) (of-flag W) _
+      calls-for ! 𝓣 (0 ∷ 2 ∷ 3 ∷ 4 ∷ []) (loan (array-shared W u16 1024 l₆ tt tally (subst (Room u16) (sym (kept₁ .1 .0)) tally-room) size) ∷ passed-on W s₁ ∷ passed-on W s₂ ∷ passed-on W s₃ ∷ number W (head .clients) (clients-fit head head-is) ∷ []) of-flag
       (λ c. known-balanced) (λ c h. h) (so 𝓤 (balanced-asked head ws su se dr asked tally size)) refl (λ c. vars ! (refl, (refl, (refl, (refl, (refl, tt)))))) (λ _. refl) (λ balanced last₃ told-balanced kept₃ _.
       -- verdict(next, zero, balanced)
-      asks ! 𝓣 [] (flag W next ∷ flag W zero ∷ flag W balanced ∷ []) (of-number W w64) _
+      calls-for ! 𝓣 [] (flag W next ∷ flag W zero ∷ flag W balanced ∷ []) (of-number w64)
       (λ c. known-verdict) (λ c h. h) (id⊢ 𝓤 (emp 𝓤)) refl (λ c. vars ! (refl, (refl, (refl, tt)))) (λ _. refl) (λ r last₄ told kept₄ r-is.
       use1 W (‵ (froom (tyArray (lone (u16 .mir)) 1024) l₆ 0)) (array-room W u16 1024 l₆ tally) $ puts-back ! 6 $
-      gives ! refl refl $ leaves (vint w64 r) r tt tt (of-number W w64 .makes r _ r-is) (so 𝓤 (contents-told head ws su se dr asked tally next zero balanced r passed-next told-zero told-balanced told))))))))
+      gives ! refl refl $ leaves (vint w64 r) r tt tt (made W (of-number w64) r r-is) (so 𝓤 (contents-told head ws su se dr asked tally next zero balanced r passed-next told-zero told-balanced told))))))))
 
 pub contents-refusal-spec : {M : Type 1} → f.Statement.statement M
 unfolding f.Code.routine

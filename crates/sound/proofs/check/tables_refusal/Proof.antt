@@ -1,7 +1,7 @@
 -- `sound::check::tables_refusal` meets its contract: a walk of three calls with an early return.
 -- Assumes nothing.
 use Rattle.walk.proofs.Prelude.{ℕ, _≡_, refl, sym, _∙_, ap, List, [], _∷_, length, URA, w64, vint, SProp, emp, id⊢, Memory, Routine, Heap, Tables, Atoms, Fun, Given, _$_, !, lit, of-opd, bin, first, u32, u64, tripleOf}
-use Rattle.sound.proofs.Walking.{shown, so, Shape, Walk, drop, var, vars, field-var, gives, gives-within, passed-on, branches-then, into-assign, skips-then, number, fit, of-number, proved, writes, copies, asks}
+use Rattle.walk.proofs.Prelude.{shown, so, Shape, Walk, drop, var, vars, field-var, gives, gives-within, passed-on, branches-then, into-assign, skips-then, number, fit, of-number, proved, sets, copies, calls-for, made, taken}
 use Rattle.spec.specs.declared.types.Request.{Request}
 use Rattle.columns.specs.Columns.{countOf}
 use Rattle.columns.proofs.Laws.{length-rows}
@@ -18,7 +18,7 @@ use Rattle.sound.proofs.check.tables_refusal as f
 module _ {M : Type 1} (𝓤 : URA M) (H : Heap 𝓤) (A : Atoms 𝓤) (W : Given 𝓤 H A) (mem : Memory → SProp 𝓤) (run : Routine → Fun 𝓤) where
   abbrev shape : Shape W
   shape = record {
-    params = shown R ∷ shown u32 ∷ shown u32 ∷ shown u32 ∷ a-head W ∷ [];
+    params = shown R ∷ shown u32 ∷ shown u32 ∷ shown u32 ∷ taken a-head ∷ [];
     result = u64;
     clauses = f.clauses 𝓤 H A mem run;
     code = f.Code.function;
@@ -37,27 +37,27 @@ module _ {M : Type 1} (𝓤 : URA M) (H : Heap 𝓤) (A : Atoms 𝓤) (W : Given
       let se : List ℕ = s₂ .list in
       let dr : List ℕ = s₃ .list in
       drop ! $
-      writes ! (of-opd ! (field-var ! refl refl refl)) refl (tt, fit (s₁ .room .0)) $
-      writes ! (of-opd ! (field-var ! refl refl refl)) refl (tt, fit (s₂ .room .0)) $
-      writes ! (of-opd ! (field-var ! refl refl refl)) refl (tt, fit (s₃ .room .0)) $
+      sets ! (of-opd ! (field-var ! refl refl refl)) refl (tt, fit (s₁ .room .0)) $
+      sets ! (of-opd ! (field-var ! refl refl refl)) refl (tt, fit (s₂ .room .0)) $
+      sets ! (of-opd ! (field-var ! refl refl refl)) refl (tt, fit (s₃ .room .0)) $
       -- let clients = rows::shortest(submitted.len(), served.len(), dropped.len());
-      asks ! 𝓣 [] (number W (length su) (s₁ .room .0) ∷ number W (length se) (s₂ .room .0) ∷ number W (length dr) (s₃ .room .0) ∷ []) (of-number W w64) _
+      calls-for ! 𝓣 [] (number W (length su) (s₁ .room .0) ∷ number W (length se) (s₂ .room .0) ∷ number W (length dr) (s₃ .room .0) ∷ []) (of-number w64)
       (λ c. known-shortest) (λ c h. h) (id⊢ 𝓤 (emp 𝓤)) refl (λ c. vars ! (refl, (refl, (refl, tt)))) (λ _. refl) (λ clients last₁ clients-told kept₁ clients-is.
-      writes ! (of-opd ! (field-var ! refl refl refl)) refl (tt, fit (s₀ .room .0)) $
+      sets ! (of-opd ! (field-var ! refl refl refl)) refl (tt, fit (s₀ .room .0)) $
       -- let refusal = head_refusal(head, waiting.len(), clients);
-      asks ! 𝓣 [] (the-head W head head-is ∷ number W (length ws) (s₀ .room .0) ∷ number W clients (clients-is .1) ∷ []) (of-number W w64) _
+      calls-for ! 𝓣 [] (the-head W head head-is ∷ number W (length ws) (s₀ .room .0) ∷ number W clients (clients-is .1) ∷ []) (of-number w64)
       (λ c. known-head) (λ c h. h) (id⊢ 𝓤 (emp 𝓤)) refl (λ c. vars ! (refl, (refl, (refl, tt)))) (λ _. refl) (λ refusal last₂ refusal-told kept₂ refusal-is.
       let seen : refusal ≡ Headed head ws su se dr = refusal-told ∙ ap (headRefusal head (length ws)) (clients-told ∙ sym (length-rows countOf su se dr)) in
-      writes ! (bin ! (var ! refl) (lit ! tt) tt) refl (tt, tt) $
+      sets ! (bin ! (var ! refl) (lit ! tt) tt) refl (tt, tt) $
       branches-then ! (var ! refl) (λ held.
       into-assign ! $
       copies ! refl refl (tt, fit (refusal-is .1)) $
-      first ! $ gives-within ! Q refl refl refl $ leaves (vint w64 refusal) refusal tt tt (of-number W w64 .makes refusal _ refusal-is) (so 𝓤 (seen ∙ refused head ws su se dr (λ e. not-zero refusal held (seen ∙ e)))))
+      first ! $ gives-within ! Q refl refl refl $ leaves (vint w64 refusal) refusal tt tt (made W (of-number w64) refusal refusal-is) (so 𝓤 (seen ∙ refused head ws su se dr (λ e. not-zero refusal held (seen ∙ e)))))
       (λ failed. skips-then ! $
       -- contents_refusal(waiting, submitted, served, dropped, head)
-      asks ! 𝓣 (0 ∷ 1 ∷ 2 ∷ 3 ∷ []) (passed-on W s₀ ∷ passed-on W s₁ ∷ passed-on W s₂ ∷ passed-on W s₃ ∷ the-head W head head-is ∷ []) (of-number W w64) _
+      calls-for ! 𝓣 (0 ∷ 1 ∷ 2 ∷ 3 ∷ []) (passed-on W s₀ ∷ passed-on W s₁ ∷ passed-on W s₂ ∷ passed-on W s₃ ∷ the-head W head head-is ∷ []) (of-number w64)
       (λ c. known-contents) (λ c h. h) (so 𝓤 (sym seen ∙ is-zero refusal failed)) refl (λ c. vars ! (refl, (refl, (refl, (refl, (refl, tt)))))) (λ _. refl) (λ r last₃ told kept₃ r-is.
-      gives ! refl refl $ leaves (vint w64 r) r tt tt (of-number W w64 .makes r _ r-is) (so 𝓤 told)))))
+      gives ! refl refl $ leaves (vint w64 r) r tt tt (made W (of-number w64) r r-is) (so 𝓤 told)))))
 
 pub tables-refusal-spec : {M : Type 1} → f.Statement.statement M
 unfolding f.Code.routine

@@ -2,7 +2,7 @@
 -- Assumes nothing.
 use lib.ListN.{drop as dropN}
 use Rattle.walk.proofs.Prelude.{refl, Bool, _&&_, ℕ, _+_, _<_, _-_, _^_, _*_, _/_, _≤_, lt-of-le-of-lt, arith, List, [], _∷_, length, lit<, URA, w64, vbool, SProp, emp, id⊢, Memory, Routine, Heap, Tables, Atoms, Fun, Given, _$_, !, lit, of-opd, bin, bool, tripleOf}
-use Rattle.sound.proofs.Walking.{shown, uint, so, Shape, Walk, heard, var, vars, field-var, gives, passed-on, number, flag, fit, of-flag, proved, writes, computes, asks-for}
+use Rattle.walk.proofs.Prelude.{shown, taken, so, Shape, Walk, heard, var, vars, field-var, gives, passed-on, number, flag, fit, of-flag, proved, sets, computes, calls-giving, made, of-number}
 use Rattle.spec.specs.declared.types.Request.{Request}
 use Rattle.spec.specs.Every.{every}
 use Rattle.spec.specs.Sound.{isZeroRequest}
@@ -15,7 +15,7 @@ use Rattle.sound.proofs.tables.are_zero as f
 module _ {M : Type 1} (𝓤 : URA M) (H : Heap 𝓤) (A : Atoms 𝓤) (W : Given 𝓤 H A) (mem : Memory → SProp 𝓤) (run : Routine → Fun 𝓤) where
   abbrev shape : Shape W
   shape = record {
-    params = shown R ∷ uint W w64 ∷ [];
+    params = shown R ∷ taken (of-number w64) ∷ [];
     result = bool;
     clauses = f.clauses 𝓤 H A mem run;
     code = f.Code.function;
@@ -36,17 +36,17 @@ module _ {M : Type 1} (𝓤 : URA M) (H : Heap 𝓤) (A : Atoms 𝓤) (W : Given
       let most : m ≤ n = omega (arith, within) in
       let p : Bool = areZero ys start m in
       let r : Bool = p && every isZeroRequest (dropN m ys) in
-      writes ! (of-opd ! (field-var ! refl refl refl)) refl (tt, fit (t .room .0)) $
+      sets ! (of-opd ! (field-var ! refl refl refl)) refl (tt, fit (t .room .0)) $
       -- let m = from + (n - from) / 4 * 4;
       computes ! refl refl within refl (tt, fit (fits (n - start) (omega arith))) $
-      writes ! (bin ! (var ! refl) (lit ! tt) (lit< tt)) refl (tt, fit (fits ((n - start) / 4) (omega arith))) $
-      writes ! (bin ! (var ! refl) (lit ! tt) (fit (fits ((n - start) / 4 * 4) (omega arith)))) refl (tt, fit (fits ((n - start) / 4 * 4) (omega arith))) $
+      sets ! (bin ! (var ! refl) (lit ! tt) (lit< tt)) refl (tt, fit (fits ((n - start) / 4) (omega arith))) $
+      sets ! (bin ! (var ! refl) (lit ! tt) (fit (fits ((n - start) / 4 * 4) (omega arith)))) refl (tt, fit (fits ((n - start) / 4 * 4) (omega arith))) $
       computes ! refl refl (fit (fits m most)) refl (tt, fit (fits m most)) $
       -- let p = zero_fours(t, from, m);
-      asks-for ! 𝓣 (0 ∷ []) (passed-on W t ∷ number W start (start-is .1) ∷ number W m (fits m most) ∷ []) (of-flag W) p (λ c. known-fours) (λ c h. h) (so 𝓤 (most, omega arith)) refl (λ c. vars ! (refl, (refl, (refl, tt)))) (λ _. refl) (λ _ _.
+      calls-giving ! 𝓣 (0 ∷ []) (passed-on W t ∷ number W start (start-is .1) ∷ number W m (fits m most) ∷ []) of-flag p (λ c. known-fours) (λ c h. h) (so 𝓤 (most, omega arith)) refl (λ c. vars ! (refl, (refl, (refl, tt)))) (λ _. refl) (λ _ _.
       -- zero_rest(t, m, p)
-      asks-for ! 𝓣 (0 ∷ []) (passed-on W t ∷ number W m (fits m most) ∷ flag W p ∷ []) (of-flag W) r (λ c. known-rest) (λ c h. h) (id⊢ 𝓤 (emp 𝓤)) refl (λ c. vars ! (refl, (refl, (refl, tt)))) (λ _. refl) (λ _ _.
-      gives ! refl refl $ leaves (vbool r) r tt tt (of-flag W .makes r _ refl) (so 𝓤 (parts start m ys (omega arith))))))
+      calls-giving ! 𝓣 (0 ∷ []) (passed-on W t ∷ number W m (fits m most) ∷ flag W p ∷ []) of-flag r (λ c. known-rest) (λ c h. h) (id⊢ 𝓤 (emp 𝓤)) refl (λ c. vars ! (refl, (refl, (refl, tt)))) (λ _. refl) (λ _ _.
+      gives ! refl refl $ leaves (vbool r) r tt tt (made W of-flag r refl) (so 𝓤 (parts start m ys (omega arith))))))
 
 pub are-zero-spec : {M : Type 1} → f.Statement.statement M
 unfolding f.Code.routine

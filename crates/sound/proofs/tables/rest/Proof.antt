@@ -2,10 +2,10 @@
 -- on the other, and of `is_near`. A turn stands wherever the pass has come to (`Turn`).
 -- Assumes nothing.
 use Rattle.walk.proofs.Prelude.{refl, _∙_, _&&_, true, ℕ, _+_, _-_, lt-trans, lt-of-le-of-lt, le-trans, arith, add-one-le, add-one-dec, List, [], _∷_, getD, URA, w64, vbool, vint, SProp, Memory, Routine, Heap, Tables, Atoms, Fun, Given, ‵, _$_, !, true-lit, and-then, no-more, u16, bool, tripleOf}
-use Rattle.sound.proofs.Walking.{shown, lent, uint, boolean, so, Shape, Walk, heard, Lent-at, var, vars, field-var, relends, gives, passed-on, mut-of, tests, number, flag, fit, of-flag, iterates, proved, copies, computes, adds-last, asks, asks-for}
+use Rattle.walk.proofs.Prelude.{shown, lent, taken, so, Shape, Walk, heard, Lent-at, var, vars, field-var, relends, gives, passed-on, mut-of, tests, number, flag, fit, of-flag, iterates, proved, copies, computes, adds-last, calls-for, calls-giving, made, of-number}
 use Rattle.spec.specs.declared.types.Request.{Request}
 use Rattle.spec.specs.Tables.{zeroRequest}
-use Rattle.table.proofs.Rows.{R, of-request, mach, lawful, request, deadline-fits}
+use Rattle.table.proofs.Rows.{R, a-request, mach, lawful, request, deadline-fits}
 use Rattle.table.proofs.Heads.{a-head, the-head}
 use Rattle.table.proofs.get as get
 use Rattle.sound.specs.Checks.{recordBefore, isNear}
@@ -19,7 +19,7 @@ use Rattle.sound.proofs.tables.rest as f
 module _ {M : Type 1} (𝓤 : URA M) (H : Heap 𝓤) (A : Atoms 𝓤) (W : Given 𝓤 H A) (mem : Memory → SProp 𝓤) (run : Routine → Fun 𝓤) where
   abbrev shape : Shape W
   shape = record {
-    params = shown R ∷ lent u16 ∷ a-head W ∷ uint W w64 ∷ uint W w64 ∷ boolean W ∷ [];
+    params = shown R ∷ lent u16 ∷ taken a-head ∷ taken (of-number w64) ∷ taken (of-number w64) ∷ taken of-flag ∷ [];
     result = bool;
     clauses = f.clauses 𝓤 H A mem run;
     code = f.Code.function;
@@ -38,7 +38,7 @@ module _ {M : Type 1} (𝓤 : URA M) (H : Heap 𝓤) (A : Atoms 𝓤) (W : Given
       let tally₀ : List ℕ = tally .list in
       heard ! _ (λ within.
       -- let mut before = previous(t, from);
-      asks-for ! 𝓣 (0 ∷ []) (passed-on W t ∷ number W start (start-is .1) ∷ []) (of-request W) (recordBefore ys start) (λ c. known-previous) (λ c h. h) (so 𝓤 (le-trans (within .2) (within .1))) refl (λ c. vars ! (refl, (refl, tt))) (λ _. refl) (λ _ before-is.
+      calls-giving ! 𝓣 (0 ∷ []) (passed-on W t ∷ number W start (start-is .1) ∷ []) a-request (recordBefore ys start) (λ c. known-previous) (λ c h. h) (so 𝓤 (le-trans (within .2) (within .1))) refl (λ c. vars ! (refl, (refl, tt))) (λ _. refl) (λ _ before-is.
       copies ! refl refl (tt, tt) $
       copies ! refl refl (tt, fit (start-is .1)) $
       iterates ! 𝓣 (λ (u : Turn head ys start (ok, tally₀) n). n - u .i) (λ u. (1, ‵ (Lent-at tally (u .tally))) ∷ []) (λ u. (7, mach (u .before)) ∷ (8, vbool (u .passed)) ∷ (9, vint w64 (u .i)) ∷ [])
@@ -53,8 +53,8 @@ module _ {M : Type 1} (𝓤 : URA M) (H : Heap 𝓤) (A : Atoms 𝓤) (W : Given
       -- let w = table::get(t, i);
       reads ! 𝓣 known-get t i (omega (arith, on .0, within .1)) refl (λ c. (refl, (refl, tt))) refl (λ is.
       -- passed = step(true, tally, head, i, before, w);
-      relends ! (tally .room .0) refl refl refl $
-      asks ! 𝓣 (1 ∷ []) (flag W true ∷ mut-of W tally (u .tally) (u .size) ∷ the-head W head head-is ∷ number W i (lt-trans (on .0) (n-is .1)) ∷ request W (u .before) (u .before-is) ∷ request W w is ∷ []) (of-flag W) _
+      relends ! tally refl $
+      calls-for ! 𝓣 (1 ∷ []) (flag W true ∷ mut-of W tally (u .tally) (u .size) ∷ the-head W head head-is ∷ number W i (lt-trans (on .0) (n-is .1)) ∷ request W (u .before) (u .before-is) ∷ request W w is ∷ []) of-flag
       (λ c. known-step) (λ c h. h) (so 𝓤 (may-step (on .1) (within .0) (on .0))) refl (λ c. and-then ! (true-lit !) (vars ! (refl, (refl, (refl, (refl, (refl, tt))))))) (λ _. refl) (λ r last told kept _.
       copies ! refl refl (lawful 𝓤 H A W .typed w _ is .0) $
       -- i += 1
@@ -62,10 +62,10 @@ module _ {M : Type 1} (𝓤 : URA M) (H : Heap 𝓤) (A : Atoms 𝓤) (W : Given
       turn .continues ! (record { i = i + 1; before = w; passed = r; tally = last .1 .0; before-is = is; size = kept .0 ∙ u .size; behind = comes-next ys i (i + 1) refl; reached = steps-on (on .1) (within .0) (u .behind) (on .0) (i + 1) refl told }) (add-one-dec n i (on .0)) refl)))
       (λ over. turn .breaks ! $
       -- let near = crate::record::is_near(head, before.deadline);
-      asks-for ! 𝓣 [] (the-head W head head-is ∷ number W (u .before .deadline) (deadline-fits (u .before) (u .before-is)) ∷ []) (of-flag W) (isNear head (u .before .deadline)) (λ c. known-near) (λ c h. h) (so 𝓤 (within .0 .clock)) refl
+      calls-giving ! 𝓣 [] (the-head W head head-is ∷ number W (u .before .deadline) (deadline-fits (u .before) (u .before-is)) ∷ []) of-flag (isNear head (u .before .deadline)) (λ c. known-near) (λ c h. h) (so 𝓤 (within .0 .clock)) refl
       (λ c. and-then ! (var ! refl) (and-then ! (field-var ! refl refl refl) (no-more !))) (λ _. refl) (λ _ _.
       computes ! refl refl tt refl (tt, tt) $
-      gives ! refl refl $ leaves (vbool (u .passed && isNear head (u .before .deadline))) (u .passed && isNear head (u .before .deadline)) (u .tally, tt) (u .size, tt) (of-flag W .makes _ _ refl)
+      gives ! refl refl $ leaves (vbool (u .passed && isNear head (u .before .deadline))) (u .passed && isNear head (u .before .deadline)) (u .tally, tt) (u .size, tt) (made W of-flag _ refl)
       (so 𝓤 (asked-over (u .reached) (within .0) (n - start) (omega (arith, within .2)) over (u .behind))))))))
 
 pub rest-spec : {M : Type 1} → f.Statement.statement M

@@ -2,7 +2,7 @@
 -- covered function, on what it lands. A turn stands wherever the pass has come to (`Turn`) with fours left.
 -- Assumes nothing.
 use Rattle.walk.proofs.Prelude.{_≡_, refl, Bool, true, ℕ, _+_, _<_, _-_, _^_, _%_, _≤_, lt-of-le-of-lt, le-trans, arith, List, [], _∷_, length, getD, URA, w64, vbool, vint, SProp, emp, id⊢, Memory, Routine, Heap, Tables, Atoms, Fun, Given, _$_, !, true-lit, of-opd, bool, tripleOf}
-use Rattle.sound.proofs.Walking.{shown, uint, so, Shape, Walk, heard, var, vars, gives, tests, fit, of-flag, iterates, proved, writes, copies, computes, adds, adds-last, asks-for}
+use Rattle.walk.proofs.Prelude.{shown, taken, so, Shape, Walk, heard, var, vars, gives, tests, fit, of-flag, iterates, proved, sets, copies, computes, adds, adds-last, calls-giving, made, of-number}
 use Rattle.spec.specs.declared.types.Request.{Request}
 use Rattle.spec.specs.Tables.{zeroRequest}
 use Rattle.table.proofs.Rows.{R, request}
@@ -15,7 +15,7 @@ use Rattle.sound.proofs.tables.zero_fours as f
 module _ {M : Type 1} (𝓤 : URA M) (H : Heap 𝓤) (A : Atoms 𝓤) (W : Given 𝓤 H A) (mem : Memory → SProp 𝓤) (run : Routine → Fun 𝓤) where
   abbrev shape : Shape W
   shape = record {
-    params = shown R ∷ uint W w64 ∷ uint W w64 ∷ [];
+    params = shown R ∷ taken (of-number w64) ∷ taken (of-number w64) ∷ [];
     result = bool;
     clauses = f.clauses 𝓤 H A mem run;
     code = f.Code.function;
@@ -29,7 +29,7 @@ module _ {M : Type 1} (𝓤 : URA M) (H : Heap 𝓤) (A : Atoms 𝓤) (W : Given
       let all : Bool = areZero ys start n in
       let record-at : ℕ → Request = λ j. getD ys j zeroRequest in
       heard ! _ (λ within.
-      writes ! (of-opd ! (true-lit !)) refl (tt, tt) $
+      sets ! (of-opd ! (true-lit !)) refl (tt, tt) $
       copies ! refl refl (tt, fit (start-is .1)) $
       iterates ! 𝓣 (λ (u : (t : Turn ys n all) × ((n - t .i) % 4 ≡ 0)). n - u .0 .i) (λ u. []) (λ u. (4, vbool (u .0 .zero)) ∷ (5, vint w64 (u .0 .i)) ∷ []) (record { zero = true; i = start; left = refl }, within .1) refl (λ u turn.
       let i : ℕ = u .0 .i in
@@ -53,14 +53,14 @@ module _ {M : Type 1} (𝓤 : URA M) (H : Heap 𝓤) (A : Atoms 𝓤) (W : Given
       adds ! (fits (i + 3) (omega arith)) tt refl refl refl $
       reads ! 𝓣 known-get t (i + 3) (here (i + 3) (omega arith)) refl (λ c. (refl, (refl, tt))) refl (λ d-is.
       -- zero = crate::record::are_zero_four(a, b, c, d);
-      asks-for ! 𝓣 [] (request W (record-at i) a-is ∷ request W (record-at (i + 1)) b-is ∷ request W (record-at (i + 2)) c-is ∷ request W (record-at (i + 3)) d-is ∷ []) (of-flag W) (areFourZero ys i) (λ c. known-four) (λ c h. h) (id⊢ 𝓤 (emp 𝓤)) refl
+      calls-giving ! 𝓣 [] (request W (record-at i) a-is ∷ request W (record-at (i + 1)) b-is ∷ request W (record-at (i + 2)) c-is ∷ request W (record-at (i + 3)) d-is ∷ []) of-flag (areFourZero ys i) (λ c. known-four) (λ c h. h) (id⊢ 𝓤 (emp 𝓤)) refl
       (λ c. vars ! (refl, (refl, (refl, (refl, tt))))) (λ _. refl) (λ _ _.
       -- i += 4
       adds-last ! (fits (i + 4) (omega arith)) tt refl refl refl $
       turn .continues ! (record { zero = areFourZero ys i; i = i + 4; left = four-on ys n (within .0) i last (on .1) }, omega (arith, u .1)) (omega arith) refl))))))
       (λ over. turn .breaks ! $
       copies ! refl refl (tt, tt) $
-      gives ! refl refl $ leaves (vbool (u .0 .zero)) (u .0 .zero) tt tt (of-flag W .makes (u .0 .zero) _ refl) (so 𝓤 (ended (u .0) over)))))
+      gives ! refl refl $ leaves (vbool (u .0 .zero)) (u .0 .zero) tt tt (made W of-flag (u .0 .zero) refl) (so 𝓤 (ended (u .0) over)))))
 
 pub zero-fours-spec : {M : Type 1} → f.Statement.statement M
 unfolding f.Code.routine

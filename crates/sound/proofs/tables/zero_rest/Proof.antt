@@ -3,7 +3,7 @@
 -- Assumes nothing.
 use lib.ListN.{drop as dropN}
 use Rattle.walk.proofs.Prelude.{refl, Bool, true, _&&_, ℕ, _+_, _-_, lt-of-le-of-lt, arith, add-one-le, add-one-dec, List, [], _∷_, length, getD, take-all, URA, w64, vbool, vint, SProp, id⊢, emp, Memory, Routine, Heap, Tables, Atoms, Fun, Given, _$_, !, of-opd, bool, tripleOf}
-use Rattle.sound.proofs.Walking.{shown, uint, boolean, so, Shape, Walk, drop, var, vars, field-var, gives, tests, fit, of-flag, iterates, proved, writes, copies, computes, adds-last, asks-for}
+use Rattle.walk.proofs.Prelude.{shown, taken, so, Shape, Walk, drop, var, vars, field-var, gives, tests, fit, of-flag, iterates, proved, sets, copies, computes, adds-last, calls-giving, made, of-number}
 use Rattle.spec.specs.declared.types.Request.{Request}
 use Rattle.spec.specs.Tables.{zeroRequest}
 use Rattle.spec.specs.Every.{every}
@@ -18,7 +18,7 @@ use Rattle.sound.proofs.tables.zero_rest as f
 module _ {M : Type 1} (𝓤 : URA M) (H : Heap 𝓤) (A : Atoms 𝓤) (W : Given 𝓤 H A) (mem : Memory → SProp 𝓤) (run : Routine → Fun 𝓤) where
   abbrev shape : Shape W
   shape = record {
-    params = shown R ∷ uint W w64 ∷ boolean W ∷ [];
+    params = shown R ∷ taken (of-number w64) ∷ taken of-flag ∷ [];
     result = bool;
     clauses = f.clauses 𝓤 H A mem run;
     code = f.Code.function;
@@ -32,7 +32,7 @@ module _ {M : Type 1} (𝓤 : URA M) (H : Heap 𝓤) (A : Atoms 𝓤) (W : Given
       let n : ℕ = length ys in
       let all : Bool = ok && every isZeroRequest (dropN start ys) in
       drop ! $
-      writes ! (of-opd ! (field-var ! refl refl refl)) refl (tt, fit (t .room .0)) $
+      sets ! (of-opd ! (field-var ! refl refl refl)) refl (tt, fit (t .room .0)) $
       copies ! refl refl (tt, tt) $
       copies ! refl refl (tt, fit (start-is .1)) $
       iterates ! 𝓣 (λ (u : Turn ys n all). n - u .i) (λ u. []) (λ u. (5, vbool (u .zero)) ∷ (6, vint w64 (u .i)) ∷ []) (record { zero = ok; i = start; left = rw (take-all n ys (omega arith)) }) refl (λ u turn.
@@ -44,13 +44,13 @@ module _ {M : Type 1} (𝓤 : URA M) (H : Heap 𝓤) (A : Atoms 𝓤) (W : Given
       -- let w = table::get(t, i);
       reads ! 𝓣 known-get t (u .i) (on .0) refl (λ c. (refl, (refl, tt))) refl (λ is.
       -- zero = crate::record::is_zero(w);
-      asks-for ! 𝓣 [] (request W (getD ys (u .i) zeroRequest) is ∷ []) (of-flag W) _ (λ c. known-is-zero) (λ c h. h) (id⊢ 𝓤 (emp 𝓤)) refl (λ c. vars ! (refl, tt)) (λ _. refl) (λ _ _.
+      calls-giving ! 𝓣 [] (request W (getD ys (u .i) zeroRequest) is ∷ []) of-flag _ (λ c. known-is-zero) (λ c h. h) (id⊢ 𝓤 (emp 𝓤)) refl (λ c. vars ! (refl, tt)) (λ _. refl) (λ _ _.
       -- i += 1
       adds-last ! (lt-of-le-of-lt (add-one-le (on .0)) (t .room .0)) tt refl refl refl $
       turn .continues ! (record { zero = isZeroRequest (getD ys (u .i) zeroRequest); i = u .i + 1; left = one-on ys n (omega arith) true (u .i) (u .i + 1) (on .0) refl (on .1) }) (add-one-dec n (u .i) (on .0)) refl)))
       (λ over. turn .breaks ! $
       copies ! refl refl (tt, tt) $
-      gives ! refl refl $ leaves (vbool (u .zero)) (u .zero) tt tt (of-flag W .makes (u .zero) _ refl) (so 𝓤 (ended u over))))
+      gives ! refl refl $ leaves (vbool (u .zero)) (u .zero) tt tt (made W of-flag (u .zero) refl) (so 𝓤 (ended u over))))
 
 pub zero-rest-spec : {M : Type 1} → f.Statement.statement M
 unfolding f.Code.routine

@@ -2,14 +2,10 @@
 -- lent to `rotate` (`walk`'s `Slices/Parts.antt`). A shift of that part is one of the whole (`Laws.antt`'s `moved`).
 -- Assumes nothing.
 use Rattle.walk.proofs.Prelude.{refl, ℕ, _-_, _*_, _≤_, _<_, _^_, le-of-lt, lt-of-le-of-lt, sub-le, arith, Bool, true, false, List, [], _∷_, _++_, length, take, ltb→lt, nltb→le, URA, Lft, Share, named, w64, vunit, SProp, Memory, Routine, Heap, Tables, Atoms, Fun, Given, _$_, !, agg, stop, hop, from, addr, lit, true-lit, false-lit, unit-lit, of-opd, bin, and-then, no-more, Room, Nothing, tripleOf}
-use denote.Steps.{heard}
-use Rattle.walk.proofs.Enter.{Slice, lent, uint, so}
-use Rattle.walk.proofs.Proves.{Shape, Walk, proved}
-use Rattle.walk.proofs.Locals.{var, field-var, cell-of, sets, gives, gives-within}
-use Rattle.walk.proofs.Results.{fit, of-nothing, calls-for}
-use Rattle.walk.proofs.Steps.{branches-out}
+use Rattle.walk.proofs.Prelude.{heard, lent, taken, so, Shape, Walk, proved, var, field-var, sets, gives, gives-within, fit, of-nothing, calls-for, branches-out, Param, loan, number, flag, made, of-number, computes}
+use Rattle.walk.proofs.Enter.{Slice}
+use Rattle.walk.proofs.Locals.{cell-of}
 use Rattle.walk.proofs.Slices.Lent.{of-slice}
-use Rattle.walk.proofs.Slices.Loans.{Param, loan, number, flag, bound}
 use Rattle.walk.proofs.Slices.Parts.{rest-from, whole-long, room-less, rest-lent}
 use Rattle.spec.specs.declared.types.Request.{Request}
 use Rattle.table.proofs.Rows.{R, place-fits}
@@ -45,7 +41,7 @@ turning W {κ} {q} t a i p up =
 module _ {M : Type 1} (𝓤 : URA M) (H : Heap 𝓤) (A : Atoms 𝓤) (W : Given 𝓤 H A) (mem : Memory → SProp 𝓤) (run : Routine → Fun 𝓤) where
   abbrev shape : Shape W
   shape = record {
-    params = lent R ∷ uint W w64 ∷ uint W w64 ∷ [];
+    params = lent R ∷ taken (of-number w64) ∷ taken (of-number w64) ∷ [];
     result = Nothing;
     clauses = f.clauses 𝓤 H A mem run;
     code = f.Code.function;
@@ -57,36 +53,34 @@ module _ {M : Type 1} (𝓤 : URA M) (H : Heap 𝓤) (A : Atoms 𝓤) (W : Given
   walk 𝓣 known-rotate κs qs t out out-is at at-is g Q leaves bs =
       let ys : List Request = t .list in
       heard ! ((out < length ys) × (at < length ys)) (λ within.
-      sets ! (bin ! (var ! refl) (var ! refl) tt) refl (tt, tt) $
+      computes ! refl refl tt refl (tt, tt) $
       branches-out ! (var ! refl)
       -- rotate(&mut t[at..], out - at, true)
       (λ goes-up.
       let p : Part (length ys) at out = part-of (length ys) at out (t .room) (le-of-lt (ltb→lt at out goes-up)) (within .0) in
-      let ps : List (Param 𝓤 H A) = turning W t at out p true in
       sets ! (bin ! (var ! refl) (lit ! tt) (fit (p .place))) refl (tt, fit (p .place)) $
       sets ! (bin ! (field-var ! refl refl refl) (var ! refl) tt) refl (tt, tt) $
       sets ! (bin ! (field-var ! refl refl refl) (var ! refl) (p .below)) refl (tt, fit (p .left .0)) $
       sets ! (addr ! (from ! (hop ! (cell-of ! 6 refl) (stop !)))) refl (tt, tt) $
       sets ! (agg ! (and-then ! (var ! refl) (and-then ! (var ! refl) (no-more !)))) refl (tt, (tt, (fit (p .left .0), tt))) $
-      sets ! (bin ! (var ! refl) (var ! refl) (p .apart)) refl (tt, fit (p .way)) $
-      calls-for ! 𝓣 (0 ∷ []) ps _ (so 𝓤 (far-within at out ys (p .apart) (p .within))) (of-nothing W) _ (λ c. known-rotate (bound W ps c)) refl
+      computes ! refl refl (p .apart) refl (tt, fit (p .way)) $
+      calls-for ! 𝓣 (0 ∷ []) (turning W t at out p true) of-nothing (λ c. known-rotate) (λ c h. h) (so 𝓤 (far-within at out ys (p .apart) (p .within))) refl
       (λ c. and-then ! (var ! refl) (and-then ! (var ! refl) (and-then ! (true-lit !) (no-more !)))) (λ ws. refl) (λ u zs turned len _.
       gives-within ! Q refl refl refl $
-      leaves vunit tt (take at ys ++ zs .0, tt) (whole-long (rest-from at ys) (zs .0) (len .0), tt) (of-nothing W .makes tt _ refl) (so 𝓤 (moved at out ys (p .apart) (p .within) true (zs .0) turned))))
+      leaves vunit tt (take at ys ++ zs .0, tt) (whole-long (rest-from at ys) (zs .0) (len .0), tt) (made W of-nothing tt refl) (so 𝓤 (moved at out ys (p .apart) (p .within) true (zs .0) turned))))
       -- rotate(&mut t[out..], at - out, false)
       (λ goes-down.
       let p : Part (length ys) out at = part-of (length ys) out at (t .room) (nltb→le at out goes-down) (within .1) in
-      let ps : List (Param 𝓤 H A) = turning W t out at p false in
       sets ! (bin ! (var ! refl) (lit ! tt) (fit (p .place))) refl (tt, fit (p .place)) $
       sets ! (bin ! (field-var ! refl refl refl) (var ! refl) tt) refl (tt, tt) $
       sets ! (bin ! (field-var ! refl refl refl) (var ! refl) (p .below)) refl (tt, fit (p .left .0)) $
       sets ! (addr ! (from ! (hop ! (cell-of ! 13 refl) (stop !)))) refl (tt, tt) $
       sets ! (agg ! (and-then ! (var ! refl) (and-then ! (var ! refl) (no-more !)))) refl (tt, (tt, (fit (p .left .0), tt))) $
-      sets ! (bin ! (var ! refl) (var ! refl) (p .apart)) refl (tt, fit (p .way)) $
-      calls-for ! 𝓣 (0 ∷ []) ps _ (so 𝓤 (far-within out at ys (p .apart) (p .within))) (of-nothing W) _ (λ c. known-rotate (bound W ps c)) refl
+      computes ! refl refl (p .apart) refl (tt, fit (p .way)) $
+      calls-for ! 𝓣 (0 ∷ []) (turning W t out at p false) of-nothing (λ c. known-rotate) (λ c h. h) (so 𝓤 (far-within out at ys (p .apart) (p .within))) refl
       (λ c. and-then ! (var ! refl) (and-then ! (var ! refl) (and-then ! (false-lit !) (no-more !)))) (λ ws. refl) (λ u zs turned len _.
       sets ! (of-opd ! (unit-lit !)) refl (tt, tt) $ gives ! refl refl $
-      leaves vunit tt (take out ys ++ zs .0, tt) (whole-long (rest-from out ys) (zs .0) (len .0), tt) (of-nothing W .makes tt _ refl) (so 𝓤 (moved out at ys (p .apart) (p .within) false (zs .0) turned)))))
+      leaves vunit tt (take out ys ++ zs .0, tt) (whole-long (rest-from out ys) (zs .0) (len .0), tt) (made W of-nothing tt refl) (so 𝓤 (moved out at ys (p .apart) (p .within) false (zs .0) turned)))))
 
 pub move-between-spec : {M : Type 1} → f.Statement.statement M
 unfolding f.Code.routine

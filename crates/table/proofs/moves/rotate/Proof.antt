@@ -1,14 +1,7 @@
 -- `table::moves::rotate` meets its contract: a walk with a branch, in each arm of which one function is called. What it leaves is what
 -- the test says (`Laws.antt`'s `turned`). Assumes nothing.
 use Rattle.walk.proofs.Prelude.{refl, _<_, true, false, List, [], _∷_, length, URA, w64, vunit, SProp, Memory, Routine, Heap, Tables, Atoms, Fun, Given, _$_, !, unit-lit, of-opd, Nothing, tripleOf}
-use denote.Steps.{heard}
-use Rattle.walk.proofs.Enter.{lent, uint, boolean, so}
-use Rattle.walk.proofs.Proves.{Shape, Walk, proved}
-use Rattle.walk.proofs.Locals.{var, vars, sets, relends, gives, gives-within}
-use Rattle.walk.proofs.Results.{of-nothing, calls-for}
-use Rattle.walk.proofs.Steps.{branches-out}
-use Rattle.walk.proofs.Slices.Loans.{Param, number, bound}
-use Rattle.walk.proofs.At.{mut-of}
+use Rattle.walk.proofs.Prelude.{heard, lent, taken, so, Shape, Walk, proved, var, vars, sets, relends, gives, gives-within, of-nothing, calls-for, branches-out, Param, number, made, of-number, of-flag, mut-own, copies}
 use Rattle.table.proofs.Rows.{R}
 use Rattle.table.proofs.Laws.{turned}
 use Rattle.table.proofs.moves.to_front as to-front
@@ -18,7 +11,7 @@ use Rattle.table.proofs.moves.rotate as f
 module _ {M : Type 1} (𝓤 : URA M) (H : Heap 𝓤) (A : Atoms 𝓤) (W : Given 𝓤 H A) (mem : Memory → SProp 𝓤) (run : Routine → Fun 𝓤) where
   abbrev shape : Shape W
   shape = record {
-    params = lent R ∷ uint W w64 ∷ boolean W ∷ [];
+    params = lent R ∷ taken (of-number w64) ∷ taken of-flag ∷ [];
     result = Nothing;
     clauses = f.clauses 𝓤 H A mem run;
     code = f.Code.function;
@@ -31,20 +24,20 @@ module _ {M : Type 1} (𝓤 : URA M) (H : Heap 𝓤) (A : Atoms 𝓤) (W : Given
 
   walk : (𝓣 : Tables 𝓤 H) → Walk shape 𝓣
   walk 𝓣 known-front known-back κs qs t last last-is up up-is g Q leaves bs =
-      let ps : List (Param 𝓤 H A) = mut-of W t (t .list) refl ∷ number W last (last-is .1) ∷ [] in
+      let ps : List (Param 𝓤 H A) = mut-own W t ∷ number W last (last-is .1) ∷ [] in
       heard ! (last < length (t .list)) (λ within.
-      sets ! (of-opd ! (var ! refl)) refl (tt, tt) $
+      copies ! refl refl (tt, tt) $
       branches-out ! (var ! refl)
       -- to_back(t, last)
-      (λ goes-up. relends ! (t .room .0) refl refl refl $
-      calls-for ! 𝓣 (0 ∷ []) ps _ (so 𝓤 within) (of-nothing W) _ (λ c. known-back (bound W ps c)) refl (λ c. vars ! (refl, (refl, tt))) (λ ws. refl) (λ u zs moved len _.
+      (λ goes-up. relends ! t refl $
+      calls-for ! 𝓣 (0 ∷ []) ps of-nothing (λ c. known-back) (λ c h. h) (so 𝓤 within) refl (λ c. vars ! (refl, (refl, tt))) (λ ws. refl) (λ u zs moved len _.
       gives-within ! Q refl refl refl $
-      leaves vunit tt (zs .0, tt) (len .0, tt) (of-nothing W .makes tt _ refl) (so 𝓤 (turned up true last (t .list) (zs .0) goes-up moved))))
+      leaves vunit tt (zs .0, tt) (len .0, tt) (made W of-nothing tt refl) (so 𝓤 (turned up true last (t .list) (zs .0) goes-up moved))))
       -- to_front(t, last)
-      (λ goes-down. relends ! (t .room .0) refl refl refl $
-      calls-for ! 𝓣 (0 ∷ []) ps _ (so 𝓤 within) (of-nothing W) _ (λ c. known-front (bound W ps c)) refl (λ c. vars ! (refl, (refl, tt))) (λ ws. refl) (λ u zs moved len _.
+      (λ goes-down. relends ! t refl $
+      calls-for ! 𝓣 (0 ∷ []) ps of-nothing (λ c. known-front) (λ c h. h) (so 𝓤 within) refl (λ c. vars ! (refl, (refl, tt))) (λ ws. refl) (λ u zs moved len _.
       sets ! (of-opd ! (unit-lit !)) refl (tt, tt) $ gives ! refl refl $
-      leaves vunit tt (zs .0, tt) (len .0, tt) (of-nothing W .makes tt _ refl) (so 𝓤 (turned up false last (t .list) (zs .0) goes-down moved)))))
+      leaves vunit tt (zs .0, tt) (len .0, tt) (made W of-nothing tt refl) (so 𝓤 (turned up false last (t .list) (zs .0) goes-down moved)))))
 
 pub rotate-spec : {M : Type 1} → f.Statement.statement M
 unfolding f.Code.routine

@@ -2,20 +2,11 @@
 -- of them (`Laws.antt`'s `Going`), ordered by the distance to `to`. A turn calls `next`, `get` and `put`, and one law on lists
 -- (`goes-on`) takes both on. The parameters `from` and `to` are a and z here.
 -- Assumes nothing.
-use Rattle.walk.proofs.Prelude.{_≡_, refl, sym, subst, ℕ, _+_, _-_, _<_, _^_, lt-trans, cond, List, [], _∷_, length, getD, URA, w64, vunit, vint, SProp, Memory, Routine, Heap, Tables, Atoms, Fun, Given, ‵, _$_, !, of-opd, bin, unit-lit, Nothing, tripleOf}
-use denote.Steps.{heard}
-use Rattle.walk.proofs.Enter.{lent, uint, boolean, so}
-use Rattle.walk.proofs.Results.{fit, of-number, of-nothing, calls-for, calls-giving}
-use Rattle.walk.proofs.Proves.{Shape, Walk, proved}
-use Rattle.walk.proofs.Inside.{Lent-at}
-use Rattle.walk.proofs.Locals.{var, vars, sets, resets-last, relends, gives}
-use Rattle.walk.proofs.Loops.{iterates}
-use Rattle.walk.proofs.Steps.{tests}
-use Rattle.walk.proofs.Slices.Loans.{Param, number, flag, bound}
-use Rattle.walk.proofs.At.{mut-of, shr-of}
+use Rattle.walk.proofs.Prelude.{_≡_, refl, sym, subst, ℕ, _+_, _-_, _<_, _^_, lt-trans, cond, List, [], _∷_, length, getD, URA, w64, vunit, vint, SProp, Memory, Routine, Heap, Tables, Atoms, Fun, Given, ‵, _$_, !, of-opd, unit-lit, Nothing, tripleOf}
+use Rattle.walk.proofs.Prelude.{heard, lent, taken, so, fit, of-number, of-nothing, calls-for, calls-giving, Shape, Walk, proved, Lent-at, var, vars, sets, sets-last, relends, gives, iterates, tests, number, flag, mut-of, shr-of, made, of-flag, copies, computes}
 use Rattle.spec.specs.declared.types.Request.{Request}
 use Rattle.spec.specs.Tables.{zeroRequest}
-use Rattle.table.proofs.Rows.{R, request, of-request}
+use Rattle.table.proofs.Rows.{R, request, a-request}
 use Rattle.table.proofs.Laws.{Step, Going, Asked, sets-out, steps, goes-on, arrives}
 use Rattle.table.proofs.moves.next as next
 use Rattle.table.proofs.get as get
@@ -25,7 +16,7 @@ use Rattle.table.proofs.moves.shift as f
 module _ {M : Type 1} (𝓤 : URA M) (H : Heap 𝓤) (A : Atoms 𝓤) (W : Given 𝓤 H A) (mem : Memory → SProp 𝓤) (run : Routine → Fun 𝓤) where
   abbrev shape : Shape W
   shape = record {
-    params = lent R ∷ uint W w64 ∷ uint W w64 ∷ boolean W ∷ [];
+    params = lent R ∷ taken (of-number w64) ∷ taken (of-number w64) ∷ taken of-flag ∷ [];
     result = Nothing;
     clauses = f.clauses 𝓤 H A mem run;
     code = f.Code.function;
@@ -41,35 +32,32 @@ module _ {M : Type 1} (𝓤 : URA M) (H : Heap 𝓤) (A : Atoms 𝓤) (W : Given
   walk 𝓣 known-next known-get known-put κs qs t a a-is z z-is up up-is g Q leaves bs =
       let ys : List Request = t .list in
       heard ! (Asked up a z (length ys)) (λ within.
-      sets ! (of-opd ! (var ! refl)) refl (tt, fit (a-is .1)) $
+      copies ! refl refl (tt, fit (a-is .1)) $
       iterates ! 𝓣 {X = (i : ℕ) × (zs : List Request) × Going up a z ys i zs} (λ v. (v .0 - z) + (z - v .0)) (λ v. (0, ‵ (Lent-at t (v .1))) ∷ []) (λ v. (5, vint w64 (v .0)) ∷ []) (a, ys, sets-out up a z ys within) refl (λ v turn.
       let i : ℕ = v .0 in
       let zs : List Request = v .1 in
       let g : Going up a z ys i zs = v .2 in
       let len : length zs ≡ length ys = g .same-length in
       let fits : i < 2 ^ 64 = lt-trans (g .within) (t .room .0) in
-      sets ! (bin ! (var ! refl) (var ! refl) tt) refl (tt, tt) $
+      computes ! refl refl tt refl (tt, tt) $
       tests ! (var ! refl)
       (λ apart.
       let j : ℕ = cond up (i - 1) (i + 1) in
       let s : Step up (length ys) z i j = steps i zs g (t .room .0) (within .1) apart in
       -- let j = next(i, up);
-      let ps : List (Param 𝓤 H A) = number W i fits ∷ flag W up ∷ [] in
-      calls-giving ! 𝓣 [] ps _ (so 𝓤 (s .asked)) (of-number W w64) j (λ c. known-next (bound W ps c)) refl (λ c. vars ! (refl, (refl, tt))) (λ ws. refl) (λ last j-is.
+      calls-giving ! 𝓣 [] (number W i fits ∷ flag W up ∷ []) (of-number w64) j (λ c. known-next) (λ c h. h) (so 𝓤 (s .asked)) refl (λ c. vars ! (refl, (refl, tt))) (λ ws. refl) (λ last j-is.
       -- let w = get(t, j);
-      relends ! (t .room .0) refl refl refl $
-      let ps : List (Param 𝓤 H A) = shr-of W t zs len ∷ number W j (j-is .1) ∷ [] in
-      calls-giving ! 𝓣 (0 ∷ []) ps _ (so 𝓤 (subst (λ (m : ℕ). j < m) (sym len) (s .within))) (of-request W) (getD zs j zeroRequest) (λ c. known-get (bound W ps c)) refl (λ c. vars ! (refl, (refl, tt))) (λ ws. refl) (λ last is.
+      relends ! t refl $
+      calls-giving ! 𝓣 (0 ∷ []) (shr-of W t zs len ∷ number W j (j-is .1) ∷ []) a-request (getD zs j zeroRequest) (λ c. known-get) (λ c h. h) (so 𝓤 (subst (λ (m : ℕ). j < m) (sym len) (s .within))) refl (λ c. vars ! (refl, (refl, tt))) (λ ws. refl) (λ last is.
       -- put(t, i, w);
-      relends ! (t .room .0) refl refl refl $
-      let ps : List (Param 𝓤 H A) = mut-of W t zs len ∷ number W i fits ∷ request W (getD zs j zeroRequest) is ∷ [] in
-      calls-for ! 𝓣 (0 ∷ []) ps _ (so 𝓤 (subst (λ (m : ℕ). i < m) (sym len) (g .within))) (of-nothing W) _ (λ c. known-put (bound W ps c)) refl (λ c. vars ! (refl, (refl, (refl, tt)))) (λ ws. refl) (λ u last put kept _.
+      relends ! t refl $
+      calls-for ! 𝓣 (0 ∷ []) (mut-of W t zs len ∷ number W i fits ∷ request W (getD zs j zeroRequest) is ∷ []) of-nothing (λ c. known-put) (λ c h. h) (so 𝓤 (subst (λ (m : ℕ). i < m) (sym len) (g .within))) refl (λ c. vars ! (refl, (refl, (refl, tt)))) (λ ws. refl) (λ u last put kept _.
       -- i = j;
-      resets-last ! (of-opd ! (var ! refl)) refl (tt, fit (j-is .1)) $
+      sets-last ! (of-opd ! (var ! refl)) refl (tt, fit (j-is .1)) $
       turn .continues ! (j, last .0, subst (Going up a z ys j) (sym put) (goes-on i zs g j s)) (s .nearer) refl))))
       (λ over. turn .breaks ! $
       sets ! (of-opd ! (unit-lit !)) refl (tt, tt) $ gives ! refl refl $
-      leaves vunit tt (zs, tt) (len, tt) (of-nothing W .makes tt _ refl) (so 𝓤 (arrives i zs g over)))))
+      leaves vunit tt (zs, tt) (len, tt) (made W of-nothing tt refl) (so 𝓤 (arrives i zs g over)))))
 
 pub shift-spec : {M : Type 1} → f.Statement.statement M
 unfolding f.Code.routine

@@ -3,7 +3,7 @@ use mathlib.Core.Bool.{true}
 use mir.Syntax.{Ty}
 use mir.Table.{spell}
 use denote.Memory.{pointee}
-use Rattle.walk.proofs.Proves.{proved}
+use Rattle.walk.proofs.Prelude.{proved}
 use Rattle.table.proofs.Rows.{R}
 use Rattle.table.proofs.Ends.{shape, walk}
 use Rattle.table.proofs.moves.shift as shift
