@@ -2,7 +2,7 @@
 -- whose definition is `of`, and meets the contract that each of the two has at its callee. A walk of four calls.
 -- Assumes `Given`, and that each callee meets its contract.
 use mir.Syntax.{Opd}
-use Rattle.walk.proofs.Prelude.{ℕ, suc, refl, List, [], _∷_, URA, Name, Ty, Mutability, named, erased, imm, mut, w32, w64, tyInt, tyUnit, tyRef, Fn, Local, local, valueLocal, place, field, deref, copy, Body, seq, assign, addrOf, aggregate, call, return, vint, SProp, emp, Memory, Routine, Heap, Tables, Atoms, Fun, fact, Given, _$_, !, FmC, fmOf, lone, pointee, u32, u64, now, sliceTy, tripleOf, Clauses, closing, id⊢}
+use Rattle.walk.proofs.Prelude.{ℕ, suc, refl, List, [], _∷_, URA, Name, Ty, Mutability, named, erased, imm, mut, w32, w64, tyInt, tyUnit, tyRef, Fn, Local, local, valueLocal, place, field, deref, copy, Body, seq, assign, addrOf, aggregate, call, return, vint, SProp, emp, Memory, Routine, Heap, Tables, Atoms, Fun, fact, Given, _$_, !, lone, pointee, u32, u64, now, sliceTy, tripleOf, Clauses, closing, id⊢}
 use Rattle.walk.proofs.Prelude.{drop, number, lent, taken, so, Shape, Walk, vars, relends, gives, made, of-number, of-nothing, calls-for, given, mut-own, shr-own}
 use Rattle.spec.specs.Tables.{State}
 use Rattle.spec.specs.Calls.{Outcome}
@@ -81,7 +81,6 @@ module _ (callee : Name) (of : ℕ → ℕ → State → Outcome) where
 
     pub walk : (𝓣 : Tables 𝓤 H) → Walk shape 𝓣
     walk 𝓣 known-head-of known-write-values known-call known-write-head κs qs head waiting submitted served dropped x x-is y y-is values g Q leaves bs =
-        let fm : FmC 𝓤 H (W .laws) (𝓣 .C) = fmOf 𝓤 H (W .laws) 𝓣 in
         drop ! $
         relends ! head refl $
         -- let h = numbers::head_of(head);

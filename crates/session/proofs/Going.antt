@@ -22,9 +22,9 @@ use Rattle.session.specs.declared.types.Lent.{Lent}
 use Rattle.session.specs.Answers.{Answered}
 use Rattle.session.specs.Standing.{doFit, recordsFor, clientsFor}
 use Rattle.session.specs.Feeding.{Next, Stepped}
-use Rattle.session.proofs.Lending.{fit-facts, up-most}
-use Rattle.session.proofs.Replied.{Replied}
-use Rattle.session.proofs.Replies.{replied}
+use Rattle.session.proofs.Laws.Lending.{fit-facts, up-most}
+use Rattle.session.proofs.Laws.Replied.{Replied}
+use Rattle.session.proofs.Laws.Replies.{replied}
 use Rattle.session.proofs.Stepping.{canWith, answered, next-fits, next-room, answers}
 
 pub is-true : (b : Bool) → T b → b ≡ true

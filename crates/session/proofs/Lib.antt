@@ -1,12 +1,6 @@
 pub mod Answering
 pub mod Going
-pub mod Leading
-pub mod Lending
+pub mod Laws
 pub mod Parts
-pub mod Plain
-pub mod Replied
-pub mod Replies
 pub mod Stepping
-pub mod Texts
-pub mod Turning
 pub mod Values

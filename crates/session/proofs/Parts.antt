@@ -21,8 +21,8 @@ use Rattle.session.specs.declared.types.Fed.{Fed}
 use Rattle.session.specs.Standing.{heldIn, doFit, longestFrame, Begun, Reached, Leads}
 use Rattle.session.specs.Feeding.{FedBy, Left, owed}
 use Rattle.session.specs.Parts.{atStart, Lent, Made, Through, begins, goes}
-use Rattle.session.proofs.Texts.{begun, text-append, slice-goes-on, take-slice}
-use Rattle.session.proofs.Leading.{begun-text, leads-none, leads-then}
+use Rattle.session.proofs.Laws.Texts.{begun, text-append, slice-goes-on, take-slice}
+use Rattle.session.proofs.Laws.Leading.{begun-text, leads-none, leads-then}
 use Rattle.session.proofs.Stepping.{canWith}
 
 -- ---- the calls one after the other

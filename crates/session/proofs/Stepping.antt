@@ -20,9 +20,9 @@ use Rattle.session.specs.declared.types.Turn.{Turn}
 use Rattle.frame.specs.Lines.{slice}
 use Rattle.session.specs.Standing.{heldIn, doFit, recordsFor, clientsFor, recordsAfter, Leads}
 use Rattle.session.specs.Feeding.{Whole, None, NextIf, Next, Left, Ends, can, Stepped, SameLengths, FedBy}
-use Rattle.session.proofs.Replied.{Replied}
-use Rattle.session.proofs.Texts.{take-slice}
-use Rattle.session.proofs.Leading.{leads-none, leads-then, whole-leads, none-leads}
+use Rattle.session.proofs.Laws.Replied.{Replied}
+use Rattle.session.proofs.Laws.Texts.{take-slice}
+use Rattle.session.proofs.Laws.Leading.{leads-none, leads-then, whole-leads, none-leads}
 
 -- ---- one turn
 -- whether a line can be answered with these tables

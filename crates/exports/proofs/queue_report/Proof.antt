@@ -1,7 +1,7 @@
 -- `exports::queue_report` meets its contract: a walk of three calls.
 -- Assumes nothing.
-use Rattle.walk.proofs.Prelude.{refl, [], _∷_, URA, w64, vint, SProp, Memory, Routine, Heap, Tables, Atoms, Fun, givenOf, Given, _$_, !, FmC, fmOf, u32, u64, tripleOf, id⊢}
-use Rattle.walk.proofs.Prelude.{drop, number, lent, shown, taken, so, Shape, Walk, proves, vars, relends, gives, passed-on, made, of-number, calls-for, given, mut-own}
+use Rattle.walk.proofs.Prelude.{refl, [], _∷_, URA, w64, vint, SProp, Memory, Routine, Heap, Tables, Atoms, Fun, Given, _$_, !, u32, u64, tripleOf, id⊢}
+use Rattle.walk.proofs.Prelude.{drop, number, lent, shown, taken, so, Shape, Walk, proved, vars, relends, gives, passed-on, made, of-number, calls-for, given, mut-own}
 use Rattle.queue.proofs.Values.{a-reply}
 use Rattle.spec.specs.Calls.{reportOf}
 use Rattle.table.proofs.Rows.{R}
@@ -19,7 +19,6 @@ module _ {M : Type 1} (𝓤 : URA M) (H : Heap 𝓤) (A : Atoms 𝓤) (W : Given
 
   walk : (𝓣 : Tables 𝓤 H) → Walk shape 𝓣
   walk 𝓣 known-head-of known-write-values known-report κs qs head waiting submitted served dropped client client-is values g Q leaves bs =
-      let fm : FmC 𝓤 H (W .laws) (𝓣 .C) = fmOf 𝓤 H (W .laws) 𝓣 in
       drop ! $
       -- let h = numbers::head_of(head);
       calls-for ! 𝓣 (0 ∷ []) (passed-on W head ∷ []) a-head (λ c. known-head-of) (λ c h. h) (id⊢ 𝓤 _) refl (λ c. vars ! (refl, tt)) (λ _. refl) (λ h last₁ is-head kept₁ h-is.
@@ -33,6 +32,5 @@ module _ {M : Type 1} (𝓤 : URA M) (H : Heap 𝓤) (A : Atoms 𝓤) (W : Given
 pub queue-report-spec : {M : Type 1} → f.Statement.statement M
 unfolding f.Code.routine
 queue-report-spec 𝓤 H 𝓜 𝓖 𝓡 =
-    let W : Given 𝓤 H (𝓖 .A) = givenOf 𝓤 H 𝓜 𝓖 in
-    proves 𝓤 H 𝓜 𝓖 𝓡 (shape 𝓤 H (𝓖 .A) W (𝓜 .mem) (𝓡 .run)) f.Code.env f.Key.name (f.Code.unfolded 𝓤 H 𝓜 𝓡) (walk 𝓤 H (𝓖 .A) W (𝓜 .mem) (𝓡 .run))
+    proved 𝓤 H 𝓜 𝓖 𝓡 (shape 𝓤 H) (walk 𝓤 H) f.Code.env f.Key.name (f.Code.unfolded 𝓤 H 𝓜 𝓡)
     (cites-numbers 𝓤 H 𝓜 𝓖 𝓡 f.Code.env f.Code.calls-exports·numbers·head-of f.Code.calls-exports·numbers·write-values ((report.Symbol.routine, f.Code.calls-queue·report, report.Met.met 𝓤 H 𝓜 𝓖 𝓡), tt))

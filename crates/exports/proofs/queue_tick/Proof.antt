@@ -1,7 +1,7 @@
 -- `exports::queue_tick` meets its contract: a walk of four calls.
 -- Assumes nothing.
-use Rattle.walk.proofs.Prelude.{refl, [], _∷_, URA, w64, vint, SProp, Memory, Routine, Heap, Tables, Atoms, Fun, givenOf, Given, _$_, !, FmC, fmOf, u32, u64, tripleOf, id⊢}
-use Rattle.walk.proofs.Prelude.{drop, lent, so, Shape, Walk, proves, vars, relends, gives, made, of-number, of-nothing, calls-for, given, mut-own, shr-own}
+use Rattle.walk.proofs.Prelude.{refl, [], _∷_, URA, w64, vint, SProp, Memory, Routine, Heap, Tables, Atoms, Fun, Given, _$_, !, u32, u64, tripleOf, id⊢}
+use Rattle.walk.proofs.Prelude.{drop, lent, so, Shape, Walk, proved, vars, relends, gives, made, of-number, of-nothing, calls-for, given, mut-own, shr-own}
 use Rattle.queue.proofs.Values.{a-reply}
 use Rattle.spec.specs.Calls.{tickOf}
 use Rattle.table.proofs.Rows.{R}
@@ -19,7 +19,6 @@ module _ {M : Type 1} (𝓤 : URA M) (H : Heap 𝓤) (A : Atoms 𝓤) (W : Given
 
   walk : (𝓣 : Tables 𝓤 H) → Walk shape 𝓣
   walk 𝓣 known-head-of known-write-values known-tick known-write-head κs qs head waiting submitted served dropped values g Q leaves bs =
-      let fm : FmC 𝓤 H (W .laws) (𝓣 .C) = fmOf 𝓤 H (W .laws) 𝓣 in
       drop ! $
       relends ! head refl $
       -- let h = numbers::head_of(head);
@@ -39,7 +38,6 @@ module _ {M : Type 1} (𝓤 : URA M) (H : Heap 𝓤) (A : Atoms 𝓤) (W : Given
 pub queue-tick-spec : {M : Type 1} → f.Statement.statement M
 unfolding f.Code.routine
 queue-tick-spec 𝓤 H 𝓜 𝓖 𝓡 =
-    let W : Given 𝓤 H (𝓖 .A) = givenOf 𝓤 H 𝓜 𝓖 in
-    proves 𝓤 H 𝓜 𝓖 𝓡 (shape 𝓤 H (𝓖 .A) W (𝓜 .mem) (𝓡 .run)) f.Code.env f.Key.name (f.Code.unfolded 𝓤 H 𝓜 𝓡) (walk 𝓤 H (𝓖 .A) W (𝓜 .mem) (𝓡 .run))
+    proved 𝓤 H 𝓜 𝓖 𝓡 (shape 𝓤 H) (walk 𝓤 H) f.Code.env f.Key.name (f.Code.unfolded 𝓤 H 𝓜 𝓡)
     (cites-numbers 𝓤 H 𝓜 𝓖 𝓡 f.Code.env f.Code.calls-exports·numbers·head-of f.Code.calls-exports·numbers·write-values
     ((tick.Symbol.routine, f.Code.calls-queue·tick, tick.Met.met 𝓤 H 𝓜 𝓖 𝓡), cites-write-head 𝓤 H 𝓜 𝓖 𝓡 f.Code.env f.Code.calls-exports·numbers·write-head tt))

@@ -1,9 +1,9 @@
 -- `queue::accepted_decision` meets its contract: a walk of nine calls, of which three write what is known of the clients, in an
 -- array of its own, and one reads it.
 -- Assumes nothing.
-use Rattle.walk.proofs.Prelude.{_≡_, refl, sym, _∙_, subst, ℕ, _+_, _<_, _≤_, _^_, List, [], _∷_, arith, length, replicate, length-replicate, lit<, URA, w16, w64, tyArray, vint, SProp, froom, Memory, Routine, Heap, Tables, Atoms, Fun, givenOf, Given, ‵, _$_, !, use1, agg, stop, from, addr, lit, of-opd, bin, and-then, no-more, FmC, fmOf, lone, uint-makes, uint-lawful, uint-copy, u16, u32, Room, tripleOf, id⊢}
-use Rattle.walk.proofs.Prelude.{heard, Param, number, loan, shown, taken, so, Shape, Walk, proves, var, vars, field-var, sets, empties, gives, takes-out, puts-back, passed-on, made, fit, of-number, of-nothing, calls-for}
-use Rattle.walk.proofs.Slices.Arrays.{array-room, array-lent, array-shared, repeats}
+use Rattle.walk.proofs.Prelude.{_≡_, refl, sym, _∙_, subst, ℕ, _+_, _<_, _≤_, _^_, List, [], _∷_, arith, length, replicate, length-replicate, lit<, URA, w16, w64, vint, SProp, Memory, Routine, Heap, Tables, Atoms, Fun, Given, _$_, !, agg, stop, from, addr, lit, of-opd, bin, and-then, no-more, uint-makes, uint-lawful, uint-copy, u16, u32, Room, tripleOf, id⊢}
+use Rattle.walk.proofs.Prelude.{heard, Param, number, loan, shown, taken, so, Shape, Walk, proved, var, vars, field-var, sets, empties, gives, takes-out, passed-on, made, fit, of-number, of-nothing, calls-for}
+use Rattle.walk.proofs.Slices.Arrays.{ends-array, array-lent, array-shared, repeats}
 use Rattle.columns.specs.Columns.{stateOf, largest16}
 use Rattle.decide.proofs.Choosing.Chosen.{choice-found}
 use Rattle.decide.proofs.Choosing.Shown.{waits, few, clock, clients, rises, placed-within, candidates-within, found-all}
@@ -58,7 +58,6 @@ module _ {M : Type 1} (𝓤 : URA M) (H : Heap 𝓤) (A : Atoms 𝓤) (W : Given
 
   walk : (𝓣 : Tables 𝓤 H) → Walk shape 𝓣
   walk 𝓣 known-due-by known-first-overfull known-candidates known-smaller known-mark known-note known-submit-choice κs qs waiting submitted served dropped head head-is client client-is deadline deadline-is g Q leaves bs =
-      let fm : FmC 𝓤 H (W .laws) (𝓣 .C) = fmOf 𝓤 H (W .laws) 𝓣 in
       let ws : List Request = waiting .list in
       let su : List ℕ = submitted .list in
       let se : List ℕ = served .list in
@@ -108,15 +107,14 @@ module _ {M : Type 1} (𝓤 : URA M) (H : Heap 𝓤) (A : Atoms 𝓤) (W : Given
       sets ! (agg ! (and-then ! (var ! refl) (and-then ! (lit ! tt) (no-more !)))) refl (tt, (tt, (fit (lit< tt), tt))) $
       -- calls::submit_choice(head, &latest, submitted, served, dropped, client, place, found)
       calls-for ! 𝓣 (0 ∷ 2 ∷ 3 ∷ 4 ∷ []) (the-head W head head-is ∷ loan (array-shared W u16 256 l₈ tt known₃ (subst (Room u16) (sym long₃) (lit< tt, lit< tt)) long₃) ∷ passed-on W submitted ∷ passed-on W served ∷ passed-on W dropped ∷ number W client (client-is .1) ∷ number W place (place-is .1) ∷ number W found (found-is .1) ∷ []) a-decision (λ c. known-submit-choice) (λ c h. h) (so 𝓤 (subst (λ (k : ℕ). head .clients ≤ k) (sym long₃) (clients head ws su se dr client deadline accepted), rises head ws su se dr client deadline accepted)) refl (λ c. vars ! (refl, (refl, (refl, (refl, (refl, (refl, (refl, (refl, tt))))))))) (λ _. refl) (λ r last₈ told kept₈ r-is.
-      use1 W (‵ (froom (tyArray (lone (u16 .mir)) 256) l₈ 0)) (array-room W u16 256 l₈ known₃) $ puts-back ! 8 $ gives ! refl refl $
+      ends-array ! 8 u16 256 l₈ known₃ $ gives ! refl refl $
       leaves (a-decision .val r) r tt tt (made W a-decision r r-is)
       (so 𝓤 (told ∙ choice-found (found-all head ws su se dr client deadline accepted place found due end before placed searched ended chosen fewer known₁ known₂ known₃ marked₁ marked₂ marked₃))))))))))))))
 
 pub accepted-decision-spec : {M : Type 1} → f.Statement.statement M
 unfolding f.Code.routine
 accepted-decision-spec 𝓤 H 𝓜 𝓖 𝓡 =
-    let W : Given 𝓤 H (𝓖 .A) = givenOf 𝓤 H 𝓜 𝓖 in
-    proves 𝓤 H 𝓜 𝓖 𝓡 (shape 𝓤 H (𝓖 .A) W (𝓜 .mem) (𝓡 .run)) f.Code.env f.Key.name (f.Code.unfolded 𝓤 H 𝓜 𝓡) (walk 𝓤 H (𝓖 .A) W (𝓜 .mem) (𝓡 .run)) (
+    proved 𝓤 H 𝓜 𝓖 𝓡 (shape 𝓤 H) (walk 𝓤 H) f.Code.env f.Key.name (f.Code.unfolded 𝓤 H 𝓜 𝓡) (
       (due-by.Symbol.routine, f.Code.calls-search·records·due-by, due-by.Met.met 𝓤 H 𝓜 𝓖 𝓡),
       (
         (first-overfull.Symbol.routine, f.Code.calls-search·records·first-overfull, first-overfull.Met.met 𝓤 H 𝓜 𝓖 𝓡),

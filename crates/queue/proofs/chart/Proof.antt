@@ -1,7 +1,7 @@
 -- `queue::chart` meets its contract: a walk of six calls. The deadlines are copied into the output, which then takes their start slots.
 -- Assumes nothing.
-use Rattle.walk.proofs.Prelude.{ℕ, _≤_, refl, sym, _∙_, subst, List, [], _∷_, length, URA, w64, SProp, Memory, Routine, Heap, Tables, Atoms, Fun, givenOf, tables, Given, _$_, !, of-opd, and-then, no-more, first, FmC, fmOf, u32, u64, tripleOf, id⊢}
-use Rattle.walk.proofs.Prelude.{drop, number, lent, shown, so, Shape, Walk, proves, var, vars, field-var, sets, relends, gives, mut-of, passed-on, made, fit, of-number, of-nothing, taken, calls-for}
+use Rattle.walk.proofs.Prelude.{ℕ, _≤_, refl, sym, _∙_, subst, List, [], _∷_, length, URA, w64, SProp, Memory, Routine, Heap, Tables, Atoms, Fun, tables, Given, _$_, !, of-opd, and-then, no-more, first, u32, u64, tripleOf, id⊢}
+use Rattle.walk.proofs.Prelude.{drop, number, lent, shown, so, Shape, Walk, proved, var, vars, field-var, sets, relends, gives, mut-of, passed-on, made, fit, of-number, of-nothing, taken, calls-for}
 use Rattle.spec.specs.declared.types.Request.{Request}
 use Rattle.table.proofs.Rows.{R}
 use Rattle.table.proofs.Heads.{the-head, waiting-fits, a-head}
@@ -35,7 +35,6 @@ module _ {M : Type 1} (𝓤 : URA M) (H : Heap 𝓤) (A : Atoms 𝓤) (W : Given
 
   walk : (𝓣 : Tables 𝓤 H) → Walk shape 𝓣
   walk 𝓣 known-tables-refusal known-chart-refusal known-unless-refused known-deadlines known-write-starts known-chart-reply κs qs head head-is s₀ s₁ s₂ s₃ s₄ g Q leaves bs =
-      let fm : FmC 𝓤 H (W .laws) (𝓣 .C) = fmOf 𝓤 H (W .laws) 𝓣 in
       let ws : List Request = s₀ .list in
       let su : List ℕ = s₁ .list in
       let se : List ℕ = s₂ .list in
@@ -64,8 +63,7 @@ module _ {M : Type 1} (𝓤 : URA M) (H : Heap 𝓤) (A : Atoms 𝓤) (W : Given
 pub chart-spec : {M : Type 1} → f.Statement.statement M
 unfolding f.Code.routine
 chart-spec 𝓤 H 𝓜 𝓖 𝓡 =
-    let W : Given 𝓤 H (𝓖 .A) = givenOf 𝓤 H 𝓜 𝓖 in
-    proves 𝓤 H 𝓜 𝓖 𝓡 (shape 𝓤 H (𝓖 .A) W (𝓜 .mem) (𝓡 .run)) f.Code.env f.Key.name (f.Code.unfolded 𝓤 H 𝓜 𝓡) (walk 𝓤 H (𝓖 .A) W (𝓜 .mem) (𝓡 .run)) (
+    proved 𝓤 H 𝓜 𝓖 𝓡 (shape 𝓤 H) (walk 𝓤 H) f.Code.env f.Key.name (f.Code.unfolded 𝓤 H 𝓜 𝓡) (
       (tables-refusal.Symbol.routine, f.Code.calls-sound·check·tables-refusal, tables-refusal.Met.met 𝓤 H 𝓜 𝓖 𝓡),
       (
         (chart-refusal.Symbol.routine, f.Code.calls-decide·refusals·chart-refusal, chart-refusal.Met.met 𝓤 H 𝓜 𝓖 𝓡),

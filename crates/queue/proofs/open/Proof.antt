@@ -1,7 +1,7 @@
 -- `queue::open` meets its contract: a walk of five calls.
 -- Assumes nothing.
-use Rattle.walk.proofs.Prelude.{ℕ, refl, List, [], _∷_, length, URA, w64, SProp, Memory, Routine, Heap, Tables, Atoms, Fun, givenOf, Given, _$_, !, of-opd, FmC, fmOf, u32, tripleOf, id⊢}
-use Rattle.walk.proofs.Prelude.{drop, number, lent, taken, so, Shape, Walk, proves, vars, field-var, sets, relends, gives, mut-of, made, fit, of-number, of-nothing, calls-for, copies}
+use Rattle.walk.proofs.Prelude.{ℕ, refl, List, [], _∷_, length, URA, w64, SProp, Memory, Routine, Heap, Tables, Atoms, Fun, Given, _$_, !, of-opd, u32, tripleOf, id⊢}
+use Rattle.walk.proofs.Prelude.{drop, number, lent, taken, so, Shape, Walk, proved, vars, field-var, sets, relends, gives, mut-of, made, fit, of-number, of-nothing, calls-for, copies}
 use Rattle.spec.specs.declared.types.Request.{Request}
 use Rattle.table.proofs.Rows.{R}
 use Rattle.table.proofs.Heads.{the-head, a-head}
@@ -33,7 +33,6 @@ module _ {M : Type 1} (𝓤 : URA M) (H : Heap 𝓤) (A : Atoms 𝓤) (W : Given
 
   walk : (𝓣 : Tables 𝓤 H) → Walk shape 𝓣
   walk 𝓣 known-shortest known-open-refusal known-unless-refused known-clear known-open-reply κs qs head head-is s₀ s₁ s₂ s₃ clients clients-is period period-is g Q leaves bs =
-      let fm : FmC 𝓤 H (W .laws) (𝓣 .C) = fmOf 𝓤 H (W .laws) 𝓣 in
       let ws : List Request = s₀ .list in
       let su : List ℕ = s₁ .list in
       let se : List ℕ = s₂ .list in
@@ -68,8 +67,7 @@ module _ {M : Type 1} (𝓤 : URA M) (H : Heap 𝓤) (A : Atoms 𝓤) (W : Given
 pub open-spec : {M : Type 1} → f.Statement.statement M
 unfolding f.Code.routine
 open-spec 𝓤 H 𝓜 𝓖 𝓡 =
-    let W : Given 𝓤 H (𝓖 .A) = givenOf 𝓤 H 𝓜 𝓖 in
-    proves 𝓤 H 𝓜 𝓖 𝓡 (shape 𝓤 H (𝓖 .A) W (𝓜 .mem) (𝓡 .run)) f.Code.env f.Key.name (f.Code.unfolded 𝓤 H 𝓜 𝓡) (walk 𝓤 H (𝓖 .A) W (𝓜 .mem) (𝓡 .run)) (
+    proved 𝓤 H 𝓜 𝓖 𝓡 (shape 𝓤 H) (walk 𝓤 H) f.Code.env f.Key.name (f.Code.unfolded 𝓤 H 𝓜 𝓡) (
       (shortest.Symbol.routine, f.Code.calls-columns·rows·shortest, shortest.Met.met 𝓤 H 𝓜 𝓖 𝓡),
       (
         (open-refusal.Symbol.routine, f.Code.calls-decide·refusals·open-refusal, open-refusal.Met.met 𝓤 H 𝓜 𝓖 𝓡),

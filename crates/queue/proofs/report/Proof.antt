@@ -1,7 +1,7 @@
 -- `queue::report` meets its contract: a walk of three calls.
 -- Assumes nothing.
-use Rattle.walk.proofs.Prelude.{ℕ, refl, List, [], _∷_, URA, w64, SProp, Memory, Routine, Heap, Tables, Atoms, Fun, Given, givenOf, _$_, !, FmC, fmOf, u32, tripleOf, id⊢}
-use Rattle.walk.proofs.Prelude.{drop, number, shown, taken, so, Shape, Walk, proves, vars, gives, passed-on, made, of-number, calls-for}
+use Rattle.walk.proofs.Prelude.{ℕ, refl, List, [], _∷_, URA, w64, SProp, Memory, Routine, Heap, Tables, Atoms, Fun, Given, _$_, !, u32, tripleOf, id⊢}
+use Rattle.walk.proofs.Prelude.{drop, number, shown, taken, so, Shape, Walk, proved, vars, gives, passed-on, made, of-number, calls-for}
 use Rattle.spec.specs.declared.types.Request.{Request}
 use Rattle.table.proofs.Rows.{R}
 use Rattle.table.proofs.Heads.{a-head, the-head}
@@ -29,7 +29,6 @@ module _ {M : Type 1} (𝓤 : URA M) (H : Heap 𝓤) (A : Atoms 𝓤) (W : Given
 
   walk : (𝓣 : Tables 𝓤 H) → Walk shape 𝓣
   walk 𝓣 known-tables-refusal known-report-refusal known-report-reply κs qs head head-is waiting submitted served dropped client client-is g Q leaves bs =
-      let fm : FmC 𝓤 H (W .laws) (𝓣 .C) = fmOf 𝓤 H (W .laws) 𝓣 in
       let ws : List Request = waiting .list in
       let su : List ℕ = submitted .list in
       let se : List ℕ = served .list in
@@ -46,8 +45,7 @@ module _ {M : Type 1} (𝓤 : URA M) (H : Heap 𝓤) (A : Atoms 𝓤) (W : Given
 pub report-spec : {M : Type 1} → f.Statement.statement M
 unfolding f.Code.routine
 report-spec 𝓤 H 𝓜 𝓖 𝓡 =
-    let W : Given 𝓤 H (𝓖 .A) = givenOf 𝓤 H 𝓜 𝓖 in
-    proves 𝓤 H 𝓜 𝓖 𝓡 (shape 𝓤 H (𝓖 .A) W (𝓜 .mem) (𝓡 .run)) f.Code.env f.Key.name (f.Code.unfolded 𝓤 H 𝓜 𝓡) (walk 𝓤 H (𝓖 .A) W (𝓜 .mem) (𝓡 .run)) (
+    proved 𝓤 H 𝓜 𝓖 𝓡 (shape 𝓤 H) (walk 𝓤 H) f.Code.env f.Key.name (f.Code.unfolded 𝓤 H 𝓜 𝓡) (
       (tables-refusal.Symbol.routine, f.Code.calls-sound·check·tables-refusal, tables-refusal.Met.met 𝓤 H 𝓜 𝓖 𝓡),
       (
         (report-refusal.Symbol.routine, f.Code.calls-decide·refusals·report-refusal, report-refusal.Met.met 𝓤 H 𝓜 𝓖 𝓡),

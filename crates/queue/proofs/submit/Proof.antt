@@ -1,7 +1,7 @@
 -- `queue::submit` meets its contract: a walk of five calls.
 -- Assumes nothing.
-use Rattle.walk.proofs.Prelude.{ℕ, refl, List, [], _∷_, length, URA, w64, SProp, Memory, Routine, Heap, Tables, Atoms, Fun, Given, givenOf, _$_, !, FmC, fmOf, u32, of-opd, and-then, tripleOf, id⊢}
-use Rattle.walk.proofs.Prelude.{drop, number, lent, taken, so, Shape, Walk, proves, var, vars, field-var, sets, relends, gives, mut-of, shr-of, made, fit, of-number, given, calls-for}
+use Rattle.walk.proofs.Prelude.{ℕ, refl, List, [], _∷_, length, URA, w64, SProp, Memory, Routine, Heap, Tables, Atoms, Fun, Given, _$_, !, u32, of-opd, and-then, tripleOf, id⊢}
+use Rattle.walk.proofs.Prelude.{drop, number, lent, taken, so, Shape, Walk, proved, var, vars, field-var, sets, relends, gives, mut-of, shr-of, made, fit, of-number, given, calls-for}
 use Rattle.queue.proofs.Together.{submitted-gives}
 use Rattle.queue.proofs.Values.{out-fits, at-fits, ReplyT, a-reply, a-decision, an-edit}
 use Rattle.spec.specs.declared.types.Request.{Request}
@@ -33,7 +33,6 @@ module _ {M : Type 1} (𝓤 : URA M) (H : Heap 𝓤) (A : Atoms 𝓤) (W : Given
 
   walk : (𝓣 : Tables 𝓤 H) → Walk shape 𝓣
   walk 𝓣 known-submit-decision known-edit-of known-new-request known-exchange known-submit-reply κs qs head head-is waiting submitted served dropped client client-is deadline deadline-is g Q leaves bs =
-      let fm : FmC 𝓤 H (W .laws) (𝓣 .C) = fmOf 𝓤 H (W .laws) 𝓣 in
       let ws : List Request = waiting .list in
       let su : List ℕ = submitted .list in
       let se : List ℕ = served .list in
@@ -59,8 +58,7 @@ module _ {M : Type 1} (𝓤 : URA M) (H : Heap 𝓤) (A : Atoms 𝓤) (W : Given
 pub submit-spec : {M : Type 1} → f.Statement.statement M
 unfolding f.Code.routine
 submit-spec 𝓤 H 𝓜 𝓖 𝓡 =
-    let W : Given 𝓤 H (𝓖 .A) = givenOf 𝓤 H 𝓜 𝓖 in
-    proves 𝓤 H 𝓜 𝓖 𝓡 (shape 𝓤 H (𝓖 .A) W (𝓜 .mem) (𝓡 .run)) f.Code.env f.Key.name (f.Code.unfolded 𝓤 H 𝓜 𝓡) (walk 𝓤 H (𝓖 .A) W (𝓜 .mem) (𝓡 .run)) (
+    proved 𝓤 H 𝓜 𝓖 𝓡 (shape 𝓤 H) (walk 𝓤 H) f.Code.env f.Key.name (f.Code.unfolded 𝓤 H 𝓜 𝓡) (
       (submit-decision.Symbol.routine, f.Code.calls-queue·submit-decision, submit-decision.Met.met 𝓤 H 𝓜 𝓖 𝓡),
       (
         (edit-of.Symbol.routine, f.Code.calls-decide·edits·edit-of, edit-of.Met.met 𝓤 H 𝓜 𝓖 𝓡),

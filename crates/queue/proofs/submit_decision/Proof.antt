@@ -1,7 +1,7 @@
 -- `queue::submit_decision` meets its contract: a walk of four calls with an early return.
 -- Assumes nothing.
-use Rattle.walk.proofs.Prelude.{_≡_, refl, sym, _∙_, ℕ, List, [], _∷_, length, URA, w64, SProp, Memory, Routine, Heap, Tables, Atoms, Fun, givenOf, tables, Given, _$_, !, lit, of-opd, bin, first, FmC, fmOf, u32, tripleOf, id⊢}
-use Rattle.walk.proofs.Prelude.{drop, number, branches-then, skips-then, shown, taken, so, Shape, Walk, proves, var, vars, field-var, sets, gives, gives-within, passed-on, made, fit, of-number, calls-for}
+use Rattle.walk.proofs.Prelude.{_≡_, refl, sym, _∙_, ℕ, List, [], _∷_, length, URA, w64, SProp, Memory, Routine, Heap, Tables, Atoms, Fun, tables, Given, _$_, !, lit, of-opd, bin, first, u32, tripleOf, id⊢}
+use Rattle.walk.proofs.Prelude.{drop, number, branches-then, skips-then, shown, taken, so, Shape, Walk, proved, var, vars, field-var, sets, gives, gives-within, passed-on, made, fit, of-number, calls-for}
 use Rattle.walk.proofs.Steps.{into-call}
 use Rattle.columns.specs.Columns.{stateOf}
 use Rattle.decide.proofs.Matching.{submit-told}
@@ -36,7 +36,6 @@ module _ {M : Type 1} (𝓤 : URA M) (H : Heap 𝓤) (A : Atoms 𝓤) (W : Given
 
   walk : (𝓣 : Tables 𝓤 H) → Walk shape 𝓣
   walk 𝓣 known-tables-refusal known-submit-refusal known-refuse known-accepted-decision κs qs s₀ s₁ s₂ s₃ head head-is client client-is deadline deadline-is g Q leaves bs =
-      let fm : FmC 𝓤 H (W .laws) (𝓣 .C) = fmOf 𝓤 H (W .laws) 𝓣 in
       let ws : List Request = s₀ .list in
       let su : List ℕ = s₁ .list in
       let se : List ℕ = s₂ .list in
@@ -62,8 +61,7 @@ module _ {M : Type 1} (𝓤 : URA M) (H : Heap 𝓤) (A : Atoms 𝓤) (W : Given
 pub submit-decision-spec : {M : Type 1} → f.Statement.statement M
 unfolding f.Code.routine
 submit-decision-spec 𝓤 H 𝓜 𝓖 𝓡 =
-    let W : Given 𝓤 H (𝓖 .A) = givenOf 𝓤 H 𝓜 𝓖 in
-    proves 𝓤 H 𝓜 𝓖 𝓡 (shape 𝓤 H (𝓖 .A) W (𝓜 .mem) (𝓡 .run)) f.Code.env f.Key.name (f.Code.unfolded 𝓤 H 𝓜 𝓡) (walk 𝓤 H (𝓖 .A) W (𝓜 .mem) (𝓡 .run)) (
+    proved 𝓤 H 𝓜 𝓖 𝓡 (shape 𝓤 H) (walk 𝓤 H) f.Code.env f.Key.name (f.Code.unfolded 𝓤 H 𝓜 𝓡) (
       (tables-refusal.Symbol.routine, f.Code.calls-sound·check·tables-refusal, tables-refusal.Met.met 𝓤 H 𝓜 𝓖 𝓡),
       (
         (submit-refusal.Symbol.routine, f.Code.calls-decide·refusals·submit-refusal, submit-refusal.Met.met 𝓤 H 𝓜 𝓖 𝓡),

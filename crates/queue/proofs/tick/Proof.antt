@@ -1,7 +1,7 @@
 -- `queue::tick` meets its contract: a walk of seven calls.
 -- Assumes nothing.
-use Rattle.walk.proofs.Prelude.{ℕ, refl, List, [], _∷_, length, URA, w64, SProp, emp, id⊢, Memory, Routine, Heap, Tables, Atoms, Fun, givenOf, tables, Given, _$_, !, of-opd, and-then, FmC, fmOf, u32, tripleOf}
-use Rattle.walk.proofs.Prelude.{drop, number, lent, so, Shape, Walk, proves, calls-giving, var, vars, field-var, sets, relends, gives, mut-of, shr-of, made, fit, of-number, taken, given, calls-for}
+use Rattle.walk.proofs.Prelude.{ℕ, refl, List, [], _∷_, length, URA, w64, SProp, emp, id⊢, Memory, Routine, Heap, Tables, Atoms, Fun, tables, Given, _$_, !, of-opd, and-then, u32, tripleOf}
+use Rattle.walk.proofs.Prelude.{drop, number, lent, so, Shape, Walk, proved, calls-giving, var, vars, field-var, sets, relends, gives, mut-of, shr-of, made, fit, of-number, taken, given, calls-for}
 use Rattle.spec.specs.declared.types.Request.{Request}
 use Rattle.spec.specs.Tables.{zeroRequest}
 use Rattle.table.proofs.Rows.{R, a-request, request}
@@ -38,7 +38,6 @@ module _ {M : Type 1} (𝓤 : URA M) (H : Heap 𝓤) (A : Atoms 𝓤) (W : Given
 
   walk : (𝓣 : Tables 𝓤 H) → Walk shape 𝓣
   walk 𝓣 known-tables-refusal known-tick-refusal known-tick-decision known-edit-of known-zero known-exchange known-tick-reply κs qs head head-is s₀ s₁ s₂ s₃ g Q leaves bs =
-      let fm : FmC 𝓤 H (W .laws) (𝓣 .C) = fmOf 𝓤 H (W .laws) 𝓣 in
       let ws : List Request = s₀ .list in
       let su : List ℕ = s₁ .list in
       let se : List ℕ = s₂ .list in
@@ -76,8 +75,7 @@ module _ {M : Type 1} (𝓤 : URA M) (H : Heap 𝓤) (A : Atoms 𝓤) (W : Given
 pub tick-spec : {M : Type 1} → f.Statement.statement M
 unfolding f.Code.routine
 tick-spec 𝓤 H 𝓜 𝓖 𝓡 =
-    let W : Given 𝓤 H (𝓖 .A) = givenOf 𝓤 H 𝓜 𝓖 in
-    proves 𝓤 H 𝓜 𝓖 𝓡 (shape 𝓤 H (𝓖 .A) W (𝓜 .mem) (𝓡 .run)) f.Code.env f.Key.name (f.Code.unfolded 𝓤 H 𝓜 𝓡) (walk 𝓤 H (𝓖 .A) W (𝓜 .mem) (𝓡 .run)) (
+    proved 𝓤 H 𝓜 𝓖 𝓡 (shape 𝓤 H) (walk 𝓤 H) f.Code.env f.Key.name (f.Code.unfolded 𝓤 H 𝓜 𝓡) (
       (tables-refusal.Symbol.routine, f.Code.calls-sound·check·tables-refusal, tables-refusal.Met.met 𝓤 H 𝓜 𝓖 𝓡),
       (
         (tick-refusal.Symbol.routine, f.Code.calls-decide·refusals·tick-refusal, tick-refusal.Met.met 𝓤 H 𝓜 𝓖 𝓡),

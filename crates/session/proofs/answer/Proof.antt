@@ -1,10 +1,10 @@
 -- `session::answer` meets its contract: a walk with a match, one call in each arm.
 -- Assumes nothing.
-use Rattle.walk.proofs.Prelude.{Name, Contract, Triple, Lfts, Shares, refl, ℕ, List, [], _∷_, URA, SProp, id⊢, Memory, Routine, Heap, Tables, Atoms, Fun, givenOf, Given, Is, _$_, !, of-opd, first, u32, u64, tripleOf}
-use Rattle.walk.proofs.Prelude.{drop, Param, number, lent, so, fit, Shape, Walk, proves, vars, sets, taken, given, mut-own, shr-own, relends, hands-on}
+use Rattle.walk.proofs.Prelude.{Name, Contract, Triple, Lfts, Shares, refl, ℕ, List, [], _∷_, URA, SProp, id⊢, Memory, Routine, Heap, Tables, Atoms, Fun, Given, Is, _$_, !, of-opd, first, u32, u64, tripleOf}
+use Rattle.walk.proofs.Prelude.{drop, Param, number, lent, so, fit, Shape, Walk, proved, vars, sets, taken, given, mut-own, shr-own, relends, hands-on}
 use Rattle.walk.proofs.Enter.{Slice, Ends, Long, Runs, ref}
 use Rattle.walk.proofs.Matches.{matches, payload-var}
-use Rattle.walk.proofs.Slices.Loans.{Lasts, Knowns, bound}
+use Rattle.walk.proofs.Slices.Loans.{Lasts, Knowns}
 use denote.Enum.Laws as LE
 use Rattle.spec.specs.declared.types.Frame.{Frame}
 use Rattle.spec.specs.declared.types.Frame.the-variants.{Open, Submit, Tick, Report, Chart, Bad}
@@ -86,7 +86,7 @@ module _ {M : Type 1} (𝓤 : URA M) (H : Heap 𝓤) (A : Atoms 𝓤) (W : Given
         let owed = LE.owed TF.the-type TF′.the-laws (Open clients period records) _ is in
         let ns : List (Param 𝓤 H A) = number W clients (owed .0 .1) ∷ number W period (owed .1 .0 .1) ∷ [] in
         drop ! $ first ! $ matches ! refl refl refl tt $ sets ! (of-opd ! (payload-var ! refl refl refl refl)) refl (tt, fit (owed .0 .1)) $ sets ! (of-opd ! (payload-var ! refl refl refl refl)) refl (tt, fit (owed .1 .0 .1)) $ relends ! waiting refl $ relends ! submitted refl $ relends ! served refl $ relends ! dropped refl $
-        hands-on ! 𝓣 (0 ∷ 1 ∷ 2 ∷ 3 ∷ []) (lent-with ns) a-reply (λ c. known (bound W (lent-with ns) c)) (id⊢ 𝓤 _) refl (λ c. vars ! (refl, (refl, (refl, (refl, (refl, (refl, (refl, tt)))))))) (λ _. refl) Q refl (λ r last. (refl, refl)) (λ r last told kept own.
+        hands-on ! 𝓣 (0 ∷ 1 ∷ 2 ∷ 3 ∷ []) (lent-with ns) a-reply (λ c. known) (λ c h. h) (id⊢ 𝓤 _) refl (λ c. vars ! (refl, (refl, (refl, (refl, (refl, (refl, (refl, tt)))))))) (λ _. refl) Q refl (λ r last. (refl, refl)) (λ r last told kept own.
         leaves (a-reply .val r) r (lasts ns last) (longs (Open clients period records) ns last kept) own (so 𝓤 (answers told refl)))
 
     submits : Known submitting → (client deadline : ℕ) → Arm (Submit client deadline)
@@ -95,14 +95,14 @@ module _ {M : Type 1} (𝓤 : URA M) (H : Heap 𝓤) (A : Atoms 𝓤) (W : Given
         let owed = LE.owed TF.the-type TF′.the-laws (Submit client deadline) _ is in
         let ns : List (Param 𝓤 H A) = number W client (owed .0 .1) ∷ number W deadline (owed .1 .0 .1) ∷ [] in
         drop ! $ first ! $ matches ! refl refl refl tt $ sets ! (of-opd ! (payload-var ! refl refl refl refl)) refl (tt, fit (owed .0 .1)) $ sets ! (of-opd ! (payload-var ! refl refl refl refl)) refl (tt, fit (owed .1 .0 .1)) $ relends ! waiting refl $ relends ! submitted refl $ relends ! served refl $ relends ! dropped refl $
-        hands-on ! 𝓣 (0 ∷ 1 ∷ 2 ∷ 3 ∷ []) (lent-with ns) a-reply (λ c. known (bound W (lent-with ns) c)) (id⊢ 𝓤 _) refl (λ c. vars ! (refl, (refl, (refl, (refl, (refl, (refl, (refl, tt)))))))) (λ _. refl) Q refl (λ r last. (refl, refl)) (λ r last told kept own.
+        hands-on ! 𝓣 (0 ∷ 1 ∷ 2 ∷ 3 ∷ []) (lent-with ns) a-reply (λ c. known) (λ c h. h) (id⊢ 𝓤 _) refl (λ c. vars ! (refl, (refl, (refl, (refl, (refl, (refl, (refl, tt)))))))) (λ _. refl) Q refl (λ r last. (refl, refl)) (λ r last told kept own.
         leaves (a-reply .val r) r (lasts ns last) (longs (Submit client deadline) ns last kept) own (so 𝓤 (answers told refl)))
 
     ticks : Known ticking → Arm Tick
     unfolding outcomeFor startsFor
     ticks known is g Q leaves bs =
         drop ! $ first ! $ matches ! refl refl refl tt $ relends ! waiting refl $ relends ! submitted refl $ relends ! served refl $ relends ! dropped refl $
-        hands-on ! 𝓣 (0 ∷ 1 ∷ 2 ∷ 3 ∷ []) (lent-with []) a-reply (λ c. known (bound W (lent-with []) c)) (id⊢ 𝓤 _) refl (λ c. vars ! (refl, (refl, (refl, (refl, (refl, tt)))))) (λ _. refl) Q refl (λ r last. (refl, refl)) (λ r last told kept own.
+        hands-on ! 𝓣 (0 ∷ 1 ∷ 2 ∷ 3 ∷ []) (lent-with []) a-reply (λ c. known) (λ c h. h) (id⊢ 𝓤 _) refl (λ c. vars ! (refl, (refl, (refl, (refl, (refl, tt)))))) (λ _. refl) Q refl (λ r last. (refl, refl)) (λ r last told kept own.
         leaves (a-reply .val r) r (lasts [] last) (longs Tick [] last kept) own (so 𝓤 (answers told refl)))
 
     reports : Known reporting → (client : ℕ) → Arm (Report client)
@@ -111,7 +111,7 @@ module _ {M : Type 1} (𝓤 : URA M) (H : Heap 𝓤) (A : Atoms 𝓤) (W : Given
         let owed = LE.owed TF.the-type TF′.the-laws (Report client) _ is in
         let ns : List (Param 𝓤 H A) = number W client (owed .0 .1) ∷ [] in
         drop ! $ first ! $ matches ! refl refl refl tt $ sets ! (of-opd ! (payload-var ! refl refl refl refl)) refl (tt, fit (owed .0 .1)) $ relends ! waiting refl $ relends ! submitted refl $ relends ! served refl $ relends ! dropped refl $
-        hands-on ! 𝓣 (0 ∷ 1 ∷ 2 ∷ 3 ∷ []) (shown-with ns) a-reply (λ c. known (bound W (shown-with ns) c)) (id⊢ 𝓤 _) refl (λ c. vars ! (refl, (refl, (refl, (refl, (refl, (refl, tt))))))) (λ _. refl) Q refl (λ r last. (refl, refl)) (λ r last told kept own.
+        hands-on ! 𝓣 (0 ∷ 1 ∷ 2 ∷ 3 ∷ []) (shown-with ns) a-reply (λ c. known) (λ c h. h) (id⊢ 𝓤 _) refl (λ c. vars ! (refl, (refl, (refl, (refl, (refl, (refl, tt))))))) (λ _. refl) Q refl (λ r last. (refl, refl)) (λ r last told kept own.
         leaves (a-reply .val r) r (with-starts (starts .list)) (refl, (refl, (refl, (refl, (refl, tt))))) own (so 𝓤 (answers told refl)))
 
     charts : Known charting → Arm Chart
@@ -119,14 +119,14 @@ module _ {M : Type 1} (𝓤 : URA M) (H : Heap 𝓤) (A : Atoms 𝓤) (W : Given
     charts known is g Q leaves bs =
         let ns : List (Param 𝓤 H A) = mut-own W starts ∷ [] in
         drop ! $ first ! $ matches ! refl refl refl tt $ relends ! waiting refl $ relends ! submitted refl $ relends ! served refl $ relends ! dropped refl $ relends ! starts refl $
-        hands-on ! 𝓣 (0 ∷ 1 ∷ 2 ∷ 3 ∷ 4 ∷ []) (shown-with ns) a-reply (λ c. known (bound W (shown-with ns) c)) (id⊢ 𝓤 _) refl (λ c. vars ! (refl, (refl, (refl, (refl, (refl, (refl, tt))))))) (λ _. refl) Q refl (λ r last. (refl, refl)) (λ r last told kept own.
+        hands-on ! 𝓣 (0 ∷ 1 ∷ 2 ∷ 3 ∷ 4 ∷ []) (shown-with ns) a-reply (λ c. known) (λ c h. h) (id⊢ 𝓤 _) refl (λ c. vars ! (refl, (refl, (refl, (refl, (refl, (refl, tt))))))) (λ _. refl) Q refl (λ r last. (refl, refl)) (λ r last told kept own.
         leaves (a-reply .val r) r (with-starts (last .1 .1 .1 .1 .1 .0)) (refl, (refl, (refl, (refl, (kept .1 .1 .1 .1 .0, tt))))) own (so 𝓤 (answers (told .0) (told .1))))
 
     refuses : Known refusing → Arm Bad
     unfolding outcomeFor startsFor
     refuses known is g Q leaves bs =
         drop ! $ first ! $ matches ! refl refl refl tt $
-        hands-on ! 𝓣 [] (given W a-head head head-is ∷ []) a-reply (λ c. known (bound W (given W a-head head head-is ∷ []) c)) (id⊢ 𝓤 _) refl (λ c. vars ! (refl, tt)) (λ _. refl) Q refl (λ r last. (refl, refl)) (λ r last told kept own.
+        hands-on ! 𝓣 [] (given W a-head head head-is ∷ []) a-reply (λ c. known) (λ c h. h) (id⊢ 𝓤 _) refl (λ c. vars ! (refl, tt)) (λ _. refl) Q refl (λ r last. (refl, refl)) (λ r last told kept own.
         leaves (a-reply .val r) r (with-starts (starts .list)) (refl, (refl, (refl, (refl, (refl, tt))))) own (so 𝓤 (answers-bad told)))
 
   walk : (𝓣 : Tables 𝓤 H) → Walk shape 𝓣
@@ -143,8 +143,7 @@ module _ {M : Type 1} (𝓤 : URA M) (H : Heap 𝓤) (A : Atoms 𝓤) (W : Given
 pub answer-spec : {M : Type 1} → f.Statement.statement M
 unfolding f.Code.routine
 answer-spec 𝓤 H 𝓜 𝓖 𝓡 =
-    let W : Given 𝓤 H (𝓖 .A) = givenOf 𝓤 H 𝓜 𝓖 in
-    proves 𝓤 H 𝓜 𝓖 𝓡 (shape 𝓤 H (𝓖 .A) W (𝓜 .mem) (𝓡 .run)) f.Code.env f.Key.name (f.Code.unfolded 𝓤 H 𝓜 𝓡) (walk 𝓤 H (𝓖 .A) W (𝓜 .mem) (𝓡 .run)) (
+    proved 𝓤 H 𝓜 𝓖 𝓡 (shape 𝓤 H) (walk 𝓤 H) f.Code.env f.Key.name (f.Code.unfolded 𝓤 H 𝓜 𝓡) (
       (open-call.Symbol.routine, f.Code.calls-queue·open, open-call.Met.met 𝓤 H 𝓜 𝓖 𝓡),
       (
         (submit.Symbol.routine, f.Code.calls-queue·submit, submit.Met.met 𝓤 H 𝓜 𝓖 𝓡),

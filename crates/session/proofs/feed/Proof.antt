@@ -3,8 +3,8 @@
 -- Assumes nothing.
 use prog.Wp.{Env, spotOf}
 use types.Kit.{drop, use0}
-use Rattle.walk.proofs.Prelude.{_≡_, refl, sym, _∙_, subst, ℕ, _<_, List, [], _∷_, length, lit<, URA, w8, SProp, Lft, Share, ftrue, id⊢, Memory, Routine, Heap, Tables, Out, Wp, afterSeq, afterBlock, afterTurn, atReturn, Atoms, Fun, givenOf, Given, Item, Sq, runs, anyQ, atRet, ‵, _$_, !, move, rewrite, use2, agg, addr, stop, from, lit, of-opd, and-then, no-more, first, blocks, exec, Below, again, loops, Is, RattleType, u8, u32, u64, sliceVal, Room, Array, tripleOf, InvImage·wf, Nat·lt-wfRel}
-use Rattle.walk.proofs.Prelude.{lent, shown, so, Shape, Walk, proves, Lent-at, tests, var, vars, field-var, sets, sets-last, empties, gives, mut-of, passed-on, takes-out, loan, of-number, taken, given, relends, calls-for, made, fit, copies}
+use Rattle.walk.proofs.Prelude.{_≡_, refl, sym, _∙_, subst, ℕ, _<_, List, [], _∷_, length, lit<, URA, w8, SProp, Lft, Share, ftrue, id⊢, Memory, Routine, Heap, Tables, Out, Wp, afterSeq, afterBlock, afterTurn, atReturn, Atoms, Fun, Given, Item, Sq, runs, anyQ, atRet, ‵, _$_, !, move, rewrite, use2, agg, addr, stop, from, lit, of-opd, and-then, no-more, first, blocks, exec, Below, again, loops, Is, RattleType, u8, u32, u64, sliceVal, Room, Array, tripleOf, InvImage·wf, Nat·lt-wfRel}
+use Rattle.walk.proofs.Prelude.{lent, shown, so, Shape, Walk, proved, Lent-at, tests, var, vars, field-var, sets, sets-last, empties, gives, mut-of, passed-on, takes-out, loan, of-number, taken, given, relends, calls-for, made, fit, copies}
 use Rattle.walk.proofs.Enter.{envAt, Slice}
 use Rattle.walk.proofs.Frees.{Held, holds, empty}
 use Rattle.walk.proofs.Locals.{standing, puts}
@@ -129,8 +129,7 @@ module _ {M : Type 1} (𝓤 : URA M) (H : Heap 𝓤) (A : Atoms 𝓤) (W : Given
 pub feed-spec : {M : Type 1} → f.Statement.statement M
 unfolding f.Code.routine
 feed-spec 𝓤 H 𝓜 𝓖 𝓡 =
-    let W : Given 𝓤 H (𝓖 .A) = givenOf 𝓤 H 𝓜 𝓖 in
-    proves 𝓤 H 𝓜 𝓖 𝓡 (shape 𝓤 H (𝓖 .A) W (𝓜 .mem) (𝓡 .run)) f.Code.env f.Key.name (f.Code.unfolded 𝓤 H 𝓜 𝓡) (walk 𝓤 H (𝓖 .A) W (𝓜 .mem) (𝓡 .run)) (
+    proved 𝓤 H 𝓜 𝓖 𝓡 (shape 𝓤 H) (walk 𝓤 H) f.Code.env f.Key.name (f.Code.unfolded 𝓤 H 𝓜 𝓡) (
       (digit-table.Symbol.routine, f.Code.calls-frame·values·digit-table, digit-table.Met.met 𝓤 H 𝓜 𝓖 𝓡),
       (
         (begin.Symbol.routine, f.Code.calls-session·turns·begin, begin.Met.met 𝓤 H 𝓜 𝓖 𝓡),

@@ -1,9 +1,8 @@
 -- `session::step` meets its contract: a walk with an early return and, behind it, six calls, one of which gets parts of the tables.
 -- Assumes nothing.
 use lib.ListN.{drop as drop-list}
-use Rattle.walk.proofs.Prelude.{_≡_, refl, false, ℕ, _≤_, List, [], _∷_, _++_, length, URA, w64, SProp, id⊢, Memory, Routine, Heap, Tables, Atoms, Fun, givenOf, Given, _$_, !, of-opd, first, u8, u32, u64, tripleOf}
-use Rattle.walk.proofs.Prelude.{heard, branches-then, skips-then, number, lent, shown, so, Shape, Walk, proves, var, vars, field-var, sets, shr-of, passed-on, of-number, taken, given, mut-own, mut-front, relends, lends-front, calls-for, hands-on, fit}
-use Rattle.walk.proofs.Slices.Loans.{bound}
+use Rattle.walk.proofs.Prelude.{_≡_, refl, false, ℕ, _≤_, List, [], _∷_, _++_, length, URA, w64, SProp, id⊢, Memory, Routine, Heap, Tables, Atoms, Fun, Given, _$_, !, of-opd, first, u8, u32, u64, tripleOf}
+use Rattle.walk.proofs.Prelude.{heard, branches-then, skips-then, number, lent, shown, so, Shape, Walk, proved, var, vars, field-var, sets, shr-of, passed-on, of-number, taken, given, mut-own, mut-front, relends, lends-front, calls-for, hands-on, fit}
 use Rattle.walk.proofs.Slices.Parts.{back-long}
 use Rattle.spec.specs.declared.types.Request.{Request}
 use Rattle.frame.specs.Digits.{digitTable}
@@ -62,7 +61,7 @@ module _ {M : Type 1} (𝓤 : URA M) (H : Heap 𝓤) (A : Atoms 𝓤) (W : Given
       sets ! (of-opd ! (field-var ! refl refl refl)) refl (tt, tt) $
       branches-then ! (var ! refl) (λ held.
       -- return turns::stopped(fed, turn);
-      first ! $ hands-on ! 𝓣 [] (given W a-fed fed fed-is ∷ given W a-turn turn turn-is ∷ []) a-fed (λ c. known-stopped (bound W (given W a-fed fed fed-is ∷ given W a-turn turn turn-is ∷ []) c)) (id⊢ 𝓤 _) refl (λ c. vars ! (refl, (refl, tt))) (λ _. refl) Q refl (λ r last. (refl, refl)) (λ r last₂ told kept₂ own.
+      first ! $ hands-on ! 𝓣 [] (given W a-fed fed fed-is ∷ given W a-turn turn turn-is ∷ []) a-fed (λ c. known-stopped) (λ c h. h) (id⊢ 𝓤 _) refl (λ c. vars ! (refl, (refl, tt))) (λ _. refl) Q refl (λ r last. (refl, refl)) (λ r last₂ told kept₂ own.
       leaves (a-fed .val r) r (ws, (su, (se, (dr, (st, (out .list, tt)))))) (refl, (refl, (refl, (refl, (refl, (refl, tt)))))) own (so 𝓤 (stops turn (is-true (turn .ends) held) (required .1) (required .2) next told))))
       (λ failed. skips-then ! $
       let goes : turn .ends ≡ false = is-false (turn .ends) failed in
@@ -87,7 +86,7 @@ module _ {M : Type 1} (𝓤 : URA M) (H : Heap 𝓤) (A : Atoms 𝓤) (W : Given
       -- let put = turns::put_reply(out, fed, reply, starts);
       calls-for ! 𝓣 (7 ∷ 6 ∷ []) (mut-own W out ∷ given W a-fed fed fed-is ∷ given W a-reply reply reply-is ∷ shr-of W starts st₁ (kept₆ .1 .1 .1 .1 .0) ∷ []) (of-number w64) (λ c. known-put-reply) (λ c h. h) (so 𝓤 (goes-on .0)) refl (λ c. vars ! (refl, (refl, (refl, (refl, tt))))) (λ _. refl) (λ put last₇ written kept₇ put-is.
       -- turns::answered(fed, turn, reply, put)
-      hands-on ! 𝓣 [] (given W a-fed fed fed-is ∷ given W a-turn turn turn-is ∷ given W a-reply reply reply-is ∷ number W put (put-is .1) ∷ []) a-fed (λ c. known-answered (bound W (given W a-fed fed fed-is ∷ given W a-turn turn turn-is ∷ given W a-reply reply reply-is ∷ number W put (put-is .1) ∷ []) c)) (id⊢ 𝓤 _) refl (λ c. vars ! (refl, (refl, (refl, (refl, tt))))) (λ _. refl) Q refl (λ r last. (refl, refl)) (λ r last₈ told kept₈ own.
+      hands-on ! 𝓣 [] (given W a-fed fed fed-is ∷ given W a-turn turn turn-is ∷ given W a-reply reply reply-is ∷ number W put (put-is .1) ∷ []) a-fed (λ c. known-answered) (λ c h. h) (id⊢ 𝓤 _) refl (λ c. vars ! (refl, (refl, (refl, (refl, tt))))) (λ _. refl) Q refl (λ r last. (refl, refl)) (λ r last₈ told kept₈ own.
       leaves (a-fed .val r) r (zs ++ drop-list (l .records) ws, (us ++ drop-list (l .clients) su, (vs ++ drop-list (l .clients) se, (ds ++ drop-list (l .clients) dr, (st₁, (last₇ .0, tt))))))
       (back-long (l .records) ws zs (kept₆ .0), (back-long (l .clients) su us (kept₆ .1 .0), (back-long (l .clients) se vs (kept₆ .1 .1 .0), (back-long (l .clients) dr ds (kept₆ .1 .1 .1 .0), (kept₆ .1 .1 .1 .1 .0, (kept₇ .0, tt)))))) own
       (so 𝓤 (goes-on .1 (last₇ .0) put r written told)))))))))))
@@ -95,8 +94,7 @@ module _ {M : Type 1} (𝓤 : URA M) (H : Heap 𝓤) (A : Atoms 𝓤) (W : Given
 pub step-spec : {M : Type 1} → f.Statement.statement M
 unfolding f.Code.routine
 step-spec 𝓤 H 𝓜 𝓖 𝓡 =
-    let W : Given 𝓤 H (𝓖 .A) = givenOf 𝓤 H 𝓜 𝓖 in
-    proves 𝓤 H 𝓜 𝓖 𝓡 (shape 𝓤 H (𝓖 .A) W (𝓜 .mem) (𝓡 .run)) f.Code.env f.Key.name (f.Code.unfolded 𝓤 H 𝓜 𝓡) (walk 𝓤 H (𝓖 .A) W (𝓜 .mem) (𝓡 .run)) (
+    proved 𝓤 H 𝓜 𝓖 𝓡 (shape 𝓤 H) (walk 𝓤 H) f.Code.env f.Key.name (f.Code.unfolded 𝓤 H 𝓜 𝓡) (
       (next-turn.Symbol.routine, f.Code.calls-session·turns·next-turn, next-turn.Met.met 𝓤 H 𝓜 𝓖 𝓡),
       (
         (stopped.Symbol.routine, f.Code.calls-session·turns·stopped, stopped.Met.met 𝓤 H 𝓜 𝓖 𝓡),

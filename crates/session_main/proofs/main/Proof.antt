@@ -1,8 +1,8 @@
 -- `session_main::main` meets its contract, which asks nothing but that it ends: a walk that makes the arrays, lends them, and says
 -- where the program stopped.
 -- Assumes nothing.
-use Rattle.walk.proofs.Prelude.{_≡_, refl, sym, subst, ℕ, List, [], _∷_, arith, length, replicate, length-replicate, lit<, URA, w64, w8, w32, vunit, SProp, emp, id⊢, Memory, Routine, Heap, Tables, Atoms, Fun, givenOf, Given, ‵, _$_, !, rewrite, agg, stop, from, addr, lit, of-opd, and-then, no-more, unit-lit, FmC, fmOf, Nothing, u8, u32, u64, Room, tripleOf}
-use Rattle.walk.proofs.Prelude.{drop, so, Shape, Walk, proves, var, vars, sets, gives, takes-out, big-lit, loan, lends-slice, fit, of-flag, calls-for, made, of-nothing, given}
+use Rattle.walk.proofs.Prelude.{_≡_, refl, sym, subst, ℕ, List, [], _∷_, arith, length, replicate, length-replicate, lit<, URA, w64, w8, w32, vunit, SProp, emp, id⊢, Memory, Routine, Heap, Tables, Atoms, Fun, Given, ‵, _$_, !, rewrite, agg, stop, from, addr, lit, of-opd, and-then, no-more, unit-lit, Nothing, u8, u32, u64, Room, tripleOf}
+use Rattle.walk.proofs.Prelude.{drop, so, Shape, Walk, proved, var, vars, sets, gives, takes-out, big-lit, loan, lends-slice, fit, of-flag, calls-for, made, of-nothing, given}
 use Rattle.walk.proofs.Slices.Arrays.{Held-array, array-lent, repeats, zeros, zeros-long, zeroes, mut-zeros, ends-array}
 use Rattle.session_main.proofs.Values.{a-flow}
 use Rattle.spec.specs.declared.types.Request.{Request}
@@ -52,7 +52,6 @@ module _ {M : Type 1} (𝓤 : URA M) (H : Heap 𝓤) (A : Atoms 𝓤) (W : Given
 
   walk : (𝓣 : Tables 𝓤 H) → Walk shape 𝓣
   walk 𝓣 known-serve known-say-why κs qs g Q leaves bs =
-      let fm : FmC 𝓤 H (W .laws) (𝓣 .C) = fmOf 𝓤 H (W .laws) 𝓣 in
       let l₁ : ℕ = bs .1 .0 in
       let l₂ : ℕ = bs .1 .1 .0 in
       let l₃ : ℕ = bs .1 .1 .1 .0 in
@@ -83,8 +82,7 @@ module _ {M : Type 1} (𝓤 : URA M) (H : Heap 𝓤) (A : Atoms 𝓤) (W : Given
 pub main-spec : {M : Type 1} → f.Statement.statement M
 unfolding f.Code.routine
 main-spec 𝓤 H 𝓜 𝓖 𝓡 =
-    let W : Given 𝓤 H (𝓖 .A) = givenOf 𝓤 H 𝓜 𝓖 in
-    proves 𝓤 H 𝓜 𝓖 𝓡 (shape 𝓤 H (𝓖 .A) W (𝓜 .mem) (𝓡 .run)) f.Code.env f.Key.name (f.Code.unfolded 𝓤 H 𝓜 𝓡) (walk 𝓤 H (𝓖 .A) W (𝓜 .mem) (𝓡 .run)) (
+    proved 𝓤 H 𝓜 𝓖 𝓡 (shape 𝓤 H) (walk 𝓤 H) f.Code.env f.Key.name (f.Code.unfolded 𝓤 H 𝓜 𝓡) (
       (serve.Symbol.routine, f.Code.calls-session-main·serve, serve.Met.met 𝓤 H 𝓜 𝓖 𝓡),
       ((say-why.Symbol.routine, f.Code.calls-session-main·flow·say-why, say-why.Met.met 𝓤 H 𝓜 𝓖 𝓡), tt),
     )

@@ -3,8 +3,8 @@
 -- Assumes nothing.
 use prog.Wp.{Env}
 use prog.Routine.{Name}
-use Rattle.walk.proofs.Prelude.{_≡_, refl, sym, _∙_, subst, ℕ, _<_, List, [], _∷_, length, URA, Val, SProp, Lft, Share, Lfts, Shares, Memory, Routine, Heap, Tables, Out, Wp, afterSeq, afterBlock, afterTurn, atReturn, Atoms, Fun, givenOf, Given, Item, Sq, runs, anyQ, atRet, ‵, _$_, !, sliceVal, lit, of-opd, bin, no-more, first, blocks, exec, Below, again, loops, FmC, fmOf, and-then, RattleType, u8, u32, u64, Contract, Triple, tripleOf, ltb→lt, id⊢}
-use Rattle.walk.proofs.Prelude.{heard, lent, so, Shape, Walk, proves, Lent-at, tests, var, vars, field-var, sets, sets-last, relends, empties, gives, mut-of, shr-front, given, calls-for, copies, lends-front, made}
+use Rattle.walk.proofs.Prelude.{_≡_, refl, sym, _∙_, subst, ℕ, _<_, List, [], _∷_, length, URA, Val, SProp, Lft, Share, Lfts, Shares, Memory, Routine, Heap, Tables, Out, Wp, afterSeq, afterBlock, afterTurn, atReturn, Atoms, Fun, Given, Item, Sq, runs, anyQ, atRet, ‵, _$_, !, sliceVal, lit, of-opd, bin, no-more, first, blocks, exec, Below, again, loops, and-then, RattleType, u8, u32, u64, Contract, Triple, tripleOf, ltb→lt, id⊢}
+use Rattle.walk.proofs.Prelude.{heard, lent, so, Shape, Walk, proved, Lent-at, tests, var, vars, field-var, sets, sets-last, relends, empties, gives, mut-of, shr-front, given, calls-for, copies, lends-front, made}
 use Rattle.walk.proofs.Enter.{Blocks, envAt, Slice, ref, Leaves}
 use Rattle.walk.proofs.Frees.{Held, holds, empty}
 use Rattle.walk.proofs.Locals.{standing}
@@ -69,7 +69,6 @@ module _ {M : Type 1} (𝓤 : URA M) (H : Heap 𝓤) (A : Atoms 𝓤) (W : Given
     turns : (t : Turn) → Sq W (At t) (runs (𝓣 .C) (𝓣 .Λ) E code.turn-1 (anyQ (Turned t)))
     unfolding afterTurn
     turns t =
-        let fm : FmC 𝓤 H (W .laws) (𝓣 .C) = fmOf 𝓤 H (W .laws) 𝓣 in
         let buffer-long : length (t .bu) ≡ bufferLength = t .bu-long ∙ reserved .buffer-long in
         sets ! (bin ! (lit ! tt) (field-var ! refl refl refl) tt) refl (tt, tt) $
         tests ! (var ! refl)
@@ -117,8 +116,7 @@ module _ {M : Type 1} (𝓤 : URA M) (H : Heap 𝓤) (A : Atoms 𝓤) (W : Given
 pub serve-spec : {M : Type 1} → f.Statement.statement M
 unfolding f.Code.routine
 serve-spec 𝓤 H 𝓜 𝓖 𝓡 =
-    let W : Given 𝓤 H (𝓖 .A) = givenOf 𝓤 H 𝓜 𝓖 in
-    proves 𝓤 H 𝓜 𝓖 𝓡 (shape 𝓤 H (𝓖 .A) W (𝓜 .mem) (𝓡 .run)) f.Code.env f.Key.name (f.Code.unfolded 𝓤 H 𝓜 𝓡) (walk 𝓤 H (𝓖 .A) W (𝓜 .mem) (𝓡 .run)) (
+    proved 𝓤 H 𝓜 𝓖 𝓡 (shape 𝓤 H) (walk 𝓤 H) f.Code.env f.Key.name (f.Code.unfolded 𝓤 H 𝓜 𝓡) (
       (start.Symbol.routine, f.Code.calls-session-main·flow·start, start.Met.met 𝓤 H 𝓜 𝓖 𝓡),
       (
         (read-on.Symbol.routine, f.Code.calls-session-main·flow·read-on, read-on.Met.met 𝓤 H 𝓜 𝓖 𝓡),

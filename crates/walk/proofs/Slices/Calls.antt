@@ -14,10 +14,10 @@ use mir.Syntax.{Name, Ty, place, Opd as Operand, Body, seq, call, return}
 use mir.Val.{Val}
 use base.Logic.{SProp, ent, emp}
 use base.Fml.{fat}
-use prog.Wp.{Heap, Env, Calls, Loops, Tables, spotOf, atReturn, returns as returnsᴼ}
+use prog.Wp.{Heap, Env, Tables, spotOf, atReturn, returns as returnsᴼ}
 use ghost.Atoms.{Atoms, sem}
 use sound.WpLaws.{fmOf}
-use types.Kit.{Given, Item, ‵, nth, sel, Post, post, runs, lands, prop, Seq, _$_}
+use types.Kit.{Given, Item, ‵, nth, sel, Post, post, runs, prop, Seq, _$_}
 use denote.RattleType.{RattleType}
 use denote.Laws.{Typed, Is}
 use Rattle.walk.proofs.Plain.{PlainType, made}
@@ -65,12 +65,12 @@ module _ {M : Type 1} {𝓤 : URA M} (H : Heap 𝓤) (A : Atoms 𝓤) (E : Env �
   remains = behind (many E) freed
 
 module _ {M : Type 1} {𝓤 : URA M} {H : Heap 𝓤} {A : Atoms 𝓤} {K : Type 0} {W : Given 𝓤 H A} {Γ : List (Item 𝓤)} {E : Env 𝓤 H} {f : Name} {xs : List Operand} {q : Post 𝓤 H} (t : K) (𝓣 : Tables 𝓤 H) (π : List ℕ) (ps : List (Param 𝓤 H A)) {S : RattleType} (s : PlainType S) where
-  pub hands-on : {ψ : S .Denot → Lasts ps → Type 0} {Pre : SProp 𝓤}
-      → ((c : Choices ps) → ent 𝓤 (Asked ps c Pre) (𝓣 .C f (machine ps) (Told ps c S ψ))) → ent 𝓤 (emp 𝓤) Pre
+  pub hands-on : {ψ : S .Denot → Lasts ps → Type 0} {Pre : SProp 𝓤} {P : (c : Choices ps) → Bound ps c → Type 1} → ((c : Choices ps) (y : Bound ps c) → P c y)
+      → ((c : Choices ps) → P c (bound W ps c) → ent 𝓤 (Asked ps c Pre) (𝓣 .C f (machine ps) (Told ps c S ψ))) → ent 𝓤 (emp 𝓤) Pre
       → items H A π Γ ≡ sourced H A ps → Operands K W (holes H A π Γ) E xs ps Pre → ((ws : Lasts ps) → Takes H A (restored H A Γ π ps ws) E 0 S)
       → (Q : Val → SProp 𝓤) → post 𝓤 H q returnsᴼ ≡ atReturn 𝓤 H E Q returnsᴼ
       → ((r : S .Denot) (ws : Lasts ps) → Returns H A E (held H A (restored H A Γ π ps ws) E 0 (s .val r)) (s .val r))
       → ((r : S .Denot) (ws : Lasts ps) → ψ r ws → Knowns ps ws → ent 𝓤 (emp 𝓤) (sem 𝓤 H A (S .own r (s .val r ∷ []))) → Seq K W (remains H A E (held H A (restored H A Γ π ps ws) E 0 (s .val r))) (prop (Q (s .val r))))
       → Seq K W Γ (runs (𝓣 .C) (𝓣 .Λ) E (seq (call f xs (place 0 [])) return) q)
-  hands-on met pre e ops at Q is all k =
-      calls-for t 𝓣 π ps s {P = λ c y. Unit {1}} (λ c y. tt) (λ c _. met c) pre e ops at (λ r ws told kept r-is. gives-within t Q is (all r ws .0) (all r ws .1) $ k r ws told kept (made W s r r-is))
+  hands-on known met pre e ops at Q is all k =
+      calls-for t 𝓣 π ps s known met pre e ops at (λ r ws told kept r-is. gives-within t Q is (all r ws .0) (all r ws .1) $ k r ws told kept (made W s r r-is))

@@ -1,7 +1,7 @@
 -- `session::turns::lent` meets its contract. Assumes nothing.
 use borrow.Author.Needs.{needs}
 use Rattle.session.specs.Standing.{recordsFor, clientsFor}
-use Rattle.session.proofs.Turning.{lent-other}
+use Rattle.session.proofs.Laws.Turning.{lent-other}
 use Rattle.session.proofs.turns.lent.Statement.{statement}
 use Rattle.session.proofs.turns.lent.Tie as tie
 

@@ -3,7 +3,7 @@ use mathlib.Core.Path.{refl}
 use mathlib.Core.Bool.{true, false}
 use borrow.Author.Needs.{needs}
 use borrow.Author.Tests.{not-true, not-false}
-use Rattle.session.proofs.Turning.{next-as}
+use Rattle.session.proofs.Laws.Turning.{next-as}
 use Rattle.session.proofs.turns.look.Statement.{statement}
 use Rattle.session.proofs.turns.look.Tie as tie
 

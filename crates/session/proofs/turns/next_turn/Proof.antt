@@ -1,6 +1,6 @@
 -- `session::turns::next_turn` meets its contract. Assumes nothing.
 use borrow.Author.Needs.{needs}
-use Rattle.session.proofs.Turning.{room-left}
+use Rattle.session.proofs.Laws.Turning.{room-left}
 use Rattle.session.proofs.turns.next_turn.Statement.{statement}
 use Rattle.session.proofs.turns.next_turn.Tie as tie
 

@@ -2,7 +2,7 @@
 use mathlib.Core.Path.{refl, ap, _∙_}
 use borrow.Author.Needs.{needs}
 use Rattle.spec.specs.Frames.{frameOf}
-use Rattle.session.proofs.Turning.{whole-past, whole-alone}
+use Rattle.session.proofs.Laws.Turning.{whole-past, whole-alone}
 use Rattle.session.proofs.turns.whole.Statement.{statement}
 use Rattle.session.proofs.turns.whole.Tie as tie
 

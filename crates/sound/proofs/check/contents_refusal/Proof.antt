@@ -1,8 +1,8 @@
 -- `sound::check::contents_refusal` meets its contract: a walk of four calls. The tally is a local array, lent to two of them.
 -- Assumes nothing.
-use Rattle.walk.proofs.Prelude.{ℕ, _≡_, refl, sym, _∙_, subst, List, [], _∷_, lit<, length, replicate, length-replicate, URA, w16, w64, tyArray, vint, SProp, emp, id⊢, froom, Memory, Routine, Heap, Tables, Atoms, Fun, Given, ‵, _$_, !, use1, agg, stop, from, addr, lit, of-opd, and-then, no-more, lone, uint-makes, uint-lawful, uint-copy, u16, u32, u64, Room, tripleOf}
-use Rattle.walk.proofs.Prelude.{shown, so, Shape, Walk, heard, var, vars, field-var, gives, takes-out, puts-back, passed-on, big-lit, Param, number, flag, loan, fit, of-flag, of-number, proved, sets, calls-for, made, taken}
-use Rattle.walk.proofs.Slices.Arrays.{array-room, array-lent, array-shared, repeats}
+use Rattle.walk.proofs.Prelude.{ℕ, _≡_, refl, sym, _∙_, subst, List, [], _∷_, lit<, length, replicate, length-replicate, URA, w16, w64, vint, SProp, emp, id⊢, Memory, Routine, Heap, Tables, Atoms, Fun, Given, _$_, !, agg, stop, from, addr, lit, of-opd, and-then, no-more, uint-makes, uint-lawful, uint-copy, u16, u32, u64, Room, tripleOf}
+use Rattle.walk.proofs.Prelude.{shown, so, Shape, Walk, heard, var, vars, field-var, gives, takes-out, passed-on, big-lit, Param, number, flag, loan, fit, of-flag, of-number, proved, sets, calls-for, made, taken}
+use Rattle.walk.proofs.Slices.Arrays.{ends-array, array-lent, array-shared, repeats}
 use Rattle.spec.specs.declared.types.Request.{Request}
 use Rattle.table.proofs.Rows.{R}
 use Rattle.table.proofs.Heads.{the-head, clients-fit, waiting-fits, a-head}
@@ -66,7 +66,7 @@ module _ {M : Type 1} (𝓤 : URA M) (H : Heap 𝓤) (A : Atoms 𝓤) (W : Given
       -- verdict(next, zero, balanced)
       calls-for ! 𝓣 [] (flag W next ∷ flag W zero ∷ flag W balanced ∷ []) (of-number w64)
       (λ c. known-verdict) (λ c h. h) (id⊢ 𝓤 (emp 𝓤)) refl (λ c. vars ! (refl, (refl, (refl, tt)))) (λ _. refl) (λ r last₄ told kept₄ r-is.
-      use1 W (‵ (froom (tyArray (lone (u16 .mir)) 1024) l₆ 0)) (array-room W u16 1024 l₆ tally) $ puts-back ! 6 $
+      ends-array ! 6 u16 1024 l₆ tally $
       gives ! refl refl $ leaves (vint w64 r) r tt tt (made W (of-number w64) r r-is) (so 𝓤 (contents-told head ws su se dr asked tally next zero balanced r passed-next told-zero told-balanced told))))))))
 
 pub contents-refusal-spec : {M : Type 1} → f.Statement.statement M

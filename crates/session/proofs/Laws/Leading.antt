@@ -12,7 +12,7 @@ use Rattle.session.specs.declared.types.Turn.{Turn}
 use Rattle.frame.specs.Lines.{slice}
 use Rattle.session.specs.Standing.{Begun, stateAfter, Reached, Leads}
 use Rattle.session.specs.Feeding.{Whole, None}
-use Rattle.session.proofs.Texts.{begun, ended, readOn, text-append, text-none, state-append, replies-append}
+use Rattle.session.proofs.Laws.Texts.{begun, ended, readOn, text-append, text-none, state-append, replies-append}
 
 -- what is remembered of a line is of one that is begun only
 pub begun-text : (skip : Bool) (p : List ℕ) → Begun skip p → textOf p ≡ begun p

@@ -29,9 +29,9 @@ use Rattle.queue.specs.Gives.{Gives}
 use Rattle.session.specs.declared.types.Session.{Session}
 use Rattle.session.specs.Answers.{Answered, outcomeFor}
 use Rattle.session.specs.Standing.{heldIn, doFit, upTo, recordsFor, clientsFor, recordsAfter}
-use Rattle.session.proofs.Lending.{Fits, fit-facts, up-same, up-most, open-match, gives-state, alike}
-use Rattle.session.proofs.Plain.{Plain, submit-plain, tick-plain, report-plain, bad-plain, chart-plain}
-use Rattle.session.proofs.Replied.{Replied, sessionAfter}
+use Rattle.session.proofs.Laws.Lending.{Fits, fit-facts, up-same, up-most, open-match, gives-state, alike}
+use Rattle.session.proofs.Laws.Plain.{Plain, submit-plain, tick-plain, report-plain, bad-plain, chart-plain}
+use Rattle.session.proofs.Laws.Replied.{Replied, sessionAfter}
 
 module _ (s : Session) (ws : List Request) (su se dr starts : List ℕ)
     (fit : doFit s (length ws) (length su) (length se) (length dr) (length starts) ≡ true)

@@ -30,8 +30,8 @@ use Rattle.session.specs.declared.types.Fed.{Fed}
 use Rattle.session.specs.declared.types.Turn.{Turn}
 use Rattle.session.specs.Standing.{upTo, recordsFor, clientsFor, recordsAfter, longestFrame, Begun}
 use Rattle.session.specs.Feeding.{Whole, None, NextIf, Next, owed}
-use Rattle.session.proofs.Texts.{begun, slice-goes-on, slice-ends}
-use Rattle.session.proofs.Leading.{begun-text}
+use Rattle.session.proofs.Laws.Texts.{begun, slice-goes-on, slice-ends}
+use Rattle.session.proofs.Laws.Leading.{begun-text}
 
 -- ---- a whole line
 -- the turn that reads a line, whose feed stands at end

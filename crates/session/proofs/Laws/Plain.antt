@@ -30,7 +30,7 @@ use Rattle.columns.proofs.Fields.{starts-column, starts-below}
 use Rattle.sound.proofs.Laws.{shapeOf, shape-facts, shape-refused}
 use Rattle.frame.specs.Written.{CanDraw, replyBytes}
 use Rattle.session.specs.Answers.{outcomeFor, startsFor}
-use Rattle.session.proofs.Lending.{alike}
+use Rattle.session.proofs.Laws.Lending.{alike}
 
 -- ---- frames that open no session
 -- the tables keep their shape, and what the call gives is the frame's reply
