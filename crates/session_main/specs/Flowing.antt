@@ -1,13 +1,14 @@
 -- What the program does between two parts of the input, and what it has then read, fed and handed to the write.
 --
--- Three lines of the program are outside of every proof, since no contract says what a system call does; all are in src/system.rt.
---     the call of `read`           how much it may deliver is in its contract; that this is what stands next in standard input is not
---     the call of `write_all`      of what it writes and of its answer, whether all is written, its contract says nothing
---     its other call, in `say`     the line on standard error where the program cannot go on
--- tests/src/bin/session.rs shows what they do. Each session of `CASES` fails where other characters are read or written than those,
--- or where a good read or write is taken for a failed one; `try_unread_answers` and `try_nonblocking_output` fail where a failed
--- write is taken for a good one, `try_unreadable_inputs` and `try_nonblocking_input` where a failed read is taken for the input's end.
--- These four also fail where another line is said, or none.
+-- What no contract says of the program, since none says what a system call does:
+--     in src/system.rt     what the calls of `read` and of `write_all` do, and that what they answer is what is handed on
+--     in src/flow.rt       that `read_behind` and `write_front` are called once, where they stand, and which line `say_why` says
+--     in src/main.rt       that `main` calls `serve` and `say_why`
+-- So `Served` speaks of some reads and some writes; that they are the ones made is shown by test, in tests/src/bin/session.rs. Each
+-- session of `CASES` fails where other characters are read or written than those, or some of them not or twice, or where a good read or
+-- write is taken for a failed one; `try_unread_answers` and `try_nonblocking_output` fail where a failed write is taken for a good one,
+-- `try_unreadable_inputs` and `try_nonblocking_input` where a failed read is taken for the input's end, and these four where another line
+-- is said, or none.
 -- Assumes nothing.
 use Prim.Native.Nat.{ℕ, _+_, _-_, _≤_, _<_}
 use mathlib.Core.Bool.{Bool, true, false, not, cond, _&&_}

@@ -1,1 +1,1 @@
-// The kit for proofs by hand, in proofs/. No code.
+// The kit for proofs by hand is in proofs/; there is no code.

@@ -132,7 +132,7 @@ fn document(s: &mut Session) {
     s.raw(DOCUMENT_IN).answer(DOCUMENT_OUT);
 }
 
-// With a line begun behind it.
+// The document's session, and a line begun behind it.
 fn document_and_more(s: &mut Session) {
     document(s);
     s.raw("03").refused(1);

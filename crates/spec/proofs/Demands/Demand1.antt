@@ -118,6 +118,7 @@ counts-same period s w C =
       reports = λ c e. rw (same-counts w period c, same-waits w c) (C .reports c e);
     }
 
+-- a step for `Sessions`, and no statement of the demand
 pub counts-passing : (clients period : ℕ) (s : State) (cs : List Call) (es : List Event)
     → isRefused (openOf clients period s .answer) ≡ false
     → WithPassing (history (openOf clients period s .after) cs) es

@@ -100,6 +100,7 @@ largest-same s w L =
       largest = λ P p. rw (same-served w, same-waiting w) (L .largest P (rw (same-asked w) at p));
     }
 
+-- a step for `Sessions`, and no statement of the demand
 pub largest-passing : (clients period : ℕ) (s : State) (cs : List Call) (es : List Event)
     → isRefused (openOf clients period s .answer) ≡ false
     → WithPassing (history (openOf clients period s .after) cs) es
