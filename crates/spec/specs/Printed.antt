@@ -77,8 +77,8 @@ unfoldable pub sinceOpen : List Event → List Event
 sinceOpen [] = []
 sinceOpen (e ∷ es) = cond (isOpened e) [] (e ∷ sinceOpen es)
 
--- the list that is read off, beside the calls that were lent the session's tables, with the answers that they got: it has also refused
--- calls, as the open that names too many records and "gets refusal 4 in its place", and charts, whose printed count is that of segments
+-- the second list, as it is read off, has the first one's calls, which were lent the session's tables, with their answers; and among them
+-- refused calls, as the open that names too many records and "gets refusal 4 in its place", and charts, which print a count of segments
 pub data AsPrinted : List Event → List Event → Type 0 where
   empty : AsPrinted [] []
   own : {es fs : List Event} (e : Event) → AsPrinted es fs → AsPrinted (e ∷ es) (e ∷ fs)
