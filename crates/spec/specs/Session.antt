@@ -89,7 +89,7 @@ reply Bad s = record { bytes = answerLine (Refused 1); after = s }
 -- each line's answer in turn
 unfoldable pub replies : State → List (List ℕ) → List ℕ
 replies s [] = []
-replies s (line ∷ lines) = reply (frameOf line) s .bytes ++ replies (reply (frameOf line) s .after) lines
+replies s (line ∷ lines) = let r = reply (frameOf line) s in r .bytes ++ replies (r .after) lines
 
 -- the state after each line's answer
 unfoldable pub stateAfter : State → List (List ℕ) → State

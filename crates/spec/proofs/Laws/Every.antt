@@ -69,6 +69,13 @@ module _ {A : Type 0} where
   all-two p q r [] f a b = tt
   all-two p q r (x ∷ xs) f a b = (f x (a .0) (b .0), all-two p q r xs f (a .1) (b .1))
 
+-- ---- the index of the first element, and of the others
+index-first : (i : ℕ) → i + 0 ≡ i
+index-first i = omega arith
+
+index-next : (i k : ℕ) → i + suc k ≡ suc i + k
+index-next i k = omega arith
+
 -- ---- tests over lists
 module _ {A : Type 0} where
   pub every-facts : (test : A → Bool) (xs : List A) → every test xs ≡ true → All (λ (x : A). test x ≡ true) xs
@@ -86,25 +93,18 @@ module _ {A : Type 0} where
       → (k : ℕ) (d : A) → k < length xs → test (i + k) (getD xs k d) ≡ true
   unfolding everyFrom
   from-facts test i [] e k d h = absurd (omega arith)
-  from-facts test i (x ∷ xs) e zero d h =
-      let p : i + 0 ≡ i = omega arith in rw p (and-left (test i x) (everyFrom test (suc i) xs) e)
+  from-facts test i (x ∷ xs) e zero d h = rw (index-first i) (and-left (test i x) (everyFrom test (suc i) xs) e)
   from-facts test i (x ∷ xs) e (suc k) d h =
-      let p : i + suc k ≡ suc i + k = omega arith in
-      rw p (from-facts test (suc i) xs (and-right (test i x) (everyFrom test (suc i) xs) e) k d (omega arith))
+      rw (index-next i k)
+      (from-facts test (suc i) xs (and-right (test i x) (everyFrom test (suc i) xs) e) k d (omega arith))
 
   from-test : (test : ℕ → A → Bool) (i : ℕ) (xs : List A) (d : A)
       → ((k : ℕ) → k < length xs → test (i + k) (getD xs k d) ≡ true) → everyFrom test i xs ≡ true
   unfolding everyFrom
   from-test test i [] d f = refl
   from-test test i (x ∷ xs) d f =
-      and-both (test i x) (everyFrom test (suc i) xs) first
-      (from-test test (suc i) xs d (λ k h. rest k (f (suc k) (omega arith))))
-    where
-      first : test i x ≡ true
-      first = let p : i + 0 ≡ i = omega arith in rw p at (f 0 (omega arith))
-
-      rest : (k : ℕ) → test (i + suc k) (getD xs k d) ≡ true → test (suc i + k) (getD xs k d) ≡ true
-      rest k h = let p : i + suc k ≡ suc i + k = omega arith in rw p at h
+      and-both (test i x) (everyFrom test (suc i) xs) (rw (index-first i) at (f 0 (omega arith)))
+      (from-test test (suc i) xs d (λ k h. rw (index-next i k) at (f (suc k) (omega arith))))
 
   -- the same where the first has the index 0
   pub everyFrom-facts : (test : ℕ → A → Bool) (xs : List A) → everyFrom test 0 xs ≡ true
@@ -161,9 +161,8 @@ module _ {A B : Type 0} where
       → getD (mapFrom f i xs) k b ≡ f (i + k) (getD xs k a)
   unfolding mapFrom
   from-getD f i [] k a b h = absurd (omega arith)
-  from-getD f i (x ∷ xs) zero a b h = let p : i + 0 ≡ i = omega arith in rw p
-  from-getD f i (x ∷ xs) (suc k) a b h =
-      let p : i + suc k ≡ suc i + k = omega arith in rw p (from-getD f (suc i) xs k a b (omega arith))
+  from-getD f i (x ∷ xs) zero a b h = rw (index-first i)
+  from-getD f i (x ∷ xs) (suc k) a b h = rw (index-next i k) (from-getD f (suc i) xs k a b (omega arith))
 
   pub getD-mapFrom : (f : ℕ → A → B) (xs : List A) (k : ℕ) (a : A) (b : B) → k < length xs
       → getD (mapFrom f 0 xs) k b ≡ f k (getD xs k a)

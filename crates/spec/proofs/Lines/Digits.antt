@@ -51,24 +51,29 @@ unfolding numberFrom
 number-append before [] ys = refl
 number-append before (x ∷ xs) ys = number-append (before * 16 + digitOf x) xs ys
 
+decimal-character : (v : ℕ) → v < 10 → digitOf (0x30 + v) ≡ v
+unfolding digitOf
+decimal-character v l = rw (le-leb 0x30 (0x30 + v) (omega arith), le-leb (0x30 + v) 0x39 (omega arith)) (omega arith)
+
+letter-character : (v : ℕ) → 10 ≤ v → v < 16 → digitOf (55 + v) ≡ v
+unfolding digitOf
+letter-character v l h =
+    rw (
+      le-leb 0x30 (55 + v) (omega arith),
+      lt-leb (55 + v) 0x39 (omega arith),
+      le-leb 0x41 (55 + v) (omega arith),
+      le-leb (55 + v) 0x46 (omega arith),
+    ) (omega arith)
+
 digit-character : (v : ℕ) → v < 16 → digitOf (characterOf v) ≡ v
-unfolding digitOf characterOf
+unfolding characterOf
 digit-character v h = go (ltb v 10) refl
   where
     go : (b : Bool) → ltb v 10 ≡ b → digitOf (cond b (0x30 + v) (0x41 + v - 10)) ≡ v
-    go true e =
-        let l : v < 10 = ltb-true v 10 e in
-        rw (le-leb 0x30 (0x30 + v) (omega arith), le-leb (0x30 + v) 0x39 (omega arith)) (omega arith)
+    go true e = decimal-character v (ltb-true v 10 e)
     go false e =
-        let l : 10 ≤ v = ltb-false v 10 e in
         let x : 0x41 + v - 10 ≡ 55 + v = omega arith in
-        rw (
-          x,
-          le-leb 0x30 (55 + v) (omega arith),
-          lt-leb (55 + v) 0x39 (omega arith),
-          le-leb 0x41 (55 + v) (omega arith),
-          le-leb (55 + v) 0x46 (omega arith),
-        ) (omega arith)
+        rw x (letter-character v (ltb-false v 10 e) h)
 
 pub number-digits : (n v : ℕ) → v < 16 ^ n → numberFrom 0 (digits n v) ≡ v
 unfolding digits numberFrom

@@ -6,7 +6,7 @@ use mathlib.Core.Path.{_≡_, refl, sym, ap, _∙_, subst}
 use mathlib.Core.Bool.{or-assoc, or-comm, Bool, true, false, not, cond, _||_, true≢false}
 use mathlib.Core.List.{List, [], _∷_, _++_, map}
 use native.Mathlib.Omega.{arith}
-use borrow.Author.Tests.{eq-eqb, ne-eqb}
+use borrow.Author.Tests.{eqb-true, eq-eqb, ne-eqb}
 use lib.Dec.{eqb}
 use lib.ListN.{length, getD}
 use Rattle.slots.proofs.Laws.Tests.{Same, same-yes, same-no, same}
@@ -93,6 +93,28 @@ passing test f a = cond (test (a .request .number)) (f (a .request)) 0
 abbrev failing : (ℕ → Bool) → (Request → ℕ) → Asked → ℕ
 failing test f a = cond (test (a .request .number)) 0 (f (a .request))
 
+-- a number that counts unless a test passes
+cond-most : (b : Bool) (n : ℕ) → cond b 0 n ≤ n
+cond-most true n = omega arith
+cond-most false n = omega arith
+
+cond-none : (b : Bool) (n : ℕ) → n ≡ 0 → cond b 0 n ≡ 0
+cond-none true n e = refl
+cond-none false n e = e
+
+cond-or : (x y z : Bool) (n : ℕ) → x ≡ y || z → cond x 0 n ≡ cond z 0 (cond y 0 n)
+cond-or x true true n e = rw e
+cond-or x true false n e = rw e
+cond-or x false true n e = rw e
+cond-or x false false n e = rw e
+
+-- a number that counts where `before` holds, or y does, which holds of what is not named and is not counted before
+cond-split : (y named before : Bool) (n : ℕ) → (y ≡ true → (named ≡ false) × (before ≡ false))
+    → cond (y || before) n 0 ≡ cond named 0 (cond y n 0) + cond before n 0
+cond-split true named before n h = rw (h refl .0, h refl .1) (omega arith)
+cond-split false true before n h = omega arith
+cond-split false false before n h = omega arith
+
 -- ws holds just the requests that are not named: one of them is named now, at the place k
 module _ (named : ℕ → Bool) (rs : List Asked) (ws : List Request) (k : ℕ) (num : Numbered rs)
     (sums : (f : Request → ℕ) → total (failing named f) rs ≡ total f ws) (h : k < length ws) where
@@ -108,12 +130,9 @@ module _ (named : ℕ → Bool) (rs : List Asked) (ws : List Request) (k : ℕ) 
         arith,
         sums (has its),
         numbered-once its rs num,
-        total-le (failing named (has its)) (λ (a : Asked). has its (a .request)) rs (λ a. go a (named (a .request .number))),
+        total-le (failing named (has its)) (λ (a : Asked). has its (a .request)) rs
+            (λ a. cond-most (named (a .request .number)) (has its (a .request))),
       )
-    where
-      go : (a : Asked) (b : Bool) → cond b 0 (has its (a .request)) ≤ has its (a .request)
-      go a true = omega arith
-      go a false = omega arith
 
   rest-none : total (has its) (removeAt k ws) ≡ 0
   rest-none = omega (arith, once, total-remove (has its) k zeroRequest ws h, one-yes its its refl)
@@ -123,7 +142,8 @@ module _ (named : ℕ → Bool) (rs : List Asked) (ws : List Request) (k : ℕ) 
       → total (failing now f) rs ≡ total f (removeAt k ws)
   sums-left now e f =
       total-same (failing now f) (failing named (without its f)) rs
-      (λ a. go a (now (a .request .number)) (eqb its (a .request .number)) (named (a .request .number)) (e (a .request .number)))
+      (λ a. cond-or (now (a .request .number)) (eqb its (a .request .number)) (named (a .request .number)) (f (a .request))
+      (e (a .request .number)))
       ∙ sums (without its f)
       ∙ omega (
         arith,
@@ -131,34 +151,25 @@ module _ (named : ℕ → Bool) (rs : List Asked) (ws : List Request) (k : ℕ) 
         cond-true (eqb its its) 0 (f it) (eq-eqb its its refl),
         without-none its f (removeAt k ws) rest-none,
       )
-    where
-      go : (a : Asked) (x y z : Bool) → x ≡ y || z → cond x 0 (f (a .request)) ≡ cond z 0 (cond y 0 (f (a .request)))
-      go a x true true e = rw e
-      go a x true false e = rw e
-      go a x false true e = rw e
-      go a x false false e = rw e
 
   -- it was not named before
+  named-none : named its ≡ true → (a : Asked) → failing named (has its) a ≡ 0
+  named-none e a = at-number (eqb its (a .request .number)) (same its (a .request .number))
+    where
+      at-number : (b : Bool) → Same its (a .request .number) b → failing named (has its) a ≡ 0
+      at-number true (same-yes g) = cond-true (named (a .request .number)) 0 (has its (a .request)) (rw g at e)
+      at-number false (same-no n) =
+          cond-none (named (a .request .number)) (has its (a .request)) (one-no its (a .request .number) n)
+
   fresh : named its ≡ false
   fresh = go (value (named its))
     where
-      none-of : named its ≡ true → (a : Asked) → failing named (has its) a ≡ 0
-      none-of e a = at-number (eqb its (a .request .number)) (same its (a .request .number))
-        where
-          at-number : (b : Bool) → Same its (a .request .number) b → failing named (has its) a ≡ 0
-          at-number true (same-yes g) = cond-true (named (a .request .number)) 0 (has its (a .request)) (rw g at e)
-          at-number false (same-no n) = small (named (a .request .number)) (one-no its (a .request .number) n)
-            where
-              small : (c : Bool) → has its (a .request) ≡ 0 → cond c 0 (has its (a .request)) ≡ 0
-              small true z = refl
-              small false z = z
-
       go : Value (named its) → named its ≡ false
       go (is-true e) =
           absurd (omega (
             arith,
             sums (has its),
-            total-zero (failing named (has its)) rs (all-each (λ (a : Asked). failing named (has its) a ≡ 0) rs (none-of e)),
+            total-zero (failing named (has its)) rs (all-each (λ (a : Asked). failing named (has its) a ≡ 0) rs (named-none e)),
             total-remove (has its) k zeroRequest ws h,
             one-yes its its refl,
           ))
@@ -183,22 +194,10 @@ module _ (named : ℕ → Bool) (rs : List Asked) (ws : List Request) (k : ℕ) 
           )
 
       split : (a : Asked) → passing now f a ≡ failing named (only its f) a + passing before f a
-      split a = rw (e (a .request .number)) (go (eqb its (a .request .number)) (same its (a .request .number)))
-        where
-          n : ℕ
-          n = a .request .number
-
-          other : (c z : Bool) → cond z (f (a .request)) 0 ≡ cond c 0 0 + cond z (f (a .request)) 0
-          other true z = omega arith
-          other false z = omega arith
-
-          go : (y : Bool) → Same its n y → cond (y || before n) (f (a .request)) 0
-              ≡ cond (named n) 0 (cond y (f (a .request)) 0) + cond (before n) (f (a .request)) 0
-          go true (same-yes g) =
-              let p : named n ≡ false = rw g at fresh in
-              let q : before n ≡ false = rw g at b in
-              rw (p, q) (omega arith)
-          go false (same-no g) = other (named n) (before n)
+      split a =
+          let n = a .request .number in
+          rw (e n) (cond-split (eqb its n) (named n) (before n) (f (a .request))
+          (λ y. let g = eqb-true its n y in (rw g at fresh, rw g at b)))
 
 -- ---- what is read off the list, in sums
 -- whether an answer names the number
