@@ -1,12 +1,12 @@
 -- Damaged tables as one table that is checked by one theorem: each clause of refusal 4 and of "Tables are sound when" broken at its
 -- bound, beside tables just within it. Each row lists the clauses that its state breaks: one alone, but for a deadline that is not
--- after the clock. Assumes nothing.
+-- after the clock. The bounds of the waiting table's length and of the head stand behind it, as numbers. Assumes nothing.
 use Prim.Native.Nat.{ℕ}
 use mathlib.Core.Path.{_≡_, refl}
 use mathlib.Core.Bool.{Bool, true, false, not, cond, _&&_, _||_, and-assoc, and-true}
 use mathlib.Core.List.{List, [], _∷_, _++_, map}
 use lib.Dec.{eqb, ltb}
-use lib.ListN.{length, replicate}
+use lib.ListN.{length}
 use Rattle.spec.specs.declared.types.Head.{Head}
 use Rattle.spec.specs.declared.types.Request.{Request}
 use Rattle.spec.specs.declared.types.Counts.{Counts}
@@ -141,8 +141,7 @@ both = counts 3 1 1 ∷ counts 1 0 0 ∷ []
 abbrev damages : List Damage
 damages =
     breaks two (holding 4 (first ∷ second ∷ [])) both []
-    -- "The waiting requests are records in a lent table of 1 to 2,048 records."; open has the rows of 2,048 and of 2,049, in `Refusals`
-    -- and `Printed`
+    -- "The waiting requests are records in a lent table of 1 to 2,048 records."
     ∷ breaks (head 2 10 5 4 0) [] (zeroCounts ∷ zeroCounts ∷ []) (waiting-length ∷ [])
     -- "the client table's length differs from the number of clients"
     ∷ breaks two (holding 4 (first ∷ second ∷ [])) (counts 3 1 1 ∷ []) (client-length ∷ [])
@@ -150,19 +149,8 @@ damages =
     -- "the waiting count exceeds the waiting table's length"
     ∷ breaks (head 2 10 5 4 2) (first ∷ second ∷ []) both []
     ∷ breaks (head 2 10 5 4 3) (first ∷ second ∷ []) both (waiting-count ∷ [])
-    -- "Clients: 1 to 256"
-    ∷ breaks (head 0 10 5 4 0) (holding 4 []) [] (head-bounds ∷ [])
-    ∷ breaks (head 256 10 5 4 0) (holding 4 []) (replicate 256 zeroCounts) []
-    ∷ breaks (head 257 10 5 4 0) (holding 4 []) (replicate 257 zeroCounts) (head-bounds ∷ [])
-    -- "Period: 1 to 4,294,967,295 slots."
+    -- "the head is within these bounds"
     ∷ breaks (head 1 0 5 4 0) (holding 4 []) (zeroCounts ∷ []) (head-bounds ∷ [])
-    ∷ breaks (head 1 4294967295 5 4 0) (holding 4 []) (zeroCounts ∷ []) []
-    ∷ breaks (head 1 4294967296 5 4 0) (holding 4 []) (zeroCounts ∷ []) (head-bounds ∷ [])
-    -- "Clock and request numbers end at 281,474,976,710,655."
-    ∷ breaks (head 1 10 281474976710655 4 0) (holding 4 []) (zeroCounts ∷ []) []
-    ∷ breaks (head 1 10 281474976710656 4 0) (holding 4 []) (zeroCounts ∷ []) (head-bounds ∷ [])
-    ∷ breaks (head 1 10 5 281474976710655 0) (holding 4 []) (zeroCounts ∷ []) []
-    ∷ breaks (head 1 10 5 281474976710656 0) (holding 4 []) (zeroCounts ∷ []) (head-bounds ∷ [])
     -- "earlier deadline first, equal deadlines by smaller number, no two equal in both"
     ∷ breaks two (holding 4 (second ∷ first ∷ [])) both (chart-order ∷ [])
     ∷ breaks two (holding 4 (request 9 2 0 ∷ request 9 4 1 ∷ [])) both []
@@ -197,3 +185,42 @@ pub damaged-tables : map (λ (d : Damage). broken (shapeTests (d .state) ++ soun
     ≡ map (λ (d : Damage). d .clauses) damages
 unfolding refusals
 damaged-tables = refl
+
+-- ---- numbers at their bounds and beyond
+-- "a lent table of 1 to 2,048 records": whether a waiting table may be so long
+pub waiting-lengths : map (isWithin 1 mostRecords) (0 ∷ 1 ∷ 2048 ∷ 2049 ∷ []) ≡ false ∷ true ∷ true ∷ false ∷ []
+waiting-lengths = refl
+
+-- a head, and whether it is within its bounds
+pub record HeadRow : Type 0 where
+  pub head : Head
+  pub isWithinBounds : Bool
+
+abbrev within : Head → HeadRow
+within h = record { head = h; isWithinBounds = true }
+
+abbrev beyond : Head → HeadRow
+beyond h = record { head = h; isWithinBounds = false }
+
+abbrev heads : List HeadRow
+heads =
+    -- "Clients: 1 to 256"
+    beyond (head 0 10 5 4 0)
+    ∷ within (head 1 10 5 4 0)
+    ∷ within (head 256 10 5 4 0)
+    ∷ beyond (head 257 10 5 4 0)
+    -- "Period: 1 to 4,294,967,295 slots."
+    ∷ beyond (head 1 0 5 4 0)
+    ∷ within (head 1 1 5 4 0)
+    ∷ within (head 1 4294967295 5 4 0)
+    ∷ beyond (head 1 4294967296 5 4 0)
+    -- "Clock and request numbers end at 281,474,976,710,655."
+    ∷ within (head 1 10 281474976710655 4 0)
+    ∷ beyond (head 1 10 281474976710656 4 0)
+    ∷ within (head 1 10 5 281474976710655 0)
+    ∷ beyond (head 1 10 5 281474976710656 0)
+    ∷ []
+
+pub heads-within : map (λ (r : HeadRow). isHeadWithin (r .head)) heads ≡ map (λ (r : HeadRow). r .isWithinBounds) heads
+unfolding isHeadWithin
+heads-within = refl

@@ -10,7 +10,7 @@ use Rattle.spec.specs.declared.types.Counts.{Counts}
 use Rattle.spec.specs.declared.types.Answer.{Answer}
 use Rattle.spec.specs.declared.types.Answer.the-variants.{Opened, Kept, Served, Reported, Charted, Refused}
 use Rattle.spec.specs.Every.{select}
-use Rattle.spec.specs.Tables.{mostCounted, clockEnd, numberEnd, zeroRequest, State, holding}
+use Rattle.spec.specs.Tables.{mostCounted, clockEnd, numberEnd, State, holding}
 use Rattle.spec.specs.Refusals.{Refusal}
 use Rattle.spec.specs.Lists.{Call, opening, submit, tick, report, chart, outcomeOf}
 use Rattle.spec.proofs.Demands.Words.{refusalsOf}
@@ -52,8 +52,6 @@ rows =
     ∷ row (opening 1 0) (state 0 0 0 [] (oneClient 0 0 0)) (3 ∷ 4 ∷ []) (Refused 3)
     ∷ row (opening 1 10) (state 0 0 0 [] (oneClient 0 0 0)) (4 ∷ []) (Refused 4)
     ∷ row (opening 1 10) (state 0 0 0 full (oneClient 0 0 0)) [] Opened
-    -- "no records or more than 2,048"; one with 2,049 is refused in `Printed`
-    ∷ row (opening 1 10) (state 0 0 0 (replicate 2048 zeroRequest) (oneClient 0 0 0)) [] Opened
     -- 8 holds beside 6 only where the client table is too long, for else a client that does not exist has no record; 10 holds beside 4
     -- only where the waiting count is not too large. So 4 is given in two rows; 10 comes back when 4 is taken away, and 8 when 6 is
     ∷ row (submit 9 0) (state clockEnd numberEnd 1 full (replicate 10 (counts mostCounted 0 0))) (4 ∷ 5 ∷ 6 ∷ 7 ∷ 8 ∷ 9 ∷ 10 ∷ [])
