@@ -13,6 +13,7 @@ use Rattle.spec.specs.Frames.{fieldDigits, lineOf, segmentLines}
 use Rattle.spec.specs.Session.{textOf, atStart, reply, replies, session}
 use Rattle.spec.specs.declared.types.Answer.{Answer}
 use Rattle.spec.specs.declared.types.Answer.the-variants.{Opened, Kept, Dropped, Served, Idle, Reported, Charted, Refused}
+use Rattle.spec.specs.Chart.{Segment}
 use Rattle.spec.specs.Calls.{chartOutput}
 use Rattle.spec.proofs.Acceptance.Computed.{calls}
 
@@ -70,8 +71,8 @@ dialogues =
     -- "Empty input prints nothing."
     ∷ dialogue [] "" []
     -- "An empty line, an unknown kind, a wrong length, or a last line without its line feed gets refusal 1."
-    ∷ dialogue ("" ∷ "06" ∷ "81" ∷ "0300" ∷ "04" ∷ "0" ∷ "030" ∷ []) "03"
-    ("FF01" ∷ "FF01" ∷ "FF01" ∷ "FF01" ∷ "FF01" ∷ "FF01" ∷ "FF01" ∷ "FF01" ∷ [])
+    ∷ dialogue ("" ∷ "06" ∷ "81" ∷ "0300" ∷ "0500" ∷ "04" ∷ "0" ∷ "030" ∷ []) "03"
+    ("FF01" ∷ "FF01" ∷ "FF01" ∷ "FF01" ∷ "FF01" ∷ "FF01" ∷ "FF01" ∷ "FF01" ∷ "FF01" ∷ [])
     -- "pairs of upper-case hexadecimal digits"
     ∷ dialogue (" 03" ∷ "03 " ∷ "03\r" ∷ "01000100000f640008" ∷ []) "" ("FF01" ∷ "FF01" ∷ "FF01" ∷ "FF01" ∷ [])
     -- after an open: the characters beside the digits; every byte of a client's number, a deadline and a period counts, for client 0
@@ -114,13 +115,15 @@ dialogues =
     ∷ dialogue
     ("010000000000640008" ∷ "010101000000640008" ∷ "010001000000000008" ∷ "010001000000640000" ∷ "010000000000000000" ∷ []) ""
     ("FF02" ∷ "FF02" ∷ "FF03" ∷ "FF04" ∷ "FF02" ∷ [])
-    -- a refused open leaves the session as it was; "An accepted open starts a new session."
+    -- "one line each from the left, then 88, segment count"; a refused open leaves the session as it was; "An accepted open starts a new
+    -- session."
     ∷ dialogue
     (
     "010001000000640002"
     ∷ "0200000000000000000009"
+    ∷ "0200000000000000000005"
     ∷ "010001000000000002"
-    ∷ "040000"
+    ∷ "05"
     ∷ "010001000000640002"
     ∷ "040000"
     ∷ "0200000000000000000009"
@@ -130,97 +133,14 @@ dialogues =
     (
     "81"
     ∷ "8200000000000000010000"
+    ∷ "8200000000000000020000"
     ∷ "FF03"
-    ∷ "8600000000000100000000000000000001"
+    ∷ "8700000000000000040000000000000005"
+    ∷ "8700000000000000080000000000000009"
+    ∷ "880002"
     ∷ "81"
     ∷ "8600000000000000000000000000000000"
     ∷ "8200000000000000010000"
-    ∷ []
-    )
-    -- refusals 6, 7 and 10; idle, and a served slot
-    ∷ dialogue
-    (
-    "010001000000640001"
-    ∷ "03"
-    ∷ "040001"
-    ∷ "0200010000000000000005"
-    ∷ "0200000000000000000001"
-    ∷ "0200000000000000010001"
-    ∷ "0200000000000000000005"
-    ∷ "0200000000000000000005"
-    ∷ "03"
-    ∷ []
-    )
-    ""
-    (
-    "81"
-    ∷ "850000000000000000"
-    ∷ "FF06"
-    ∷ "FF06"
-    ∷ "FF07"
-    ∷ "FF07"
-    ∷ "8200000000000000010000"
-    ∷ "FF0A"
-    ∷ "84000000000000000100000000000000010000"
-    ∷ []
-    )
-    -- "one line each from the left": three segments, one of them of two slots; a chart with a wrong length
-    ∷ dialogue
-    (
-    "010001000000640008"
-    ∷ "02000000000000000000AF"
-    ∷ "02000000000000000000B9"
-    ∷ "02000000000000000000B9"
-    ∷ "020000000000000000FFFF"
-    ∷ "05"
-    ∷ "0500"
-    ∷ []
-    )
-    ""
-    (
-    "81"
-    ∷ "8200000000000000010000"
-    ∷ "8200000000000000020001"
-    ∷ "8200000000000000030002"
-    ∷ "8200000000000000040003"
-    ∷ "8700000000000000AE00000000000000AF"
-    ∷ "8700000000000000B700000000000000B9"
-    ∷ "87000000000000FFFE000000000000FFFF"
-    ∷ "880003"
-    ∷ "FF01"
-    ∷ []
-    )
-    -- "each client's submitted becomes its waiting count, served and dropped become 0.": two period starts with a request waiting
-    ∷ dialogue
-    (
-    "010001000000020004"
-    ∷ "0200000000000000000009"
-    ∷ "0200000000000000000009"
-    ∷ "0200000000000000000009"
-    ∷ "0200000000000000000009"
-    ∷ "03"
-    ∷ "03"
-    ∷ "040000"
-    ∷ "03"
-    ∷ "0200000000000000000009"
-    ∷ "03"
-    ∷ "040000"
-    ∷ []
-    )
-    ""
-    (
-    "81"
-    ∷ "8200000000000000010000"
-    ∷ "8200000000000000020001"
-    ∷ "8200000000000000030002"
-    ∷ "8200000000000000040003"
-    ∷ "84000000000000000000000000000000010000"
-    ∷ "84000000000000000100000000000000020000"
-    ∷ "8600000000000200000000000000000002"
-    ∷ "84000000000000000200000000000000030000"
-    ∷ "8200000000000000050001"
-    ∷ "84000000000000000300000000000000040000"
-    ∷ "8600000000000100000000000000000001"
     ∷ []
     )
     ∷ []
@@ -286,3 +206,12 @@ linesOut =
 pub answer-lines : map (λ (l : LineOut). answerLine (l .answer)) linesOut ≡ map (λ (l : LineOut). bytes (l .text) (10 ∷ [])) linesOut
 unfolding frames
 answer-lines = refl
+
+-- "87 segment, left (8), right (8), one line each from the left"
+abbrev segments : List Segment
+segments = record { left = 0x0123456789AB; right = 0x0123456789AC } ∷ record { left = 0xFEDCBA987654; right = 0xFEDCBA98765F } ∷ []
+
+pub segment-lines :
+    segmentLines segments ≡ text ("8700000123456789AB00000123456789AC" ∷ "870000FEDCBA9876540000FEDCBA98765F" ∷ []) []
+unfolding frames
+segment-lines = refl

@@ -72,27 +72,39 @@ named-none : (c : ℕ) → countIf (eqb c) [] ≡ 0
 unfolding countIf
 named-none c = refl
 
+one-add : (n : ℕ) → suc n ≡ 1 + n
+one-add n = omega arith
+
+none-add : (n : ℕ) → n ≡ 0 + n
+none-add n = sym (zero-add n)
+
+-- one more submitted, and one more dropped
+both-added : (x y : ℕ) (j : Counts) → adding 0 0 y (adding x 0 0 j) ≡ adding x 0 y j
+both-added x y j =
+    counts-path (adding 0 0 y (adding x 0 0 j)) (adding x 0 y j) (zero-add (x + j .submitted)) (zero-add (0 + j .served))
+    (ap (λ (n : ℕ). y + n) (zero-add (j .dropped)))
+
 -- one more of a count, where the client is the one named
 module _ (x : Bool) (k : Counts) where
   one-submitted : cond x (oneMoreSubmitted k) k ≡ adding (toNumber x) 0 0 k
   one-submitted = go x
     where
       go : (y : Bool) → cond y (oneMoreSubmitted k) k ≡ adding (toNumber y) 0 0 k
-      go true = counts-path (oneMoreSubmitted k) (adding 1 0 0 k) (omega arith) (omega arith) (omega arith)
+      go true = counts-path (oneMoreSubmitted k) (adding 1 0 0 k) (one-add (k .submitted)) (none-add (k .served)) (none-add (k .dropped))
       go false = sym (adding-none k)
 
   one-served : cond x (oneMoreServed k) k ≡ adding 0 (toNumber x) 0 k
   one-served = go x
     where
       go : (y : Bool) → cond y (oneMoreServed k) k ≡ adding 0 (toNumber y) 0 k
-      go true = counts-path (oneMoreServed k) (adding 0 1 0 k) (omega arith) (omega arith) (omega arith)
+      go true = counts-path (oneMoreServed k) (adding 0 1 0 k) (none-add (k .submitted)) (one-add (k .served)) (none-add (k .dropped))
       go false = sym (adding-none k)
 
   one-dropped : cond x (oneMoreDropped k) k ≡ adding 0 0 (toNumber x) k
   one-dropped = go x
     where
       go : (y : Bool) → cond y (oneMoreDropped k) k ≡ adding 0 0 (toNumber y) k
-      go true = counts-path (oneMoreDropped k) (adding 0 0 1 k) (omega arith) (omega arith) (omega arith)
+      go true = counts-path (oneMoreDropped k) (adding 0 0 1 k) (none-add (k .submitted)) (none-add (k .served)) (one-add (k .dropped))
       go false = sym (adding-none k)
 
 -- ---- the client table is what the events say
@@ -173,9 +185,6 @@ module _ (period : ℕ) (es : List Event) (s : State) (C : Counted period es s) 
       counted : List Counts
       counted = change oneMoreSubmitted client (s .clientTable)
 
-      both : (x y : ℕ) (j : Counts) → adding 0 0 y (adding x 0 0 j) ≡ adding x 0 y j
-      both x y j = counts-path (adding 0 0 y (adding x 0 0 j)) (adding x 0 y j) (omega arith) (omega arith) (omega arith)
-
       table : (c : ℕ) → c < length (s .clientTable)
           → getD (change oneMoreDropped (v .client) counted) c zeroCounts ≡ countsSince period c (e ∷ es)
       table c h =
@@ -185,7 +194,7 @@ module _ (period : ℕ) (es : List Event) (s : State) (C : Counted period es s) 
           (getD-change oneMoreSubmitted client (s .clientTable) c h
           ∙ one-submitted (eqb c client) (getD (s .clientTable) c zeroCounts)
           ∙ ap (adding (toNumber (eqb c client)) 0 0) (C .counts-are c h))
-          ∙ both (toNumber (eqb c client)) (toNumber (eqb c (v .client))) (countsSince period c es)
+          ∙ both-added (toNumber (eqb c client)) (toNumber (eqb c (v .client))) (countsSince period c es)
           ∙ sym (since-adds period c e es refl ∙ rw (named-one c client, named-one c (v .client), named-none c))
 
   -- ---- tick
