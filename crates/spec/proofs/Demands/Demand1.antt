@@ -160,6 +160,7 @@ pub record Charts (output : List ℕ) (s : State) (l : List ℕ) : Type 0 where
   pub starts : take (length (startsOf (waiting s))) l ≡ startsOf (waiting s)
   pub beyond : drop (length (startsOf (waiting s))) l ≡ drop (length (startsOf (waiting s))) output
 
+-- an output whose front is the start slots, and the rest as it was, is such a one
 written-charts : (output : List ℕ) (s : State) → chartOf output s .answer ≡ Charted (length (startsOf (waiting s)))
     → length (startsOf (waiting s)) ≤ length output
     → Charts output s (startsOf (waiting s) ++ drop (length (startsOf (waiting s))) output)

@@ -1,9 +1,9 @@
 -- Laws of the tests over lists, and of records put in and taken out. Assumes nothing.
 use Prim.Native.Nat.{ℕ, zero, suc, _+_, _≤_, _<_}
-use mathlib.Core.Path.{_≡_, refl, sym, ap, fun-ext}
+use mathlib.Core.Path.{_≡_, refl, sym, ap, _∙_, fun-ext}
 use mathlib.Core.Bool.{Bool, true, false, cond, _&&_, _||_, and-eq-true-iff, true≢false}
 use mathlib.Core.List.{List, [], _∷_}
-use native.Mathlib.Nat.{zero-add}
+use native.Mathlib.Nat.{zero-add, add-zero, add-suc, suc-add}
 use native.Mathlib.Omega.{arith}
 use lib.ListN.{length, getD, take, drop, length-append, length-take, length-drop}
 use lib.Seq.{length-take-le, getD-at}
@@ -69,12 +69,9 @@ module _ {A : Type 0} where
   all-two p q r [] f a b = tt
   all-two p q r (x ∷ xs) f a b = (f x (a .0) (b .0), all-two p q r xs f (a .1) (b .1))
 
--- ---- the index of the first element, and of the others
-index-first : (i : ℕ) → i + 0 ≡ i
-index-first i = omega arith
-
+-- ---- an index counted from one element further on
 index-next : (i k : ℕ) → i + suc k ≡ suc i + k
-index-next i k = omega arith
+index-next i k = add-suc i k ∙ sym (suc-add i k)
 
 -- ---- tests over lists
 module _ {A : Type 0} where
@@ -93,7 +90,7 @@ module _ {A : Type 0} where
       → (k : ℕ) (d : A) → k < length xs → test (i + k) (getD xs k d) ≡ true
   unfolding everyFrom
   from-facts test i [] e k d h = absurd (omega arith)
-  from-facts test i (x ∷ xs) e zero d h = rw (index-first i) (and-left (test i x) (everyFrom test (suc i) xs) e)
+  from-facts test i (x ∷ xs) e zero d h = rw (add-zero i) (and-left (test i x) (everyFrom test (suc i) xs) e)
   from-facts test i (x ∷ xs) e (suc k) d h =
       rw (index-next i k)
       (from-facts test (suc i) xs (and-right (test i x) (everyFrom test (suc i) xs) e) k d (omega arith))
@@ -103,7 +100,7 @@ module _ {A : Type 0} where
   unfolding everyFrom
   from-test test i [] d f = refl
   from-test test i (x ∷ xs) d f =
-      and-both (test i x) (everyFrom test (suc i) xs) (rw (index-first i) at (f 0 (omega arith)))
+      and-both (test i x) (everyFrom test (suc i) xs) (rw (add-zero i) at (f 0 (omega arith)))
       (from-test test (suc i) xs d (λ k h. rw (index-next i k) at (f (suc k) (omega arith))))
 
   -- the same where the first has the index 0
@@ -161,7 +158,7 @@ module _ {A B : Type 0} where
       → getD (mapFrom f i xs) k b ≡ f (i + k) (getD xs k a)
   unfolding mapFrom
   from-getD f i [] k a b h = absurd (omega arith)
-  from-getD f i (x ∷ xs) zero a b h = rw (index-first i)
+  from-getD f i (x ∷ xs) zero a b h = rw (add-zero i)
   from-getD f i (x ∷ xs) (suc k) a b h = rw (index-next i k) (from-getD f (suc i) xs k a b (omega arith))
 
   pub getD-mapFrom : (f : ℕ → A → B) (xs : List A) (k : ℕ) (a : A) (b : B) → k < length xs

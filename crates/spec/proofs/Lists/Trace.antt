@@ -153,8 +153,8 @@ module _ (named : ℕ → Bool) (rs : List Asked) (ws : List Request) (k : ℕ) 
       )
 
   -- it was not named before
-  named-none : named its ≡ true → (a : Asked) → failing named (has its) a ≡ 0
-  named-none e a = at-number (eqb its (a .request .number)) (same its (a .request .number))
+  none-counted : named its ≡ true → (a : Asked) → failing named (has its) a ≡ 0
+  none-counted e a = at-number (eqb its (a .request .number)) (same its (a .request .number))
     where
       at-number : (b : Bool) → Same its (a .request .number) b → failing named (has its) a ≡ 0
       at-number true (same-yes g) = cond-true (named (a .request .number)) 0 (has its (a .request)) (rw g at e)
@@ -169,7 +169,7 @@ module _ (named : ℕ → Bool) (rs : List Asked) (ws : List Request) (k : ℕ) 
           absurd (omega (
             arith,
             sums (has its),
-            total-zero (failing named (has its)) rs (all-each (λ (a : Asked). failing named (has its) a ≡ 0) rs (named-none e)),
+            total-zero (failing named (has its)) rs (all-each (λ (a : Asked). failing named (has its) a ≡ 0) rs (none-counted e)),
             total-remove (has its) k zeroRequest ws h,
             one-yes its its refl,
           ))
