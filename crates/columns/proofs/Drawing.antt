@@ -8,6 +8,7 @@ use native.Mathlib.Omega.{arith}
 use borrow.Author.Tests.{eq-eqb, ne-eqb}
 use lib.ListN.{length, getD, take, drop, set, List·getD-append}
 use lib.Seq.{take-suc, append-snoc, set-at, length-take-le, getD-take}
+use Rattle.spec.specs.declared.types.Setup.{Setup}
 use Rattle.spec.specs.Chart.{Segment, doTouch, joinLeft, segmentsOf}
 use Rattle.columns.specs.Charted.{startSlot, startSlots, segment}
 use Rattle.columns.specs.Columns.{largest64}
@@ -15,23 +16,23 @@ use Rattle.columns.proofs.Laws.{rest-cons, rest-none}
 
 -- ---- start slots
 -- with nothing behind, the largest number stands for the start behind: no deadline is larger
-start-behind : (d : ℕ) (later : List ℕ) → d ≤ largest64 → startSlot d later ≡ min d (getD later 0 largest64) - 1
-start-behind d [] h = omega arith
-start-behind d (s ∷ later) h = refl
+start-behind : (setup : Setup) (d : ℕ) (later : List ℕ) → d ≤ largest64 → startSlot setup d later ≡ min d (getD later 0 largest64) - 1
+start-behind setup d [] h = omega arith
+start-behind setup d (s ∷ later) h = refl
 
 -- behind the last deadline there is none
-pub starts-none : (ds : List ℕ) (n : ℕ) → startSlots (drop n (take n ds)) ≡ []
+pub starts-none : (setup : Setup) (ds : List ℕ) (n : ℕ) → startSlots setup (drop n (take n ds)) ≡ []
 unfolding startSlots
-starts-none ds n = rw (rest-none ds n n (omega arith))
+starts-none setup ds n = rw (rest-none ds n n (omega arith))
 
 -- one turn towards the front: one start more
-pub starts-more : (ds : List ℕ) (n i next : ℕ) → 0 < i → i ≤ n → n ≤ length ds → getD ds (i - 1) 0 ≤ largest64
-    → next ≡ getD (startSlots (drop i (take n ds))) 0 largest64
-    → startSlots (drop (i - 1) (take n ds)) ≡ (min (getD ds (i - 1) 0) next - 1) ∷ startSlots (drop i (take n ds))
+pub starts-more : (setup : Setup) (ds : List ℕ) (n i next : ℕ) → 0 < i → i ≤ n → n ≤ length ds → getD ds (i - 1) 0 ≤ largest64
+    → next ≡ getD (startSlots setup (drop i (take n ds))) 0 largest64
+    → startSlots setup (drop (i - 1) (take n ds)) ≡ (min (getD ds (i - 1) 0) next - 1) ∷ startSlots setup (drop i (take n ds))
 unfolding startSlots
-starts-more ds n i next p h l b e =
+starts-more setup ds n i next p h l b e =
     let q : i - 1 + 1 ≡ i = omega arith in
-    rw (rest-cons ds n (i - 1) 0 (omega arith) l, q, e, start-behind (getD ds (i - 1) 0) (startSlots (drop i (take n ds))) b)
+    rw (rest-cons ds n (i - 1) 0 (omega arith) l, q, e, start-behind setup (getD ds (i - 1) 0) (startSlots setup (drop i (take n ds))) b)
 
 -- .. and it is written in front of those that stand already
 pub set-last : (o t : List ℕ) (i v : ℕ) → 0 < i → i ≤ length o → set (take i o ++ t) (i - 1) v ≡ take (i - 1) o ++ (v ∷ t)
@@ -47,62 +48,62 @@ last-same o t i p h =
 
 -- ---- segments
 -- the segments with a run from l to r on their left, which goes on into the first of them where they touch
-unfoldable pub glue : ℕ → ℕ → List Segment → List Segment
-glue l r [] = segment l r ∷ []
-glue l r (g ∷ gs) = cond (doTouch r (g .left)) (segment l (g .right) ∷ gs) (segment l r ∷ g ∷ gs)
+unfoldable pub glue : Setup → ℕ → ℕ → List Segment → List Segment
+glue setup l r [] = segment l r ∷ []
+glue setup l r (g ∷ gs) = cond (doTouch setup r (g .left)) (segment l (g .right) ∷ gs) (segment l r ∷ g ∷ gs)
 
 -- what the laws below take of `doTouch`
-touch-yes : (s : ℕ) → doTouch s s ≡ true
-touch-yes s = eq-eqb s s refl
+touch-yes : (setup : Setup) (s : ℕ) → doTouch setup s s ≡ true
+touch-yes setup s = eq-eqb s s refl
 
-touch-no : (r s : ℕ) → (r ≡ s → ⊥) → doTouch r s ≡ false
-touch-no r s h = ne-eqb r s h
+touch-no : (setup : Setup) (r s : ℕ) → (r ≡ s → ⊥) → doTouch setup r s ≡ false
+touch-no setup r s h = ne-eqb r s h
 
-join-glue : (s : ℕ) (gs : List Segment) → joinLeft s gs ≡ glue s (s + 1) gs
+join-glue : (setup : Setup) (s : ℕ) (gs : List Segment) → joinLeft setup s gs ≡ glue setup s (s + 1) gs
 unfolding glue
-join-glue s [] = rw add-one
-join-glue s (g ∷ gs) = rw add-one
+join-glue setup s [] = rw add-one
+join-glue setup s (g ∷ gs) = rw add-one
 
-glue-more : (l s : ℕ) (gs : List Segment) → glue l s (joinLeft s gs) ≡ glue l (s + 1) gs
+glue-more : (setup : Setup) (l s : ℕ) (gs : List Segment) → glue setup l s (joinLeft setup s gs) ≡ glue setup l (s + 1) gs
 unfolding glue
-glue-more l s [] = rw (add-one, touch-yes s)
-glue-more l s (g ∷ gs) = rw add-one (go (doTouch (suc s) (g .left)))
+glue-more setup l s [] = rw (add-one, touch-yes setup s)
+glue-more setup l s (g ∷ gs) = rw add-one (go (doTouch setup (suc s) (g .left)))
   where
-    go : (b : Bool) → glue l s (cond b (segment s (g .right) ∷ gs) (segment s (suc s) ∷ g ∷ gs))
+    go : (b : Bool) → glue setup l s (cond b (segment s (g .right) ∷ gs) (segment s (suc s) ∷ g ∷ gs))
         ≡ cond b (segment l (g .right) ∷ gs) (segment l (suc s) ∷ g ∷ gs)
-    go true = rw (touch-yes s)
-    go false = rw (touch-yes s)
+    go true = rw (touch-yes setup s)
+    go false = rw (touch-yes setup s)
 
-glue-ends : (l r s : ℕ) (gs : List Segment) → (r ≡ s → ⊥) → glue l r (joinLeft s gs) ≡ segment l r ∷ joinLeft s gs
+glue-ends : (setup : Setup) (l r s : ℕ) (gs : List Segment) → (r ≡ s → ⊥) → glue setup l r (joinLeft setup s gs) ≡ segment l r ∷ joinLeft setup s gs
 unfolding glue
-glue-ends l r s [] h = rw (touch-no r s h)
-glue-ends l r s (g ∷ gs) h = go (doTouch (suc s) (g .left))
+glue-ends setup l r s [] h = rw (touch-no setup r s h)
+glue-ends setup l r s (g ∷ gs) h = go (doTouch setup (suc s) (g .left))
   where
-    go : (b : Bool) → glue l r (cond b (segment s (g .right) ∷ gs) (segment s (suc s) ∷ g ∷ gs))
+    go : (b : Bool) → glue setup l r (cond b (segment s (g .right) ∷ gs) (segment s (suc s) ∷ g ∷ gs))
         ≡ segment l r ∷ cond b (segment s (g .right) ∷ gs) (segment s (suc s) ∷ g ∷ gs)
-    go true = rw (touch-no r s h)
-    go false = rw (touch-no r s h)
+    go true = rw (touch-no setup r s h)
+    go false = rw (touch-no setup r s h)
 
 -- a run begins with an interval, goes on with one that starts where it ends, and ends before any other, or at the end
-module _ (s : List ℕ) (n k : ℕ) where
+module _ (setup : Setup) (s : List ℕ) (n k : ℕ) where
   pub run-begins : k < n → n ≤ length s
-      → segmentsOf (drop k (take n s)) ≡ glue (getD s k 0) (getD s k 0 + 1) (segmentsOf (drop (k + 1) (take n s)))
+      → segmentsOf setup (drop k (take n s)) ≡ glue setup (getD s k 0) (getD s k 0 + 1) (segmentsOf setup (drop (k + 1) (take n s)))
   unfolding segmentsOf
-  run-begins h l = rw (rest-cons s n k 0 h l) (join-glue (getD s k 0) (segmentsOf (drop (k + 1) (take n s))))
+  run-begins h l = rw (rest-cons s n k 0 h l) (join-glue setup (getD s k 0) (segmentsOf setup (drop (k + 1) (take n s))))
 
   pub run-more : (left right : ℕ) → k < n → n ≤ length s → getD s k 0 ≡ right
-      → glue left right (segmentsOf (drop k (take n s))) ≡ glue left (right + 1) (segmentsOf (drop (k + 1) (take n s)))
+      → glue setup left right (segmentsOf setup (drop k (take n s))) ≡ glue setup left (right + 1) (segmentsOf setup (drop (k + 1) (take n s)))
   unfolding segmentsOf
-  run-more left right h l e = rw (rest-cons s n k 0 h l, e) (glue-more left right (segmentsOf (drop (k + 1) (take n s))))
+  run-more left right h l e = rw (rest-cons s n k 0 h l, e) (glue-more setup left right (segmentsOf setup (drop (k + 1) (take n s))))
 
   pub run-ends : (left right : ℕ) → k < n → n ≤ length s → (getD s k 0 ≡ right → ⊥)
-      → glue left right (segmentsOf (drop k (take n s))) ≡ segment left right ∷ segmentsOf (drop k (take n s))
+      → glue setup left right (segmentsOf setup (drop k (take n s))) ≡ segment left right ∷ segmentsOf setup (drop k (take n s))
   unfolding segmentsOf
   run-ends left right h l e =
       rw (rest-cons s n k 0 h l)
-      (glue-ends left right (getD s k 0) (segmentsOf (drop (k + 1) (take n s))) (λ q. e (sym q)))
+      (glue-ends setup left right (getD s k 0) (segmentsOf setup (drop (k + 1) (take n s))) (λ q. e (sym q)))
 
   pub run-last : (left right : ℕ) → n ≤ k
-      → glue left right (segmentsOf (drop k (take n s))) ≡ segment left right ∷ segmentsOf (drop k (take n s))
+      → glue setup left right (segmentsOf setup (drop k (take n s))) ≡ segment left right ∷ segmentsOf setup (drop k (take n s))
   unfolding segmentsOf glue
   run-last left right h = rw (rest-none s n k h)

@@ -4,6 +4,7 @@ use mathlib.Core.List.{List, [], _∷_, map}
 use mathlib.Core.Path.{_≡_, refl}
 use native.Mathlib.Omega.{arith}
 use lib.ListN.{length, getD, take}
+use Rattle.spec.specs.declared.types.Setup.{Setup}
 use Rattle.columns.specs.Charted.{startSlot, startSlots}
 use Rattle.columns.specs.Columns.{rowsOf, countOf, stateOf, largest64}
 use Rattle.spec.specs.Chart.{startsOf, endOf}
@@ -55,23 +56,23 @@ column-rows c f g e (suc n) (x ∷ xs) (y ∷ ys) (z ∷ zs) h i j =
     rw (pick-cons c x y z xs ys zs, e x y z, column-rows c f g e n xs ys zs (omega arith) (omega arith) (omega arith))
 
 -- ---- what is drawn
-start-same : (w : Request) (later : List ℕ) → startSlot (w .deadline) later ≡ endOf w later - 1
-start-same w [] = refl
-start-same w (s ∷ later) = refl
+start-same : (setup : Setup) (w : Request) (later : List ℕ) → startSlot setup (w .deadline) later ≡ endOf w later - 1
+start-same setup w [] = refl
+start-same setup w (s ∷ later) = refl
 
-pub starts-column : (ws : List Request) → startSlots (deadlinesOf ws) ≡ startsOf ws
+pub starts-column : (setup : Setup) (ws : List Request) → startSlots setup (deadlinesOf ws) ≡ startsOf setup ws
 unfolding startSlots startsOf
-starts-column [] = refl
-starts-column (w ∷ ws) = rw (starts-column ws, start-same w (startsOf ws))
+starts-column setup [] = refl
+starts-column setup (w ∷ ws) = rw (starts-column setup ws, start-same setup w (startsOf setup ws))
 
 -- no start slot is the largest number, as `segment_at` asks
-pub starts-below : (ds : List ℕ) (k : ℕ) → k < length ds → ((j : ℕ) → j < length ds → getD ds j 0 ≤ largest64)
-    → getD (startSlots ds) k 0 < largest64
+pub starts-below : (setup : Setup) (ds : List ℕ) (k : ℕ) → k < length ds → ((j : ℕ) → j < length ds → getD ds j 0 ≤ largest64)
+    → getD (startSlots setup ds) k 0 < largest64
 unfolding startSlots
-starts-below [] k h b = absurd (omega arith)
-starts-below (d ∷ ds) zero h b = go (startSlots ds)
+starts-below setup [] k h b = absurd (omega arith)
+starts-below setup (d ∷ ds) zero h b = go (startSlots setup ds)
   where
-    go : (later : List ℕ) → startSlot d later < largest64
+    go : (later : List ℕ) → startSlot setup d later < largest64
     go [] = omega (arith, b 0 (omega arith))
     go (s ∷ later) = omega (arith, b 0 (omega arith))
-starts-below (d ∷ ds) (suc k) h b = starts-below ds k (omega arith) (λ j i. b (suc j) (omega arith))
+starts-below setup (d ∷ ds) (suc k) h b = starts-below setup ds k (omega arith) (λ j i. b (suc j) (omega arith))

@@ -1,4 +1,5 @@
 // The chart's start slots, and its segments one after the other.
+use spec::types::Setup;
 ghost use mathlib.Core.Path.{_≡_};
 ghost use mathlib.Core.List.{_∷_, _++_};
 ghost use Prim.Native.Nat.{ℕ, _+_, _-_, _<_, _≤_, min};
@@ -25,9 +26,9 @@ fn one_before(deadline: u64, next: u64) -> u64
 
 // The first n entries are deadlines and become their start slots; those beyond stay as they are. At first the largest number
 // stands for the start behind, since no deadline is larger.
-pub fn write_starts(output: &mut [u64], n: usize)
+pub fn write_starts(setup: Setup, output: &mut [u64], n: usize)
     requires { ⌜ n ≤ length (now output) ⌝ }
-    ensures { λ _. ⌜ now (output .exit) ≡ startSlots (take n (now (output .entry))) ++ drop n (now (output .entry)) ⌝ }
+    ensures { λ _. ⌜ now (output .exit) ≡ startSlots setup (take n (now (output .entry))) ++ drop n (now (output .entry)) ⌝ }
 {
     let mut i = n;
     let mut next: u64 = 18446744073709551615;
@@ -46,11 +47,11 @@ pub struct Run {
 }
 
 // The segment that begins with the interval of the start slot at the index i: it spans as many start slots as it has slots.
-pub fn segment_at(starts: &[u64], n: usize, i: usize) -> Run
+pub fn segment_at(setup: Setup, starts: &[u64], n: usize, i: usize) -> Run
     requires { ⌜ (i < n) × (n ≤ length (now starts)) × ((k : ℕ) → k < n → getD (now starts) k 0 < largest64) ⌝ }
     ensures { λ r. ⌜
-        (segmentsOf (drop i (take n (now (starts .entry))))
-        ≡ segment (r .left) (r .right) ∷ segmentsOf (drop (r .next) (take n (now (starts .entry)))))
+        (segmentsOf setup (drop i (take n (now (starts .entry))))
+        ≡ segment (r .left) (r .right) ∷ segmentsOf setup (drop (r .next) (take n (now (starts .entry)))))
         × (i < r .next)
         × (r .next ≤ n)
         × (r .next ≡ i + (r .right - r .left))

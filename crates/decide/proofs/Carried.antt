@@ -12,7 +12,8 @@ use Rattle.spec.specs.declared.types.Answer.the-variants.{Refused}
 use Rattle.spec.specs.Tables.{State, waiting, deadlinesOf}
 use Rattle.spec.specs.Order.{placeOf}
 use Rattle.spec.specs.Chart.{hasNoOverfull, startsOf}
-use Rattle.spec.specs.Refusals.{Refusal, firstMatch, submitRefusals, tickRefusals, chartRefusals}
+use Rattle.spec.specs.Setup.{Refusal, firstMatch}
+use Rattle.spec.specs.Refusals.{submitRefusals, tickRefusals, chartRefusals}
 use Rattle.spec.specs.Calls.{Outcome, newRequest, withNew, kept, droppedAt, victimPlace, submitAccepted, tickAccepted}
 use Rattle.spec.specs.Calls.{unlessRefused, submitOf, tickOf, chartOutput}
 use Rattle.spec.proofs.Laws.Accepted.{chart-ready, waiting-length}
@@ -81,12 +82,12 @@ tick-carried s = carried _ s (Ticks s) _ _ (ticks s (waiting s) refl)
 
 -- ---- an accepted chart's output: the start slots of the waiting requests' deadlines, and what stood beyond
 pub charted : (output : List ℕ) (s : State) → firstMatch (chartRefusals output s) ≡ 0
-    → startSlots (deadlinesOf (waiting s)) ++ drop (s .head .waiting) output ≡ chartOutput output s
+    → startSlots (s .head .setup) (deadlinesOf (waiting s)) ++ drop (s .head .waiting) output ≡ chartOutput output s
 charted output s z = go (output-written output s)
   where
-    count : length (startsOf (waiting s)) ≡ s .head .waiting
-    count = length-starts (waiting s) ∙ waiting-length s (chart-ready output s z .ready .shape)
+    count : length (startsOf (s .head .setup) (waiting s)) ≡ s .head .waiting
+    count = length-starts (s .head .setup) (waiting s) ∙ waiting-length s (chart-ready output s z .ready .shape)
 
-    go : {l : List ℕ} → Written output s l → startSlots (deadlinesOf (waiting s)) ++ drop (s .head .waiting) output ≡ l
+    go : {l : List ℕ} → Written output s l → startSlots (s .head .setup) (deadlinesOf (waiting s)) ++ drop (s .head .waiting) output ≡ l
     go (untouched n) = absurd (n z)
-    go (written e) = rw (starts-column (waiting s), count)
+    go (written e) = rw (starts-column (s .head .setup) (waiting s), count)

@@ -3,13 +3,15 @@ use Prim.Native.Nat.{ℕ, suc, _+_, _≤_, _<_}
 use mathlib.Core.Path.{_≡_, refl, ap}
 use mathlib.Core.Logic.{_≢_}
 use mathlib.Core.Bool.{Bool, true, false, cond, not, and-false}
-use mathlib.Core.List.{List, [], _∷_}
+use mathlib.Core.List.{List, [], _∷_, _++_}
 use native.Mathlib.Omega.{arith}
 use borrow.Author.Tests.{le-ltb, lt-ltb, lt-leb, eq-eqb, ne-eqb}
 use lib.Dec.{eqb}
 use lib.ListN.{length, getD, length-replicate}
+use Rattle.spec.specs.declared.types.Setup.{Setup}
 use Rattle.spec.specs.Tables.{mostAhead, mostCounted, zeroRequest, zeroCounts, State}
-use Rattle.spec.specs.Refusals.{openRefusals, submitRefusals, tickRefusals, reportRefusals, chartRefusals, Refusal, firstMatch, refusal4}
+use Rattle.spec.specs.Setup.{Refusal, firstMatch}
+use Rattle.spec.specs.Refusals.{openRefusals, submitRefusals, tickRefusals, reportRefusals, chartRefusals, refusal4}
 use Rattle.spec.specs.Refusals.{refusal5, refusal6, refusal7, refusal8, refusal9, refusal10, refusal11, refusal12}
 use Rattle.spec.proofs.Laws.Sound.{within-test}
 use Rattle.sound.specs.Checks.{tablesRefusal}
@@ -46,6 +48,17 @@ match-none = refl
 pub match-only : (r : Refusal) → r .holds ≡ false → 0 ≡ firstMatch (r ∷ [])
 match-only r e = match-next r [] e match-none
 
+-- ---- the first match of a list of refusals is that of the list with others behind
+pub match-first : (rs qs : List Refusal) {n : ℕ} → n ≢ 0 → n ≡ firstMatch rs → n ≡ firstMatch (rs ++ qs)
+unfolding firstMatch
+match-first [] qs h e = absurd (h e)
+match-first (r ∷ rs) qs {n} h e = go (r .holds) (match-first rs qs h) e
+  where
+    go : (x : Bool) → (n ≡ firstMatch rs → n ≡ firstMatch (rs ++ qs)) → n ≡ cond x (r .number) (firstMatch rs)
+        → n ≡ cond x (r .number) (firstMatch (rs ++ qs))
+    go true f e = e
+    go false f e = f e
+
 -- ---- what the tables call for, before a call's own
 module _ {t : ℕ} (own : List Refusal) where
   pub tables-match : t ≢ 0 → t ≡ firstMatch (ofTables t ∷ own)
@@ -66,10 +79,10 @@ module _ {t : ℕ} (own : List Refusal) where
       go false false e = rw e
 
 -- ---- of a state, told what its tables call for: the first that matches of the call's whole list
-pub open-told : (clients period : ℕ) (s : State)
-    → openMatch clients period (length (s .waitingTable)) (length (s .clientTable)) ≡ firstMatch (openRefusals clients period s)
+pub open-told : (setup : Setup) (s : State)
+    → openMatch setup (length (s .waitingTable)) (length (s .clientTable)) ≡ firstMatch (openRefusals setup s)
 unfolding openMatch openRefusals
-open-told clients period s =
+open-told setup s =
     rw (length-replicate (length (s .waitingTable)) zeroRequest, length-replicate (length (s .clientTable)) zeroCounts)
 
 module _ (s : State) {tables : ℕ} (found : tables ≡ tablesRefusal s) where
@@ -93,11 +106,11 @@ module _ (s : State) {tables : ℕ} (found : tables ≡ tablesRefusal s) where
   chart-told output = rw (length-replicate {A = ℕ} (length output) 0) (tables-told (chartOwn output s) s found)
 
 -- ---- "6. Submit and report: the client does not exist."
-pub holds6 : (client : ℕ) (s : State) → s .head .clients ≤ client → refusal6 client s .holds ≡ true
-holds6 client s h = ap not (le-ltb client (s .head .clients) h)
+pub holds6 : (client : ℕ) (s : State) → s .head .setup .clients ≤ client → refusal6 client s .holds ≡ true
+holds6 client s h = ap not (le-ltb client (s .head .setup .clients) h)
 
-pub fails6 : (client : ℕ) (s : State) → client < s .head .clients → refusal6 client s .holds ≡ false
-fails6 client s h = ap not (lt-ltb client (s .head .clients) h)
+pub fails6 : (client : ℕ) (s : State) → client < s .head .setup .clients → refusal6 client s .holds ≡ false
+fails6 client s h = ap not (lt-ltb client (s .head .setup .clients) h)
 
 -- ---- "7. Submit: the deadline is not after the clock, or more than 65,535 after it, all slots counted."
 pub early7 : (deadline : ℕ) (s : State) → deadline ≤ s .head .clock → refusal7 deadline s .holds ≡ true
@@ -118,10 +131,10 @@ module _ (client deadline : ℕ) (s : State) {tables : ℕ} (none : tables ≡ 0
   after5 : {n : ℕ} → n ≡ firstMatch (submitOwn client deadline s) → n ≡ firstMatch list
   after5 e = tables-pass (submitOwn client deadline s) none e
 
-  pub own6 : s .head .clients ≤ client → 6 ≡ firstMatch list
+  pub own6 : s .head .setup .clients ≤ client → 6 ≡ firstMatch list
   own6 h = after5 (match-here (refusal6 client s) _ (holds6 client s h))
 
-  module _ (exists : client < s .head .clients) where
+  module _ (exists : client < s .head .setup .clients) where
     after6 : {n : ℕ} → n ≡ firstMatch (refusal7 deadline s ∷ refusal8 client s ∷ refusal9 s ∷ refusal10 s ∷ [])
         → n ≡ firstMatch list
     after6 e = after5 (match-next (refusal6 client s) _ (fails6 client s exists) e)

@@ -13,7 +13,8 @@ use Rattle.spec.specs.declared.types.Head.{Head}
 use Rattle.spec.specs.declared.types.Request.{Request}
 use Rattle.spec.specs.declared.types.Counts.{Counts}
 use Rattle.spec.specs.Tables.{zeroCounts, State, waiting}
-use Rattle.spec.specs.Refusals.{Refusal, firstMatch, submitRefusals, tickRefusals}
+use Rattle.spec.specs.Setup.{Refusal, firstMatch}
+use Rattle.spec.specs.Refusals.{submitRefusals, tickRefusals}
 use Rattle.spec.proofs.Laws.Accepted.{SubmitReady, waiting-length, tick-ready}
 use Rattle.columns.specs.Columns.{countOf, countsOf, largest32}
 use Rattle.columns.proofs.Laws.{length-rows, getD-rows}

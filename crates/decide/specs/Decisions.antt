@@ -12,7 +12,8 @@ use Rattle.spec.specs.declared.types.Counts.{Counts}
 use Rattle.spec.specs.Tables.{mostClients, State, waiting, deadlinesOf, clientsOf}
 use Rattle.spec.specs.Order.{placeOf}
 use Rattle.spec.specs.Chart.{dueBy, hasNoOverfull}
-use Rattle.spec.specs.Refusals.{Refusal, firstMatch, submitRefusals, tickRefusals}
+use Rattle.spec.specs.Setup.{Refusal, firstMatch}
+use Rattle.spec.specs.Refusals.{submitRefusals, tickRefusals}
 use Rattle.spec.specs.Calls.{newRequest, withNew, victimPlace}
 use Rattle.columns.specs.Columns.{countsOf}
 use Rattle.search.specs.Scans.{overfullFrom, latestOf, putAt, smallestRatioPlace}

@@ -5,10 +5,12 @@ use mathlib.Core.Bool.{not}
 use mathlib.Core.List.{List, [], _∷_}
 use lib.Dec.{eqb}
 use lib.ListN.{replicate}
+use Rattle.spec.specs.declared.types.Setup.{Setup}
 use Rattle.spec.specs.declared.types.Head.{Head}
 use Rattle.spec.specs.declared.types.Counts.{Counts}
-use Rattle.spec.specs.Tables.{zeroRequest, zeroCounts, State}
-use Rattle.spec.specs.Refusals.{Refusal, firstMatch, openRefusals, refusal6, refusal7, refusal8, refusal9, refusal10}
+use Rattle.spec.specs.Tables.{zeroRequest, zeroCounts, openHead, State}
+use Rattle.spec.specs.Setup.{Refusal, firstMatch}
+use Rattle.spec.specs.Refusals.{openRefusals, refusal6, refusal7, refusal8, refusal9, refusal10}
 use Rattle.spec.specs.Refusals.{refusal11, refusal12}
 
 -- what the tables call for, however it was found: a refusal of this number, none where it is 0
@@ -19,14 +21,12 @@ ofTables tables = record { number = tables; holds = not (eqb tables 0) }
 abbrev pub told : Head → ℕ → List Counts → State
 told head records cs = record { head = head; waitingTable = replicate records zeroRequest; clientTable = cs }
 
--- what open is told: the numbers given, and the lengths of both tables
-abbrev pub openTold : ℕ → ℕ → ℕ → ℕ → State
-openTold clients period records accounts =
-    told (record { clients = clients; period = period; clock = 0; last = 0; waiting = 0 }) records (replicate accounts zeroCounts)
+-- what open is told: the setup given, and the lengths of both tables
+abbrev pub openTold : Setup → ℕ → ℕ → State
+openTold setup records accounts = told (openHead setup) records (replicate accounts zeroCounts)
 
-unfoldable pub openMatch : ℕ → ℕ → ℕ → ℕ → ℕ
-openMatch clients period records accounts =
-    firstMatch (openRefusals clients period (openTold clients period records accounts))
+unfoldable pub openMatch : Setup → ℕ → ℕ → ℕ
+openMatch setup records accounts = firstMatch (openRefusals setup (openTold setup records accounts))
 
 unfoldable pub submitMatch : ℕ → Head → ℕ → List Counts → ℕ → ℕ → ℕ
 submitMatch tables head records cs client deadline =

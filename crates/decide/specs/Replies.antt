@@ -5,12 +5,13 @@ use mathlib.Core.Bool.{cond}
 use mathlib.Core.List.{List}
 use lib.Dec.{ltb, eqb}
 use lib.ListN.{length, replicate}
+use Rattle.spec.specs.declared.types.Setup.{Setup}
 use Rattle.spec.specs.declared.types.Head.{Head}
 use Rattle.spec.specs.declared.types.Request.{Request}
 use Rattle.spec.specs.declared.types.Counts.{Counts}
 use Rattle.spec.specs.declared.types.Answer.the-variants as answer
 use Rattle.spec.specs.declared.types.Answer.the-variants.{Opened, Kept, Dropped, Served, Reported, Charted, Refused}
-use Rattle.spec.specs.Tables.{zeroCounts}
+use Rattle.spec.specs.Tables.{zeroCounts, openHead}
 use Rattle.spec.specs.Calls.{Outcome}
 use Rattle.columns.specs.Columns.{Holds, largest64}
 use Rattle.columns.specs.Counted.{oneAdded, waitingCount, restartedAt}
@@ -59,8 +60,7 @@ refusedWith head number = record { head = head; answer = Refused number }
 abbrev pub numberedHead : Head → ℕ → Head
 numberedHead head waiting =
     record {
-      clients = head .clients;
-      period = head .period;
+      setup = head .setup;
       clock = head .clock;
       last = raised (head .last);
       waiting = waiting;
@@ -70,8 +70,7 @@ numberedHead head waiting =
 abbrev pub laterHead : Head → ℕ → Head
 laterHead head waiting =
     record {
-      clients = head .clients;
-      period = head .period;
+      setup = head .setup;
       clock = raised (head .clock);
       last = head .last;
       waiting = waiting;
@@ -104,10 +103,8 @@ abbrev pub replyUnless : ℕ → Head → Reply → Reply
 replyUnless refusal head accepted = cond (eqb refusal 0) accepted (refusedWith head refusal)
 
 -- "sets clock, last number and waiting count to 0"
-abbrev pub openReply : ℕ → Head → ℕ → ℕ → Reply
-openReply refusal head clients period =
-    replyUnless refusal head
-    (record { head = record { clients = clients; period = period; clock = 0; last = 0; waiting = 0 }; answer = Opened })
+abbrev pub openReply : ℕ → Head → Setup → Reply
+openReply refusal head setup = replyUnless refusal head (record { head = openHead setup; answer = Opened })
 
 -- ".. and every record to zero."
 abbrev pub openCounts : ℕ → List Counts → List Counts
@@ -165,8 +162,8 @@ abbrev pub tickCounts : Head → Decision → List Counts → List Counts
 tickCounts head (Refuse number) cs = cs
 tickCounts head (Keep place) cs = cs
 tickCounts head (Drop place victim) cs = cs
-tickCounts head Serve cs = restartedAt (head .period) (raised (head .clock)) cs
-tickCounts head Idle cs = restartedAt (head .period) (raised (head .clock)) cs
+tickCounts head Serve cs = restartedAt (head .setup .period) (raised (head .clock)) cs
+tickCounts head Idle cs = restartedAt (head .setup .period) (raised (head .clock)) cs
 
 -- what a call hands back and leaves in the columns of the client table is what the outcome says
 pub record Answers (o : Outcome) (submitted₀ served₀ dropped₀ : List ℕ) (r : Reply) (submitted served dropped : List ℕ) :

@@ -29,15 +29,15 @@ pub fn submit_choice(
     place: usize,
     found: u64,
 ) -> Decision
-    requires { ⌜ (head .clients ≤ length (now latest)) × (getD (now submitted) client 0 < largest32) ⌝ }
-    ensures { λ r. ⌜ r ≡ choiceBy (head .clients)
+    requires { ⌜ (head .setup .clients ≤ length (now latest)) × (getD (now submitted) client 0 < largest32) ⌝ }
+    ensures { λ r. ⌜ r ≡ choiceBy (head .setup .clients)
         (countsWith client (now (submitted .entry)) (now (served .entry)) (now (dropped .entry)))
         (now (latest .entry)) place found ⌝ }
 {
     if found == 0 {
         return Decision::Keep { place };
     }
-    let clients = head.clients as usize;
+    let clients = head.setup.clients as usize;
     let victim = victim::smallest_ratio_place(latest, submitted, served, dropped, client, clients);
     Decision::Drop { place, victim }
 }

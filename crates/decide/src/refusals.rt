@@ -1,26 +1,26 @@
 // The refusals, first match wins: each function gives the number of the first that matches, or 0. `tables` is what the tables
 // call for, 4 or 5 or 0, however it was found: refusals 4 and 5 stand first in every list but open's.
 use columns::rows;
+use sound::record;
 use spec::bounds;
 use spec::types::Head;
+use spec::types::Setup;
 ghost use mathlib.Core.Path.{_≡_};
 ghost use Rattle.columns.specs.Columns.{countsOf};
 ghost use Rattle.decide.specs.Matches.{openMatch, submitMatch, tickMatch, reportMatch, chartMatch};
 
 // Open's, by the lengths of the tables.
-pub fn open_refusal(clients: u64, period: u64, records: usize, accounts: usize) -> u64
-    ensures { λ r. ⌜ r ≡ openMatch clients period records accounts ⌝ }
+pub fn open_refusal(setup: Setup, records: usize, accounts: usize) -> u64
+    ensures { λ r. ⌜ r ≡ openMatch setup records accounts ⌝ }
 {
-    if !((1 <= clients) & (clients <= bounds::MOST_CLIENTS as u64)) {
-        return 2;
-    }
-    if !((1 <= period) & (period <= bounds::MOST_PERIOD)) {
-        return 3;
+    let bad = record::setup_refusal(setup);
+    if bad != 0 {
+        return bad;
     }
     if !((1 <= records) & (records <= bounds::MOST_RECORDS)) {
         return 4;
     }
-    if accounts as u64 != clients {
+    if accounts as u64 != setup.clients {
         return 4;
     }
     0
@@ -43,7 +43,7 @@ pub fn submit_refusal(
     if tables != 0 {
         return tables;
     }
-    if head.clients <= client {
+    if head.setup.clients <= client {
         return 6;
     }
     if deadline <= head.clock {
@@ -84,7 +84,7 @@ pub fn report_refusal(tables: u64, head: Head, client: u64) -> u64
     if tables != 0 {
         return tables;
     }
-    if head.clients <= client {
+    if head.setup.clients <= client {
         return 6;
     }
     0

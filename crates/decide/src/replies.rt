@@ -8,6 +8,7 @@ use columns::rows;
 use spec::types::Answer;
 use spec::types::Head;
 use spec::types::Request;
+use spec::types::Setup;
 ghost use mathlib.Core.Path.{_≡_};
 ghost use Prim.Native.Nat.{_-_};
 ghost use lib.ListN.{getD};
@@ -33,10 +34,9 @@ pub fn open_reply(
     served: &mut [u32],
     dropped: &mut [u32],
     refusal: u64,
-    clients: u64,
-    period: u64,
+    setup: Setup,
 ) -> Reply
-    ensures { λ r. ⌜ (r ≡ openReply refusal head clients period)
+    ensures { λ r. ⌜ (r ≡ openReply refusal head setup)
         × Holds (openCounts refusal (countsOf (now (submitted .entry)) (now (served .entry)) (now (dropped .entry))))
         (now (submitted .entry)) (now (served .entry)) (now (dropped .entry))
         (now (submitted .exit)) (now (served .exit)) (now (dropped .exit)) ⌝ }
@@ -46,8 +46,7 @@ pub fn open_reply(
     }
     counts::clear_table(submitted, served, dropped);
     let opened = Head {
-        clients,
-        period,
+        setup,
         clock: 0,
         last: 0,
         waiting: 0,
@@ -63,10 +62,10 @@ pub fn open_reply(
 fn numbered(head: Head, waiting: u64) -> Head
     ensures { λ r. ⌜ r ≡ numberedHead head waiting ⌝ }
 {
+    let setup = head.setup;
     let last = edits::raised(head.last);
     Head {
-        clients: head.clients,
-        period: head.period,
+        setup,
         clock: head.clock,
         last,
         waiting,
@@ -158,16 +157,16 @@ fn pass_slot(
     waits: u64,
 ) -> Head
     ensures { λ r. ⌜ (r ≡ laterHead head waits)
-        × Holds (restartedAt (head .period) (raised (head .clock))
+        × Holds (restartedAt (head .setup .period) (raised (head .clock))
         (countsOf (now (submitted .entry)) (now (served .entry)) (now (dropped .entry))))
         (now (submitted .entry)) (now (served .entry)) (now (dropped .entry))
         (now (submitted .exit)) (now (served .exit)) (now (dropped .exit)) ⌝ }
 {
     let clock = edits::raised(head.clock);
-    counts::restart_at(head.period, clock, submitted, served, dropped);
+    let setup = head.setup;
+    counts::restart_at(setup.period, clock, submitted, served, dropped);
     Head {
-        clients: head.clients,
-        period: head.period,
+        setup,
         clock,
         last: head.last,
         waiting: waits,

@@ -9,7 +9,8 @@ use Rattle.spec.specs.declared.types.Head.{Head}
 use Rattle.spec.specs.declared.types.Request.{Request}
 use Rattle.spec.specs.declared.types.Answer.{Answer}
 use Rattle.spec.specs.Tables.{State}
-use Rattle.spec.specs.Refusals.{Refusal, reportRefusals, chartRefusals}
+use Rattle.spec.specs.Setup.{Refusal}
+use Rattle.spec.specs.Refusals.{reportRefusals, chartRefusals}
 use Rattle.spec.specs.Calls.{Outcome, reportAccepted, reportOf, chartAccepted, chartOf}
 use Rattle.spec.specs.Frames.{kindOf}
 use Rattle.spec.proofs.Laws.Accepted.{Decided, accepts, refuses, decided}

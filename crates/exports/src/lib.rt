@@ -23,7 +23,7 @@ pub extern "C" fn queue_open(
     values: &mut [u64],
 ) -> u64
     ensures { λ r. ⌜ Exported
-        (openOf clients period (stateOf (headOf (now (head .entry))) (now (waiting .entry))
+        (openOf setup (stateOf (headOf (now (head .entry))) (now (waiting .entry))
         (now (submitted .entry)) (now (served .entry)) (now (dropped .entry))))
         (now (head .entry)) (now (values .entry)) (now (submitted .entry)) (now (served .entry)) (now (dropped .entry))
         r (now (head .exit)) (now (values .exit)) (now (waiting .exit))

@@ -26,7 +26,7 @@ lengthOf kind.Chart n = 2
 lengthOf kind.Bad n = n
 
 abbrev pub frameAs : Kind → List ℕ → Frame
-frameAs kind.Open line = frame.Open (fieldAt 1 2 line) (fieldAt 3 4 line) (fieldAt 7 2 line)
+frameAs kind.Open line = frame.Open (record { clients = fieldAt 1 2 line; period = fieldAt 3 4 line }) (fieldAt 7 2 line)
 frameAs kind.Submit line = frame.Submit (fieldAt 1 2 line) (fieldAt 3 8 line)
 frameAs kind.Tick line = frame.Tick
 frameAs kind.Report line = frame.Report (fieldAt 1 2 line)

@@ -7,6 +7,7 @@ use types.Run.{OneOf, miss}
 use denote.Enum.Declared.{tagOf}
 use lib.ListN.{length, take, drop, length-append}
 use lib.Seq.{length-take-le}
+use Rattle.spec.specs.declared.types.Setup.{Setup}
 use Rattle.spec.specs.declared.types.Answer.{Answer}
 use Rattle.spec.specs.declared.types.Answer.the-variants.{Opened, Kept, Dropped, Served, Idle, Reported, Charted, Refused}
 use Rattle.spec.specs.Chart.{Segment, segmentsOf}
@@ -65,20 +66,20 @@ unfolding segmentLines
 segment-put a left right gs e = rw e (append-assoc a (lineOf 0x87 (field 8 left ∷ field 8 right ∷ [])) (segmentLines gs))
 
 -- .. and behind the last start slot there is none
-pub segments-end : (starts : List ℕ) (n i : ℕ) → n ≤ i → segmentsOf (drop i (take n starts)) ≡ []
+pub segments-end : (setup : Setup) (starts : List ℕ) (n i : ℕ) → n ≤ i → segmentsOf setup (drop i (take n starts)) ≡ []
 unfolding segmentsOf
-segments-end starts n i h = rw (rest-none starts n i h)
+segments-end setup starts n i h = rw (rest-none starts n i h)
 
 -- ---- replies
 -- an answer of a variant that is not a chart's is its line
-pub line-alone : (a : Answer) (starts : List ℕ) → OneOf (0 ∷ 1 ∷ 2 ∷ 3 ∷ 4 ∷ 5 ∷ 7 ∷ []) (tagOf the-type a)
-    → replyBytes a starts ≡ answerLine a
+pub line-alone : (setup : Setup) (a : Answer) (starts : List ℕ) → OneOf (0 ∷ 1 ∷ 2 ∷ 3 ∷ 4 ∷ 5 ∷ 7 ∷ []) (tagOf the-type a)
+    → replyBytes setup a starts ≡ answerLine a
 unfolding replyBytes
-line-alone Opened starts h = refl
-line-alone (Kept number place) starts h = refl
-line-alone (Dropped number victim client) starts h = refl
-line-alone (Served slot number client) starts h = refl
-line-alone (Idle slot) starts h = refl
-line-alone (Reported client submitted served dropped waiting) starts h = refl
-line-alone (Charted count) starts h = absurd (miss (0 ∷ 1 ∷ 2 ∷ 3 ∷ 4 ∷ 5 ∷ 7 ∷ []) 6 tt h)
-line-alone (Refused number) starts h = refl
+line-alone setup Opened starts h = refl
+line-alone setup (Kept number place) starts h = refl
+line-alone setup (Dropped number victim client) starts h = refl
+line-alone setup (Served slot number client) starts h = refl
+line-alone setup (Idle slot) starts h = refl
+line-alone setup (Reported client submitted served dropped waiting) starts h = refl
+line-alone setup (Charted count) starts h = absurd (miss (0 ∷ 1 ∷ 2 ∷ 3 ∷ 4 ∷ 5 ∷ 7 ∷ []) 6 tt h)
+line-alone setup (Refused number) starts h = refl

@@ -2,6 +2,7 @@
 use Prim.Native.Nat.{ℕ, _+_, _≤_, _<_}
 use mathlib.Core.List.{List, [], _∷_, _++_}
 use lib.ListN.{length, getD, take}
+use Rattle.spec.specs.declared.types.Setup.{Setup}
 use Rattle.spec.specs.declared.types.Answer.{Answer}
 use Rattle.spec.specs.declared.types.Answer.the-variants.{Opened, Kept, Dropped, Served, Idle, Reported, Charted, Refused}
 use Rattle.spec.specs.Tables.{mostRecords}
@@ -14,15 +15,15 @@ abbrev pub chartLines : List Segment → List ℕ
 chartLines gs = segmentLines gs ++ lineOf 0x88 (field 2 (length gs) ∷ [])
 
 -- the bytes of a reply: an answer's line, a chart's as its segments' lines, from the start slots
-unfoldable pub replyBytes : Answer → List ℕ → List ℕ
-replyBytes (Charted count) starts = chartLines (segmentsOf (take count starts))
-replyBytes Opened starts = answerLine Opened
-replyBytes (Kept number place) starts = answerLine (Kept number place)
-replyBytes (Dropped number victim client) starts = answerLine (Dropped number victim client)
-replyBytes (Served slot number client) starts = answerLine (Served slot number client)
-replyBytes (Idle slot) starts = answerLine (Idle slot)
-replyBytes (Reported client submitted served dropped waiting) starts = answerLine (Reported client submitted served dropped waiting)
-replyBytes (Refused number) starts = answerLine (Refused number)
+unfoldable pub replyBytes : Setup → Answer → List ℕ → List ℕ
+replyBytes setup (Charted count) starts = chartLines (segmentsOf setup (take count starts))
+replyBytes setup Opened starts = answerLine Opened
+replyBytes setup (Kept number place) starts = answerLine (Kept number place)
+replyBytes setup (Dropped number victim client) starts = answerLine (Dropped number victim client)
+replyBytes setup (Served slot number client) starts = answerLine (Served slot number client)
+replyBytes setup (Idle slot) starts = answerLine (Idle slot)
+replyBytes setup (Reported client submitted served dropped waiting) starts = answerLine (Reported client submitted served dropped waiting)
+replyBytes setup (Refused number) starts = answerLine (Refused number)
 
 -- the characters of the longest line, a drop's or a served read's, with its line feed
 abbrev pub longestLine : ℕ

@@ -3,6 +3,7 @@
 use crate::digits;
 use columns::chart;
 use spec::types::Answer;
+use spec::types::Setup;
 ghost use mathlib.Core.List.{_∷_, [], _++_};
 ghost use mathlib.Core.Path.{_≡_};
 ghost use Prim.Native.Nat.{ℕ, _+_, _*_, _<_, _≤_};
@@ -136,17 +137,17 @@ struct Drawn {
 }
 
 // A line for each segment of the first n start slots, from the left.
-fn put_segments(out: &mut [u8], at: usize, starts: &[u64], n: usize) -> Drawn
+fn put_segments(setup: Setup, out: &mut [u8], at: usize, starts: &[u64], n: usize) -> Drawn
     requires { ⌜ (at + 35 * n ≤ length (now out)) × (n ≤ length (now starts)) × ((k : ℕ) → k < n → getD (now starts) k 0 < largest64) ⌝ }
     ensures { λ r. ⌜ (at ≤ r .end) × (r .end ≤ at + 35 * n)
-        × (r .count ≡ length (segmentsOf (take n (now (starts .entry)))))
-        × (take (r .end) (now (out .exit)) ≡ take at (now (out .entry)) ++ segmentLines (segmentsOf (take n (now (starts .entry))))) ⌝ }
+        × (r .count ≡ length (segmentsOf setup (take n (now (starts .entry)))))
+        × (take (r .end) (now (out .exit)) ≡ take at (now (out .entry)) ++ segmentLines (segmentsOf setup (take n (now (starts .entry))))) ⌝ }
 {
     let mut end = at;
     let mut count: u64 = 0;
     let mut i = 0;
     while i < n {
-        let run = chart::segment_at(starts, n, i);
+        let run = chart::segment_at(setup, starts, n, i);
         end = put_pair(out, end, 0x87, run.left, 8, run.right);
         count += 1;
         i = run.next;
@@ -155,23 +156,23 @@ fn put_segments(out: &mut [u8], at: usize, starts: &[u64], n: usize) -> Drawn
 }
 
 // A chart's segments and their count.
-fn put_chart(out: &mut [u8], at: usize, starts: &[u64], n: usize) -> usize
+fn put_chart(setup: Setup, out: &mut [u8], at: usize, starts: &[u64], n: usize) -> usize
     requires { ⌜ (at + 35 * n + 7 ≤ length (now out)) × (n ≤ length (now starts)) × ((k : ℕ) → k < n → getD (now starts) k 0 < largest64) ⌝ }
     ensures { λ r. ⌜ (at ≤ r) × (r ≤ at + 35 * n + 7)
-        × (take r (now (out .exit)) ≡ take at (now (out .entry)) ++ chartLines (segmentsOf (take n (now (starts .entry))))) ⌝ }
+        × (take r (now (out .exit)) ≡ take at (now (out .entry)) ++ chartLines (segmentsOf setup (take n (now (starts .entry))))) ⌝ }
 {
-    let drawn = put_segments(out, at, starts, n);
+    let drawn = put_segments(setup, out, at, starts, n);
     put_value(out, drawn.end, 0x88, 2, drawn.count)
 }
 
 // A reply: an answer's line; a chart's as the segments of its start slots.
-pub fn put_reply(out: &mut [u8], at: usize, answer: Answer, starts: &[u64]) -> usize
+pub fn put_reply(setup: Setup, out: &mut [u8], at: usize, answer: Answer, starts: &[u64]) -> usize
     requires { ⌜ (at + mostBytes ≤ length (now out)) × CanDraw answer (now starts) ⌝ }
-    ensures { λ r. ⌜ (r ≡ at + length (replyBytes answer (now (starts .entry)))) × (r ≤ at + mostBytes)
-        × (take r (now (out .exit)) ≡ take at (now (out .entry)) ++ replyBytes answer (now (starts .entry))) ⌝ }
+    ensures { λ r. ⌜ (r ≡ at + length (replyBytes setup answer (now (starts .entry)))) × (r ≤ at + mostBytes)
+        × (take r (now (out .exit)) ≡ take at (now (out .entry)) ++ replyBytes setup answer (now (starts .entry))) ⌝ }
 {
     match answer {
-        Answer::Charted { count } => put_chart(out, at, starts, count as usize),
+        Answer::Charted { count } => put_chart(setup, out, at, starts, count as usize),
         _ => put_answer(out, at, answer),
     }
 }

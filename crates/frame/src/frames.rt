@@ -1,6 +1,7 @@
 // The frame that a line is.
 use crate::digits;
 use spec::types::Frame;
+use spec::types::Setup;
 ghost use mathlib.Core.Path.{_≡_};
 ghost use Rattle.spec.specs.Frames.{frameOf};
 ghost use Rattle.frame.specs.Digits.{digitTable};
@@ -50,8 +51,10 @@ pub fn frame_of(table: &[u8], line: &[u8]) -> Frame
     let kind = digits::field_at(table, line, 0, 1);
     match kind_of(kind, count) {
         Kind::Open => Frame::Open {
-            clients: digits::field_at(table, line, 1, 2),
-            period: digits::field_at(table, line, 3, 4),
+            setup: Setup {
+                clients: digits::field_at(table, line, 1, 2),
+                period: digits::field_at(table, line, 3, 4),
+            },
             records: digits::field_at(table, line, 7, 2),
         },
         Kind::Submit => Frame::Submit {

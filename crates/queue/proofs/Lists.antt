@@ -4,6 +4,7 @@ use Prim.Native.Nat.{ℕ}
 use mathlib.Core.Path.{_≡_, refl, sym, ap, subst, _∙_}
 use mathlib.Core.Bool.{false}
 use mathlib.Core.List.{List, [], _∷_}
+use Rattle.spec.specs.declared.types.Setup.{Setup}
 use Rattle.spec.specs.declared.types.Request.{Request}
 use Rattle.spec.specs.declared.types.Counts.{Counts}
 use Rattle.spec.specs.Tables.{State}
@@ -27,10 +28,10 @@ module _ (before : Lent) (r : Reply) (ws : List Request) (su se dr : List ℕ) w
   abbrev left : Lent
   left = record { head = r .head; waitingTable = ws; submitted = su; served = se; dropped = dr }
 
-  pub made-open : (clients period : ℕ) → Given (openOf clients period (heldBy before))
-      → Made (opening clients period) before r left
+  pub made-open : (setup : Setup) → Given (openOf setup (heldBy before))
+      → Made (opening setup) before r left
   unfolding outcomeOf
-  made-open clients period g = record { head-kept = refl; gives = g }
+  made-open setup g = record { head-kept = refl; gives = g }
 
   pub made-submit : (client deadline : ℕ) → Given (submitOf client deadline (heldBy before))
       → Made (submit client deadline) before r left
@@ -121,19 +122,19 @@ ran-some from (c ∷ cs) =
     (record { call = c; answer = r .answer } ∷ es, after, next c r ran m, ap (λ (l : List Call). c ∷ l) e)
 
 -- what holds of every list of the definitions' calls from an accepted open on holds of every list of the library's
-module _ (clients period : ℕ) (before from after : Lent) (r : Reply) (es : List Event)
-    (m : Made (opening clients period) before r from) (accepted : isRefused (r .answer) ≡ false) (ran : Ran from es after)
+module _ (setup : Setup) (before from after : Lent) (r : Reply) (es : List Event)
+    (m : Made (opening setup) before r from) (accepted : isRefused (r .answer) ≡ false) (ran : Ran from es after)
     (none-opened : exists isOpened es ≡ false) where
   start : State
-  start = openOf clients period (heldBy before) .after
+  start = openOf setup (heldBy before) .after
 
   of-library : (Φ : State → Type 0)
-      → ((cs : List Call) → isRefused (openOf clients period (heldBy before) .answer) ≡ false
+      → ((cs : List Call) → isRefused (openOf setup (heldBy before) .answer) ≡ false
       → WithRefused (history start cs) es → exists isOpened es ≡ false → Φ (run start cs))
       → Φ (heldBy after)
   unfolding outcomeOf start
   of-library Φ f =
-      let started = made-state (opening clients period) before r from m in
+      let started = made-state (opening setup) before r from m in
       subst Φ (sym (ran-run ran ∙ ap (λ (s : State). run s (ownCalls ran)) started))
       (f (ownCalls ran) (ap isRefused (sym (m .gives .answer-same)) ∙ accepted) (rw started at (ran-history ran)) none-opened)
 
@@ -141,9 +142,9 @@ module _ (clients period : ℕ) (before from after : Lent) (r : Reply) (es : Lis
   -- who knew the whole list beforehand."
   pub library-largest : Largest es (heldBy after)
   unfolding start
-  library-largest = of-library (Largest es) (λ cs. largest-plan clients period (heldBy before) cs es)
+  library-largest = of-library (Largest es) (λ cs. largest-plan setup (heldBy before) cs es)
 
   -- To be shut out: "counts in a report that the calls since open do not give"
-  pub library-counts : CountsGiven period es (heldBy after)
+  pub library-counts : CountsGiven (setup .period) es (heldBy after)
   unfolding start
-  library-counts = of-library (CountsGiven period es) (λ cs. counts-given clients period (heldBy before) cs es)
+  library-counts = of-library (CountsGiven (setup .period) es) (λ cs. counts-given setup (heldBy before) cs es)

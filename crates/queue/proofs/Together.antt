@@ -9,11 +9,13 @@ use lib.Dec.{eqb}
 use lib.ListN.{length, getD, take, drop, replicate, length-map}
 use lib.Seq.{take-at, drop-at, drop-length, length-take-le}
 use Rattle.slots.proofs.Laws.Tests.{Same, same-yes, same-no, same}
+use Rattle.spec.specs.declared.types.Setup.{Setup}
 use Rattle.spec.specs.declared.types.Head.{Head}
 use Rattle.spec.specs.declared.types.Request.{Request}
 use Rattle.spec.specs.declared.types.Answer.the-variants.{Refused}
 use Rattle.spec.specs.Tables.{zeroRequest, zeroCounts, State, deadlinesOf}
-use Rattle.spec.specs.Refusals.{Refusal, firstMatch, openRefusals, submitRefusals, reportRefusals, chartRefusals}
+use Rattle.spec.specs.Setup.{Refusal, firstMatch}
+use Rattle.spec.specs.Refusals.{openRefusals, submitRefusals, reportRefusals, chartRefusals}
 use Rattle.spec.specs.Calls.{Outcome, unlessRefused, openAccepted, openOf, newRequest, submitOf, tickOf}
 use Rattle.spec.specs.Calls.{reportAccepted, reportOf, chartAccepted, chartOf, chartOutput}
 use Rattle.spec.proofs.Laws.Accepted.{Decided as Settled, accepts, refuses as declines, decided as settled}
@@ -94,17 +96,17 @@ module _ (head : Head) (ws : List Request) (su se dr : List ℕ) where
         ready z = chart-ready output s (sym told ∙ z)
 
     module _ (out₁ out₂ : List ℕ) (first : out₁ ≡ deadlinesOf (take n ws) ++ drop n output)
-        (second : out₂ ≡ startSlots (take n out₁) ++ drop n out₁) where
+        (second : out₂ ≡ startSlots (head .setup) (take n out₁) ++ drop n out₁) where
       abbrev front : List ℕ
       front = deadlinesOf (take n ws)
 
       front-long : length front ≡ n
       front-long = length-map (take n ws) (λ (w : Request). w .deadline) ∙ length-take-le n ws (within .0)
 
-      slots : out₂ ≡ startSlots front ++ drop n output
+      slots : out₂ ≡ startSlots (head .setup) front ++ drop n output
       slots =
           second
-          ∙ ap (λ (l : List ℕ). startSlots (take n l) ++ drop n l) first
+          ∙ ap (λ (l : List ℕ). startSlots (head .setup) (take n l) ++ drop n l) first
           ∙ rw (take-at front (drop n output) n front-long, drop-at front (drop n output) n front-long)
 
       untouched-output : refusal ≢ 0 → {l : List ℕ} → Written output s l → output ≡ l
@@ -116,12 +118,12 @@ module _ (head : Head) (ws : List Request) (su se dr : List ℕ) where
       output-charted = slots ∙ go (eqb refusal 0) (same refusal 0) copied
         where
           go : (b : Bool) → Same refusal 0 b → n ≡ cond b (head .waiting) 0
-              → startSlots front ++ drop n output ≡ chartOutput output s
+              → startSlots (head .setup) front ++ drop n output ≡ chartOutput output s
           go true (same-yes z) e =
-              subst (λ (m : ℕ). startSlots (deadlinesOf (take m ws)) ++ drop m output ≡ chartOutput output s) (sym e)
+              subst (λ (m : ℕ). startSlots (head .setup) (deadlinesOf (take m ws)) ++ drop m output ≡ chartOutput output s) (sym e)
               (charted output s (sym told ∙ z))
           go false (same-no z) e =
-              subst (λ (m : ℕ). startSlots (deadlinesOf (take m ws)) ++ drop m output ≡ chartOutput output s) (sym e)
+              subst (λ (m : ℕ). startSlots (head .setup) (deadlinesOf (take m ws)) ++ drop m output ≡ chartOutput output s) (sym e)
               (untouched-output z (output-written output s))
 
     pub chart-gives : (r : Reply) → r ≡ chartReply refusal head → Gives (chartOf output s) su se dr r ws su se dr
@@ -134,30 +136,30 @@ module _ (head : Head) (ws : List Request) (su se dr : List ℕ) where
         (answers (b .0) (b .1) (holds-same (ap (λ (t : State). t .clientTable) q)))
 
   -- ---- open
-  module _ (clients period accounts refusal cleared : ℕ) (shortest : accounts ≡ min (length su) (min (length se) (length dr)))
-      (refuses : refusal ≡ openMatch clients period (length ws) accounts)
+  module _ (setup : Setup) (accounts refusal cleared : ℕ) (shortest : accounts ≡ min (length su) (min (length se) (length dr)))
+      (refuses : refusal ≡ openMatch setup (length ws) accounts)
       (some : cleared ≡ cond (eqb refusal 0) (length ws) 0) where
-    open-refusal : refusal ≡ firstMatch (openRefusals clients period s)
+    open-refusal : refusal ≡ firstMatch (openRefusals setup s)
     open-refusal =
         refuses
-        ∙ ap (openMatch clients period (length ws)) (shortest ∙ sym (length-rows countOf su se dr))
-        ∙ open-told clients period s
+        ∙ ap (openMatch setup (length ws)) (shortest ∙ sym (length-rows countOf su se dr))
+        ∙ open-told setup s
 
     -- all records are cleared, or none
     pub cleared-within : cleared ≤ length ws
     cleared-within = unless-within refusal (length ws) cleared (length ws) some (λ z. omega arith)
 
-    zeros : replicate cleared zeroRequest ++ drop cleared ws ≡ openOf clients period s .after .waitingTable
+    zeros : replicate cleared zeroRequest ++ drop cleared ws ≡ openOf setup s .after .waitingTable
     unfolding openOf openAccepted
     zeros =
         go (eqb refusal 0) some
         ∙ ap
-        (λ (n : ℕ). cond (eqb n 0) (openAccepted clients period s) (record { answer = Refused n; after = s }) .after .waitingTable)
+        (λ (n : ℕ). cond (eqb n 0) (openAccepted setup s) (record { answer = Refused n; after = s }) .after .waitingTable)
         open-refusal
       where
         go : (b : Bool) → cleared ≡ cond b (length ws) 0
             → replicate cleared zeroRequest ++ drop cleared ws
-            ≡ cond b (openAccepted clients period s) (record { answer = Refused refusal; after = s }) .after .waitingTable
+            ≡ cond b (openAccepted setup s) (record { answer = Refused refusal; after = s }) .after .waitingTable
         go true e =
             subst (λ (n : ℕ). replicate n zeroRequest ++ drop n ws ≡ replicate (length ws) zeroRequest) (sym e)
             (ap (λ (l : List Request). replicate (length ws) zeroRequest ++ l) (drop-length ws) ∙ append-nil _)
@@ -165,9 +167,9 @@ module _ (head : Head) (ws : List Request) (su se dr : List ℕ) where
 
     pub opened : (ws′ : List Request) (r : Reply) (su′ se′ dr′ : List ℕ)
         → ws′ ≡ replicate cleared zeroRequest ++ drop cleared ws
-        → (r ≡ openReply refusal head clients period) × Holds (openCounts refusal (countsOf su se dr)) su se dr su′ se′ dr′
-        → Gives (openOf clients period s) su se dr r ws′ su′ se′ dr′
-    opened ws′ r su′ se′ dr′ w a = given (w ∙ zeros) (open-answers clients period s open-refusal refl a)
+        → (r ≡ openReply refusal head setup) × Holds (openCounts refusal (countsOf su se dr)) su se dr su′ se′ dr′
+        → Gives (openOf setup s) su se dr r ws′ su′ se′ dr′
+    opened ws′ r su′ se′ dr′ w a = given (w ∙ zeros) (open-answers setup s open-refusal refl a)
 
   -- ---- tick
   pub ticked : (tables refusal : ℕ) (decision : Decision) (e : Edit) (gone : Request) (ws′ : List Request) (r : Reply)

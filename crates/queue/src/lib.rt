@@ -13,8 +13,10 @@ use sound::check;
 use spec::bounds::MOST_CLIENTS;
 use spec::types::Head;
 use spec::types::Request;
+use spec::types::Setup;
 ghost use mathlib.Core.Path.{_≡_};
-ghost use Rattle.spec.specs.Refusals.{firstMatch, submitRefusals};
+ghost use Rattle.spec.specs.Setup.{firstMatch};
+ghost use Rattle.spec.specs.Refusals.{submitRefusals};
 ghost use Rattle.spec.specs.Calls.{openOf, submitOf, tickOf, reportOf, chartOf, chartOutput};
 ghost use Rattle.columns.specs.Columns.{stateOf};
 ghost use Rattle.decide.specs.Decisions.{submitChoice, submitDecision};
@@ -27,20 +29,19 @@ pub fn open(
     submitted: &mut [u32],
     served: &mut [u32],
     dropped: &mut [u32],
-    clients: u64,
-    period: u64,
+    setup: Setup,
 ) -> Reply
     ensures { λ r. ⌜ Gives
-        (openOf clients period (stateOf head (now (waiting .entry))
+        (openOf setup (stateOf head (now (waiting .entry))
         (now (submitted .entry)) (now (served .entry)) (now (dropped .entry))))
         (now (submitted .entry)) (now (served .entry)) (now (dropped .entry))
         r (now (waiting .exit)) (now (submitted .exit)) (now (served .exit)) (now (dropped .exit)) ⌝ }
 {
     let accounts = rows::shortest(submitted.len(), served.len(), dropped.len());
-    let refusal = refusals::open_refusal(clients, period, waiting.len(), accounts);
+    let refusal = refusals::open_refusal(setup, waiting.len(), accounts);
     let cleared = edits::unless_refused(refusal, waiting.len() as u64);
     table::clear(waiting, cleared);
-    replies::open_reply(head, submitted, served, dropped, refusal, clients, period)
+    replies::open_reply(head, submitted, served, dropped, refusal, setup)
 }
 
 // What a submit does that is not refused. Where a deadline is overfull, the waiting records up to the last candidate are marked,
@@ -198,6 +199,6 @@ pub fn chart(
     let refusal = refusals::chart_refusal(tables, head, output.len());
     let n = edits::unless_refused(refusal, head.waiting);
     table::deadlines(waiting, output, n);
-    chart::write_starts(output, n);
+    chart::write_starts(head.setup, output, n);
     replies::chart_reply(head, refusal)
 }

@@ -41,7 +41,7 @@ lentFor turn fed = record { records = recordsFor (turn .frame) (fed .session); c
 
 records-most : (frame : Frame) (s : Session) → recordsFor frame s ≤ mostRecords
 unfolding recordsFor
-records-most (Open clients period records) s = up-most mostRecords records
+records-most (Open setup records) s = up-most mostRecords records
 records-most (Submit client deadline) s = up-most mostRecords (s .records)
 records-most Tick s = up-most mostRecords (s .records)
 records-most (Report client) s = up-most mostRecords (s .records)
@@ -50,12 +50,12 @@ records-most Bad s = up-most mostRecords (s .records)
 
 clients-most : (frame : Frame) (s : Session) → clientsFor frame s ≤ mostClients
 unfolding clientsFor
-clients-most (Open clients period records) s = up-most mostClients clients
-clients-most (Submit client deadline) s = up-most mostClients (s .head .clients)
-clients-most Tick s = up-most mostClients (s .head .clients)
-clients-most (Report client) s = up-most mostClients (s .head .clients)
-clients-most Chart s = up-most mostClients (s .head .clients)
-clients-most Bad s = up-most mostClients (s .head .clients)
+clients-most (Open setup records) s = up-most mostClients (setup .clients)
+clients-most (Submit client deadline) s = up-most mostClients (s .head .setup .clients)
+clients-most Tick s = up-most mostClients (s .head .setup .clients)
+clients-most (Report client) s = up-most mostClients (s .head .setup .clients)
+clients-most Chart s = up-most mostClients (s .head .setup .clients)
+clients-most Bad s = up-most mostClients (s .head .setup .clients)
 
 module _ (input : List ℕ) (fed : Fed) (ws : List Request) (su se dr st out : List ℕ) (turn : Turn) (goes : turn .ends ≡ false)
     (next : Next input fed (canWith fed ws su se dr st out) turn) (l : Lent) (lends : l ≡ lentFor turn fed) where
@@ -84,7 +84,7 @@ module _ (input : List ℕ) (fed : Fed) (ws : List Request) (su se dr st out : L
     -- the reply can be written, and once it is, the turn is done
     pub turn-goes : ((fed .put + mostBytes ≤ length out) × CanDraw (a .answer) st′)
         × ((out′ : List ℕ) (put : ℕ) (r : Fed)
-        → (fed .put ≤ put) × (put ≤ fed .put + mostBytes) × (take put out′ ≡ take (fed .put) out ++ replyBytes (a .answer) st′)
+        → (fed .put ≤ put) × (put ≤ fed .put + mostBytes) × (take put out′ ≡ take (fed .put) out ++ replyBytes (a .head .setup) (a .answer) st′)
         → r ≡ answered fed turn a put
         → Stepped input fed ws su se dr st out r (zs ++ drop (l .records) ws) (us ++ drop (l .clients) su) (vs ++ drop (l .clients) se)
         (ds ++ drop (l .clients) dr) out′)

@@ -140,7 +140,7 @@ pub answers : {input : List ℕ} {fed : Fed} {ws : List Request} {submitted serv
     → turn .ends ≡ false → Next input fed (canWith fed ws submitted served dropped starts out) turn
     → Replied (turn .frame) (fed .session) ws submitted served dropped starts a zs us vs ds starts′
     → (fed .put ≤ put) × (put ≤ fed .put + mostBytes)
-    × (take put out′ ≡ take (fed .put) out ++ replyBytes (a .answer) starts′)
+    × (take put out′ ≡ take (fed .put) out ++ replyBytes (a .head .setup) (a .answer) starts′)
     → r ≡ answered fed turn a put
     → Stepped input fed ws submitted served dropped starts out r
     (zs ++ drop (recordsFor (turn .frame) (fed .session)) ws)

@@ -13,7 +13,7 @@ use Rattle.queue.specs.Gives.{Gives}
 
 -- what the call gives that a frame asks for, where the chart's output is starts; no call is made for a line that is no frame
 unfoldable pub outcomeFor : Frame → List ℕ → State → Outcome
-outcomeFor (Open clients period records) starts s = openOf clients period s
+outcomeFor (Open setup records) starts s = openOf setup s
 outcomeFor (Submit client deadline) starts s = submitOf client deadline s
 outcomeFor Tick starts s = tickOf s
 outcomeFor (Report client) starts s = reportOf client s
@@ -22,7 +22,7 @@ outcomeFor Bad starts s = record { answer = Refused 1; after = s }
 
 -- the chart's output after it
 unfoldable pub startsFor : Frame → List ℕ → State → List ℕ
-startsFor (Open clients period records) starts s = starts
+startsFor (Open setup records) starts s = starts
 startsFor (Submit client deadline) starts s = starts
 startsFor Tick starts s = starts
 startsFor (Report client) starts s = starts

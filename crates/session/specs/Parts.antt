@@ -6,13 +6,14 @@ use mathlib.Core.List.{List, [], _++_}
 use mathlib.Core.Path.{_≡_}
 use lib.ListN.{length, take, drop}
 use Rattle.spec.specs.declared.types.Request.{Request}
+use Rattle.spec.specs.Tables.{zeroSetup, openHead}
 use Rattle.session.specs.declared.types.Session.{Session}
 use Rattle.session.specs.declared.types.Fed.{Fed}
 use Rattle.session.specs.Feeding.{FedBy}
 
 -- where a session begins
 abbrev pub atStart : Session
-atStart = record { head = record { clients = 0; period = 0; clock = 0; last = 0; waiting = 0 }; records = 0; skip = false }
+atStart = record { head = openHead zeroSetup; records = 0; skip = false }
 
 -- what the caller of `feed` has: where the session stands, and the tables that it lends
 pub record Lent : Type 0 where

@@ -22,12 +22,12 @@ use Rattle.session.specs.declared.types.Session.{Session}
 abbrev pub heldIn : Session → List Request → List ℕ → List ℕ → List ℕ → State
 heldIn s ws submitted served dropped =
     stateOf (s .head) (take (s .records) ws)
-    (take (s .head .clients) submitted) (take (s .head .clients) served) (take (s .head .clients) dropped)
+    (take (s .head .setup .clients) submitted) (take (s .head .setup .clients) served) (take (s .head .setup .clients) dropped)
 
 -- whether tables of these lengths will do for the session and for every later open
 unfoldable pub doFit : Session → ℕ → ℕ → ℕ → ℕ → ℕ → Bool
 doFit s waiting submitted served dropped starts =
-    (leb (s .records) mostRecords && leb (s .head .clients) mostClients)
+    (leb (s .records) mostRecords && leb (s .head .setup .clients) mostClients)
     && ((leb mostRecords waiting && leb mostRecords starts)
     && (leb mostClients submitted && (leb mostClients served && leb mostClients dropped)))
 
@@ -37,7 +37,7 @@ upTo most n = cond (leb n most) n 0
 
 -- how many waiting records, and how many client records, are lent to the call that a frame asks for
 unfoldable pub recordsFor : Frame → Session → ℕ
-recordsFor (Open clients period records) s = upTo mostRecords records
+recordsFor (Open setup records) s = upTo mostRecords records
 recordsFor (Submit client deadline) s = upTo mostRecords (s .records)
 recordsFor Tick s = upTo mostRecords (s .records)
 recordsFor (Report client) s = upTo mostRecords (s .records)
@@ -45,16 +45,16 @@ recordsFor Chart s = upTo mostRecords (s .records)
 recordsFor Bad s = upTo mostRecords (s .records)
 
 unfoldable pub clientsFor : Frame → Session → ℕ
-clientsFor (Open clients period records) s = upTo mostClients clients
-clientsFor (Submit client deadline) s = upTo mostClients (s .head .clients)
-clientsFor Tick s = upTo mostClients (s .head .clients)
-clientsFor (Report client) s = upTo mostClients (s .head .clients)
-clientsFor Chart s = upTo mostClients (s .head .clients)
-clientsFor Bad s = upTo mostClients (s .head .clients)
+clientsFor (Open setup records) s = upTo mostClients (setup .clients)
+clientsFor (Submit client deadline) s = upTo mostClients (s .head .setup .clients)
+clientsFor Tick s = upTo mostClients (s .head .setup .clients)
+clientsFor (Report client) s = upTo mostClients (s .head .setup .clients)
+clientsFor Chart s = upTo mostClients (s .head .setup .clients)
+clientsFor Bad s = upTo mostClients (s .head .setup .clients)
 
 -- how many waiting records are in use after a frame got its answer: those that an accepted open names
 unfoldable pub recordsAfter : Frame → Answer → ℕ → ℕ
-recordsAfter (Open clients period records) a before = cond (isRefused a) before records
+recordsAfter (Open setup records) a before = cond (isRefused a) before records
 recordsAfter (Submit client deadline) a before = before
 recordsAfter Tick a before = before
 recordsAfter (Report client) a before = before

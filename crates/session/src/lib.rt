@@ -33,12 +33,8 @@ fn answer(
         r (now (waiting .exit)) (now (submitted .exit)) (now (served .exit)) (now (dropped .exit)) (now (starts .exit)) ⌝ }
 {
     match frame {
-        Frame::Open {
-            clients,
-            period,
-            records: _,
-        } => {
-            return queue::open(head, waiting, submitted, served, dropped, clients, period);
+        Frame::Open { setup, records: _ } => {
+            return queue::open(head, waiting, submitted, served, dropped, setup);
         }
         Frame::Submit { client, deadline } => {
             return queue::submit(head, waiting, submitted, served, dropped, client, deadline);

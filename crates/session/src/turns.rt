@@ -13,6 +13,7 @@ use spec::bounds::MOST_RECORDS;
 use spec::types::Answer;
 use spec::types::Frame;
 use spec::types::Head;
+use spec::types::Setup;
 ghost use mathlib.Core.Bool.{true, false};
 ghost use mathlib.Core.List.{_++_};
 ghost use mathlib.Core.Path.{_≡_};
@@ -33,8 +34,10 @@ pub fn start() -> Session
 {
     Session {
         head: Head {
-            clients: 0,
-            period: 0,
+            setup: Setup {
+                clients: 0,
+                period: 0,
+            },
             clock: 0,
             last: 0,
             waiting: 0,
@@ -68,7 +71,7 @@ fn fit(
 ) -> bool
     ensures { λ r. ⌜ r ≡ doFit session waiting submitted served dropped starts ⌝ }
 {
-    ((session.records <= MOST_RECORDS as u64) & (session.head.clients <= MOST_CLIENTS as u64))
+    ((session.records <= MOST_RECORDS as u64) & (session.head.setup.clients <= MOST_CLIENTS as u64))
         & (((MOST_RECORDS <= waiting) & (MOST_RECORDS <= starts))
             & ((MOST_CLIENTS <= submitted)
                 & ((MOST_CLIENTS <= served) & (MOST_CLIENTS <= dropped))))
@@ -198,17 +201,13 @@ pub(crate) fn lent(fed: Fed, turn: Turn) -> Lent
 {
     let frame = turn.frame;
     match frame {
-        Frame::Open {
-            clients,
-            period: _,
-            records,
-        } => Lent {
+        Frame::Open { setup, records } => Lent {
             records: up_to(MOST_RECORDS as u64, records),
-            clients: up_to(MOST_CLIENTS as u64, clients),
+            clients: up_to(MOST_CLIENTS as u64, setup.clients),
         },
         _ => Lent {
             records: up_to(MOST_RECORDS as u64, fed.session.records),
-            clients: up_to(MOST_CLIENTS as u64, fed.session.head.clients),
+            clients: up_to(MOST_CLIENTS as u64, fed.session.head.setup.clients),
         },
     }
 }
@@ -239,10 +238,11 @@ pub(crate) fn no_frame(head: Head) -> Reply
 pub(crate) fn put_reply(out: &mut [u8], fed: Fed, reply: Reply, starts: &[u64]) -> usize
     requires { ⌜ (fed .put + mostBytes ≤ length (now out)) × CanDraw (reply .answer) (now starts) ⌝ }
     ensures { λ r. ⌜ (fed .put ≤ r) × (r ≤ fed .put + mostBytes)
-        × (take r (now (out .exit)) ≡ take (fed .put) (now (out .entry)) ++ replyBytes (reply .answer) (now (starts .entry))) ⌝ }
+        × (take r (now (out .exit)) ≡ take (fed .put) (now (out .entry)) ++ replyBytes (reply .head .setup) (reply .answer) (now (starts .entry))) ⌝ }
 {
     let answer = reply.answer;
-    answers::put_reply(out, fed.put, answer, starts)
+    let setup = reply.head.setup;
+    answers::put_reply(setup, out, fed.put, answer, starts)
 }
 
 fn is_refused(answer: Answer) -> bool
@@ -259,11 +259,7 @@ fn records_after(frame: Frame, answer: Answer, before: u64) -> u64
     ensures { λ r. ⌜ r ≡ recordsAfter frame answer before ⌝ }
 {
     match frame {
-        Frame::Open {
-            clients: _,
-            period: _,
-            records,
-        } => { if is_refused(answer) { before } else { records } }
+        Frame::Open { setup: _, records } => { if is_refused(answer) { before } else { records } }
         _ => before,
     }
 }

@@ -38,22 +38,22 @@ module _ (head : Head) (ws : List Request) (su se dr : List ℕ) where
     pub next-asked : Bounded head (head .waiting) × (head .waiting ≤ length ws) × Countable (head .waiting) (replicate tallySize 0)
     next-asked =
         let few : head .waiting ≤ mostRecords = omega (arith, shaped .waits, shaped .most-records) in (
-          record { clients = headed .most-clients; clock = headed .clock; records = few },
+          record { clients = headed .setup .most-clients; clock = headed .clock; records = few },
           shaped .waits,
           zero-countable (head .waiting) (omega arith),
         )
 
     pub balanced-asked : (tally : List ℕ) → length tally ≡ tallySize
-        → (head .clients ≤ length su) × (head .clients ≤ length se) × (head .clients ≤ length dr) × (head .clients ≤ mostClients)
+        → (head .setup .clients ≤ length su) × (head .setup .clients ≤ length se) × (head .setup .clients ≤ length dr) × (head .setup .clients ≤ mostClients)
         × (length tally ≡ tallySize)
     balanced-asked tally e =
-        let q = rows-reach countOf su se dr (head .clients) (omega (arith, shaped .clients)) in
-        (q .0, q .1, q .2, headed .most-clients, e)
+        let q = rows-reach countOf su se dr (head .setup .clients) (omega (arith, shaped .clients)) in
+        (q .0, q .1, q .2, headed .setup .most-clients, e)
 
     pub contents-told : (tally : List ℕ) (next zero balanced : Bool) (r : ℕ)
         → Passed head (take (head .waiting) ws) (replicate tallySize 0) next tally
         → zero ≡ every isZeroRequest (drop (head .waiting) ws)
-        → balanced ≡ everyFrom (λ c k. doesBalance k (talliedOf tally c)) 0 (take (head .clients) (countsOf su se dr))
+        → balanced ≡ everyFrom (λ c k. doesBalance k (talliedOf tally c)) 0 (take (head .setup .clients) (countsOf su se dr))
         → r ≡ cond (next && (zero && balanced)) 0 5
         → r ≡ tablesRefusal s
     contents-told tally next zero balanced r n z b v =

@@ -10,7 +10,7 @@ use lib.ListN.{length, take, replicate}
 use Rattle.spec.specs.Every.{every, everyFrom}
 use Rattle.spec.specs.Tables.{State, waiting, behind}
 use Rattle.spec.specs.Sound.{isHeadWithin, isZeroRequest, isSound}
-use Rattle.spec.specs.Refusals.{firstMatch}
+use Rattle.spec.specs.Setup.{firstMatch}
 use Rattle.spec.proofs.Laws.Every.{Value, is-true, is-false, value}
 use Rattle.spec.proofs.Laws.Sound.{head-facts}
 use Rattle.sound.specs.Checks.{talliedOf, tallySize, doesBalance, Passed, tablesRefusal, headRefusal}
@@ -25,11 +25,11 @@ module _ (s : State) (shaped : shapeOf s ≡ true) (headed : isHeadWithin (s .he
   pub found-sound : (tally : List ℕ) (next zero balanced : Bool)
       → Passed (s .head) (waiting s) (replicate tallySize 0) next tally
       → zero ≡ every isZeroRequest (behind s)
-      → balanced ≡ everyFrom (λ c k. doesBalance k (talliedOf tally c)) 0 (take (s .head .clients) (s .clientTable))
+      → balanced ≡ everyFrom (λ c k. doesBalance k (talliedOf tally c)) 0 (take (s .head .setup .clients) (s .clientTable))
       → (next && (zero && balanced)) ≡ isSound s
   found-sound tally true zero balanced p z b =
-      let q = b ∙ balanced-tally (waiting s) tally (s .head .clients) (s .clientTable) (p .tallied refl)
-      (shape-facts s shaped .clients) (head-facts (s .head) headed .most-clients) in
+      let q = b ∙ balanced-tally (waiting s) tally (s .head .setup .clients) (s .clientTable) (p .tallied refl)
+      (shape-facts s shaped .clients) (head-facts (s .head) headed .setup .most-clients) in
       rw (sound-pass s, headed, sym (p .verdict), z, q)
   found-sound tally false zero balanced p z b = rw (sound-pass s, headed, sym (p .verdict))
 

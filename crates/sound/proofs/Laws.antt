@@ -37,7 +37,7 @@ use Rattle.sound.proofs.Tally.{tally-zero}
 pub room-past : (head : Head) (i deadline : ℕ) → i < roomTo head deadline → head .clock < deadline
 room-past head i deadline h =
     elim (order deadline (head .clock)) [
-      | le g ↦ absurd (omega (arith, room-back head (head .clock) deadline g))
+      | le g ↦ absurd (omega (arith, room-back (head .setup) (head .clock) deadline g))
       | gt g ↦ g
     ]
 
@@ -70,22 +70,22 @@ module _ (a b : Request) where
 pub next-order : (head : Head) (i : ℕ) (before w : Request)
     → 1 ≤ w .number
     → w .number ≤ head .last
-    → w .client < head .clients
+    → w .client < head .setup .clients
     → ltb i (roomTo head (w .deadline)) ≡ true
     → isNext head i before w ≡ comesBefore before w
 unfolding isNext
 next-order head i before w some most owned room =
     rw (
       within-test 1 (head .last) (w .number) some most,
-      lt-ltb (w .client) (head .clients) owned,
+      lt-ltb (w .client) (head .setup .clients) owned,
       room,
     )
 
 -- ---- a record that may stand where it does has a client that exists
-pub next-client : (head : Head) (i : ℕ) (before w : Request) → isNext head i before w ≡ true → w .client < head .clients
+pub next-client : (head : Head) (i : ℕ) (before w : Request) → isNext head i before w ≡ true → w .client < head .setup .clients
 unfolding isNext
 next-client head i before w e =
-    let p = simp and-eq-true-iff at e in ltb-true (w .client) (head .clients) (p .0 .0 .1)
+    let p = simp and-eq-true-iff at e in ltb-true (w .client) (head .setup .clients) (p .0 .0 .1)
 
 -- ---- each column reaches as far as the rows do
 pub rows-reach : {A : Type 0} (f : ℕ → ℕ → ℕ → A) (xs ys zs : List ℕ) (n : ℕ) → n ≤ length (rowsOf f xs ys zs)
@@ -202,7 +202,7 @@ shape-facts s e =
     record {
       some-records = leb-true 1 (length (s .waitingTable)) (p .0 .0 .0);
       most-records = leb-true (length (s .waitingTable)) mostRecords (p .0 .0 .1);
-      clients = eqb-true (length (s .clientTable)) (s .head .clients) (p .0 .1);
+      clients = eqb-true (length (s .clientTable)) (s .head .setup .clients) (p .0 .1);
       waits = leb-true (s .head .waiting) (length (s .waitingTable)) (p .1);
     }
 
@@ -217,7 +217,7 @@ ltb-not a b = go (value (leb b a))
 pub shape-refused : (s : State) → refusal4 s .holds ≡ not (shapeOf s)
 unfolding hasShape
 shape-refused s =
-    go (isWithin 1 mostRecords (length (s .waitingTable))) (eqb (length (s .clientTable)) (s .head .clients))
+    go (isWithin 1 mostRecords (length (s .waitingTable))) (eqb (length (s .clientTable)) (s .head .setup .clients))
     (leb (s .head .waiting) (length (s .waitingTable))) (ltb-not (length (s .waitingTable)) (s .head .waiting))
   where
     go : (a b c : Bool) {l : Bool} → l ≡ not c → (not a || not b || l) ≡ not (a && b && c)

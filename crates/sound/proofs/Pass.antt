@@ -33,7 +33,7 @@ record Found (head : Head) (i : ℕ) (before : Request) (ws : List Request) : Ty
   pub ordered : isInOrder (before ∷ ws) ≡ true
   pub ahead : every (λ w. isAhead (head .clock) (w .deadline)) ws ≡ true
   pub given : every (λ w. isGiven (head .last) (w .number)) ws ≡ true
-  pub owned : every (λ w. isClient (head .clients) (w .client)) ws ≡ true
+  pub owned : every (λ w. isClient (head .setup .clients) (w .client)) ws ≡ true
   pub roomy : Roomy head i ws
 
 next-facts : (head : Head) (i : ℕ) (before : Request) (ws : List Request) → areNext head i before ws ≡ true
@@ -63,7 +63,7 @@ next-facts head i before (w ∷ ws) e =
           and-both (isGiven (head .last) (w .number)) (every (λ v. isGiven (head .last) (v .number)) ws)
           (and-both (leb 1 (w .number)) (leb (w .number) (head .last)) (q .0 .0 .0 .0) (q .0 .0 .0 .1)) (f .given);
       owned =
-          and-both (isClient (head .clients) (w .client)) (every (λ v. isClient (head .clients) (v .client)) ws)
+          and-both (isClient (head .setup .clients) (w .client)) (every (λ v. isClient (head .setup .clients) (v .client)) ws)
           (q .0 .0 .1) (f .owned);
       roomy = (ltb-true i (roomTo head (w .deadline)) (q .0 .1), f .roomy);
     }
@@ -76,7 +76,7 @@ next-test head i before (w ∷ ws) f =
     let o = and-eq-true-iff (comesBefore before w) (isInOrder (w ∷ ws)) .0 (f .ordered) in
     let a = every-cons (λ (v : Request). isAhead (head .clock) (v .deadline)) w ws (f .ahead) in
     let g = every-cons (λ (v : Request). isGiven (head .last) (v .number)) w ws (f .given) in
-    let c = every-cons (λ (v : Request). isClient (head .clients) (v .client)) w ws (f .owned) in
+    let c = every-cons (λ (v : Request). isClient (head .setup .clients) (v .client)) w ws (f .owned) in
     let r = next-test head (suc i) w ws
     (record {
       near = within-facts (suc (head .clock)) (head .clock + mostAhead) (w .deadline) (a .0) .1;
@@ -106,7 +106,7 @@ passed head ws f =
     (o, roomy-feasible head ws (order-facts ws o) (f .roomy))
 
 passes : (head : Head) (ws : List Request) → isInOrder ws ≡ true → every (λ w. isAhead (head .clock) (w .deadline)) ws ≡ true
-    → every (λ w. isGiven (head .last) (w .number)) ws ≡ true → every (λ w. isClient (head .clients) (w .client)) ws ≡ true
+    → every (λ w. isGiven (head .last) (w .number)) ws ≡ true → every (λ w. isClient (head .setup .clients) (w .client)) ws ≡ true
     → hasNoOverfull head ws ≡ true → Found head 0 zeroRequest ws
 passes head ws o a g c f =
     record {

@@ -24,7 +24,7 @@ use Rattle.sound.proofs.Laws.{next-client}
 use Rattle.sound.proofs.Tally.{counted-more, counted-countable, fewer-countable}
 
 -- ---- one turn
-module _ (head : Head) (few : head .clients ≤ mostClients) (i : ℕ) (before w : Request) where
+module _ (head : Head) (few : head .setup .clients ≤ mostClients) (i : ℕ) (before w : Request) where
   abbrev passes : Standing → Bool
   passes s = s .0 && isNext head i before w
 
@@ -67,7 +67,7 @@ module _ (head : Head) (ys : List Request) where
       turns-join (suc i) j k at all (turn head i (recordBefore ys i) (getD ys i zeroRequest) s) (omega arith) (omega arith)
 
   -- so many more can be counted after them
-  turns-countable : head .clients ≤ mostClients → (i k m all : ℕ) (s : Standing) → all ≡ k + m → Countable all (s .1)
+  turns-countable : head .setup .clients ≤ mostClients → (i k m all : ℕ) (s : Standing) → all ≡ k + m → Countable all (s .1)
       → Countable m (turns head ys i k s .1)
   unfolding turns
   turns-countable few i zero m all s e h = fewer-countable (s .1) all m h (omega arith)
@@ -88,7 +88,7 @@ module _ (head : Head) (ys : List Request) where
       (turns-verdict (suc i) k n (turn head i (recordBefore ys i) w s) (omega arith) l ∙ and-assoc (s .0) _ _)
 
   -- where all have passed, each client has its records counted
-  turns-tallied : head .clients ≤ mostClients → (i k : ℕ) (s : Standing) → i + k ≤ length ys → Countable k (s .1)
+  turns-tallied : head .setup .clients ≤ mostClients → (i k : ℕ) (s : Standing) → i + k ≤ length ys → Countable k (s .1)
       → turns head ys i k s .0 ≡ true → (c : ℕ) → c < mostClients
       → talliedOf (turns head ys i k s .1) c ≡ talliedOf (s .1) c + waitingOf c (take k (drop i ys))
   unfolding turns

@@ -12,20 +12,21 @@ use Rattle.spec.specs.Every.{isWithin}
 use Rattle.spec.specs.Tables.{mostClients, mostRecords, mostAhead, mostCounted, clockEnd, zeroRequest, State}
 use Rattle.spec.specs.Order.{comesBefore}
 use Rattle.spec.specs.Chart.{roomTo}
-use Rattle.spec.specs.Refusals.{firstMatch, refusal4, refusal5}
+use Rattle.spec.specs.Setup.{firstMatch}
+use Rattle.spec.specs.Refusals.{refusal4, refusal5}
 use Rattle.spec.specs.Sound.{isGiven, isClient, isHeadWithin, waitingOf}
 use Rattle.columns.specs.Columns.{largest16}
 
 -- where refusal 4 does not hold: tables of these lengths fit the head
 unfoldable pub hasShape : Head → ℕ → ℕ → Bool
-hasShape head records clients = isWithin 1 mostRecords records && eqb clients (head .clients) && leb (head .waiting) records
+hasShape head records clients = isWithin 1 mostRecords records && eqb clients (head .setup .clients) && leb (head .waiting) records
 
 -- the clauses of soundness that speak of waiting records, but for how far ahead a deadline is (`isNear`), of one record: its
 -- index, the record before it, the record
 unfoldable pub isNext : Head → ℕ → Request → Request → Bool
 isNext head i before w =
     isGiven (head .last) (w .number)
-    && isClient (head .clients) (w .client)
+    && isClient (head .setup .clients) (w .client)
     && ltb i (roomTo head (w .deadline))
     && comesBefore before w
 
@@ -63,7 +64,7 @@ pub record Countable (more : ℕ) (tally : List ℕ) : Type 0 where
 -- ---- the pass over the waiting records, and the one over the clients
 -- what it relies on: bounds of the head, and a number of records that a table can have
 pub record Bounded (head : Head) (n : ℕ) : Type 0 where
-  pub clients : head .clients ≤ mostClients
+  pub clients : head .setup .clients ≤ mostClients
   pub clock : head .clock ≤ clockEnd
   pub records : n ≤ mostRecords
 

@@ -50,7 +50,13 @@ fn contents_refusal(
     let n = head.waiting as usize;
     let next = tables::are_next(waiting, &mut tally, head, n);
     let zero = tables::are_zero(waiting, n);
-    let balanced = tables::are_balanced(&tally, submitted, served, dropped, head.clients as usize);
+    let balanced = tables::are_balanced(
+        &tally,
+        submitted,
+        served,
+        dropped,
+        head.setup.clients as usize,
+    );
     verdict(next, zero, balanced)
 }
 

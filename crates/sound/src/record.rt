@@ -3,10 +3,12 @@ use spec::bounds;
 use spec::types::Counts;
 use spec::types::Head;
 use spec::types::Request;
+use spec::types::Setup;
 ghost use Prim.Native.Nat.{_+_, _≤_};
 ghost use mathlib.Core.Path.{_≡_};
 ghost use mathlib.Core.Bool.{_&&_};
 ghost use Rattle.spec.specs.Tables.{mostRecords, clockEnd};
+ghost use Rattle.spec.specs.Setup.{firstMatch, setupRefusals};
 ghost use Rattle.spec.specs.Order.{comesBefore};
 ghost use Rattle.spec.specs.Sound.{isHeadWithin, isZeroRequest};
 ghost use Rattle.sound.specs.Checks.{hasShape, isNext, isNear, doesBalance};
@@ -34,7 +36,7 @@ pub(crate) fn is_next(head: Head, i: u64, before: Request, w: Request) -> bool
     if head.last < w.number {
         return false;
     }
-    if head.clients <= w.client {
+    if head.setup.clients <= w.client {
         return false;
     }
     if !columns::rows::has_room(head, i, w.deadline) {
@@ -80,12 +82,24 @@ pub(crate) fn does_balance(k: Counts, a: u16, b: u16, c: u16, d: u16) -> bool
             & (k.dropped <= bounds::MOST_COUNTED))
 }
 
+// The number of the first refusal of a setup that matches, 0 where none does.
+pub fn setup_refusal(setup: Setup) -> u64
+    ensures { λ r. ⌜ r ≡ firstMatch (setupRefusals setup) ⌝ }
+{
+    if !((1 <= setup.clients) & (setup.clients <= bounds::MOST_CLIENTS as u64)) {
+        return 2;
+    }
+    if !((1 <= setup.period) & (setup.period <= bounds::MOST_PERIOD)) {
+        return 3;
+    }
+    0
+}
+
 // Whether the head is within its bounds.
 pub(crate) fn is_head_within(head: Head) -> bool
     ensures { λ r. ⌜ r ≡ isHeadWithin head ⌝ }
 {
-    ((1 <= head.clients) & (head.clients <= bounds::MOST_CLIENTS as u64))
-        & ((1 <= head.period) & (head.period <= bounds::MOST_PERIOD))
+    (setup_refusal(head.setup) == 0)
         & (head.clock <= bounds::CLOCK_END)
         & (head.last <= bounds::NUMBER_END)
 }
@@ -95,6 +109,6 @@ pub(crate) fn has_shape(head: Head, records: usize, clients: usize) -> bool
     ensures { λ r. ⌜ r ≡ hasShape head records clients ⌝ }
 {
     ((1 <= records) & (records <= bounds::MOST_RECORDS))
-        & (clients as u64 == head.clients)
+        & (clients as u64 == head.setup.clients)
         & (head.waiting <= records as u64)
 }

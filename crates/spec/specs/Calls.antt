@@ -5,18 +5,19 @@ use mathlib.Core.Bool.{Bool, cond}
 use mathlib.Core.List.{List, [], _∷_, _++_}
 use lib.Dec.{eqb}
 use lib.ListN.{length, getD, drop, set, replicate}
+use Rattle.spec.specs.declared.types.Setup.{Setup}
 use Rattle.spec.specs.declared.types.Request.{Request}
 use Rattle.spec.specs.declared.types.Counts.{Counts}
 use Rattle.spec.specs.declared.types.Answer.{Answer}
 use Rattle.spec.specs.declared.types.Answer.the-variants.{Opened, Kept, Dropped, Served, Idle, Reported, Charted, Refused}
 use Rattle.spec.specs.Every.{mapFrom}
-use Rattle.spec.specs.Tables.{zeroRequest, zeroCounts, State, waiting, nextState}
+use Rattle.spec.specs.Tables.{zeroRequest, zeroCounts, openHead, State, waiting, nextState}
 use Rattle.spec.specs.Order.{placeOf, putInOrder, removeAt}
 use Rattle.spec.specs.Chart.{startsOf, hasNoOverfull}
 use Rattle.spec.specs.Victim.{victimOf}
 use Rattle.spec.specs.Sound.{waitingOf}
-use Rattle.spec.specs.Refusals.{Refusal, firstMatch, openRefusals, submitRefusals, tickRefusals, reportRefusals}
-use Rattle.spec.specs.Refusals.{chartRefusals}
+use Rattle.spec.specs.Setup.{Refusal, firstMatch}
+use Rattle.spec.specs.Refusals.{openRefusals, submitRefusals, tickRefusals, reportRefusals, chartRefusals}
 
 -- what a call answers, and the state after it
 pub record Outcome : Type 0 where
@@ -44,20 +45,20 @@ change f client cs = set cs client (f (getD cs client zeroCounts))
 
 -- ---- open
 -- "Open takes clients and period, sets clock, last number and waiting count to 0 and every record to zero."
-unfoldable pub openAccepted : ℕ → ℕ → State → Outcome
-openAccepted clients period s =
+unfoldable pub openAccepted : Setup → State → Outcome
+openAccepted setup s =
     record {
       answer = Opened;
       after =
           record {
-            head = record { clients = clients; period = period; clock = 0; last = 0; waiting = 0 };
+            head = openHead setup;
             waitingTable = replicate (length (s .waitingTable)) zeroRequest;
             clientTable = replicate (length (s .clientTable)) zeroCounts;
           };
     }
 
-unfoldable pub openOf : ℕ → ℕ → State → Outcome
-openOf clients period s = unlessRefused (openRefusals clients period s) s (openAccepted clients period s)
+unfoldable pub openOf : Setup → State → Outcome
+openOf setup s = unlessRefused (openRefusals setup s) s (openAccepted setup s)
 
 -- ---- submit
 -- "It gives the next request number"
@@ -125,7 +126,7 @@ countsAfter period clock ws cs = cond (isPeriodStart period clock) (mapFrom (res
 -- the state one slot later, with these requests waiting and these counts before a period start
 abbrev pub oneLater : List Request → List Counts → State → State
 oneLater ws cs s =
-    nextState (suc (s .head .clock)) (s .head .last) ws (countsAfter (s .head .period) (suc (s .head .clock)) ws cs) s
+    nextState (suc (s .head .clock)) (s .head .last) ws (countsAfter (s .head .setup .period) (suc (s .head .clock)) ws cs) s
 
 -- "Tick serves the first waiting record in the slot that starts at the clock, takes it out, and adds 1 to that client's served;
 -- with none waiting it answers idle."
@@ -167,5 +168,5 @@ chartOf output s = unlessRefused (chartRefusals output s) s (chartAccepted s)
 unfoldable pub chartOutput : List ℕ → State → List ℕ
 chartOutput output s =
     cond (eqb (firstMatch (chartRefusals output s)) 0)
-    (startsOf (waiting s) ++ drop (length (startsOf (waiting s))) output)
+    (startsOf (s .head .setup) (waiting s) ++ drop (length (startsOf (s .head .setup) (waiting s))) output)
     output

@@ -3,6 +3,7 @@ use Prim.Native.Nat.{ℕ, suc, _-_, min}
 use mathlib.Core.Bool.{Bool, not, cond}
 use mathlib.Core.List.{List, [], _∷_}
 use lib.Dec.{leb, ltb, eqb}
+use Rattle.spec.specs.declared.types.Setup.{Setup}
 use Rattle.spec.specs.declared.types.Head.{Head}
 use Rattle.spec.specs.declared.types.Request.{Request}
 use Rattle.spec.specs.Every.{every, countIf}
@@ -13,13 +14,13 @@ endOf w [] = w .deadline
 endOf w (start ∷ later) = min (w .deadline) start
 
 -- ".. and starts one slot earlier."
-abbrev pub startBefore : Request → List ℕ → List ℕ
-startBefore w later = (endOf w later - 1) ∷ later
+abbrev pub startBefore : Setup → Request → List ℕ → List ℕ
+startBefore setup w later = (endOf w later - 1) ∷ later
 
 -- "From the last record to the first": the start slots, in chart order
-unfoldable pub startsOf : List Request → List ℕ
-startsOf [] = []
-startsOf (w ∷ ws) = startBefore w (startsOf ws)
+unfoldable pub startsOf : Setup → List Request → List ℕ
+startsOf setup [] = []
+startsOf setup (w ∷ ws) = startBefore setup w (startsOf setup ws)
 
 -- "Segments are the longest runs of touching intervals, given as [left, right]."
 pub record Segment : Type 0 where
@@ -27,32 +28,32 @@ pub record Segment : Type 0 where
   pub right : ℕ
 
 -- an interval that ends at `end` touches one that starts at `start`
-abbrev pub doTouch : ℕ → ℕ → Bool
-doTouch end start = eqb end start
+abbrev pub doTouch : Setup → ℕ → ℕ → Bool
+doTouch setup end start = eqb end start
 
 -- the segments with the interval of one more start slot, on their left
-abbrev pub joinLeft : ℕ → List Segment → List Segment
-joinLeft s [] = record { left = s; right = suc s } ∷ []
-joinLeft s (g ∷ gs) =
-    cond (doTouch (suc s) (g .left))
+abbrev pub joinLeft : Setup → ℕ → List Segment → List Segment
+joinLeft setup s [] = record { left = s; right = suc s } ∷ []
+joinLeft setup s (g ∷ gs) =
+    cond (doTouch setup (suc s) (g .left))
     (record { left = s; right = g .right } ∷ gs)
     (record { left = s; right = suc s } ∷ g ∷ gs)
 
-unfoldable pub segmentsOf : List ℕ → List Segment
-segmentsOf [] = []
-segmentsOf (s ∷ starts) = joinLeft s (segmentsOf starts)
+unfoldable pub segmentsOf : Setup → List ℕ → List Segment
+segmentsOf setup [] = []
+segmentsOf setup (s ∷ starts) = joinLeft setup s (segmentsOf setup starts)
 
 -- "serves one in each slot": how many requests a slot can take
-unfoldable pub capacityOf : Head → ℕ → ℕ
-capacityOf head slot = 1
+unfoldable pub capacityOf : Setup → ℕ → ℕ
+capacityOf setup slot = 1
 
 -- how many requests the slots a, a + 1, .. b - 1 can take
-unfoldable pub room : Head → ℕ → ℕ → ℕ
-room head a b = b - a
+unfoldable pub room : Setup → ℕ → ℕ → ℕ
+room setup a b = b - a
 
 -- "D minus the clock"
 abbrev pub roomTo : Head → ℕ → ℕ
-roomTo head D = room head (head .clock) D
+roomTo head D = room (head .setup) (head .clock) D
 
 -- how many requests have deadlines at most D
 unfoldable pub dueBy : ℕ → List Request → ℕ

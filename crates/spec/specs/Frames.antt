@@ -53,7 +53,7 @@ isKind kind bytes k n = eqb k kind && eqb n (2 * bytes)
 -- client (2); 05 chart." "an unknown kind, a wrong length": k is the kind byte, n the number of digits
 unfoldable pub frameWith : ℕ → ℕ → List ℕ → Frame
 frameWith k n line =
-    cond (isKind 0x01 9 k n) (Open (fieldAt 1 2 line) (fieldAt 3 4 line) (fieldAt 7 2 line))
+    cond (isKind 0x01 9 k n) (Open (record { clients = fieldAt 1 2 line; period = fieldAt 3 4 line }) (fieldAt 7 2 line))
     (cond (isKind 0x02 11 k n) (Submit (fieldAt 1 2 line) (fieldAt 3 8 line))
     (cond (isKind 0x03 1 k n) Tick
     (cond (isKind 0x04 3 k n) (Report (fieldAt 1 2 line))

@@ -9,4 +9,5 @@ pub mod Calls
 pub mod Lists
 pub mod Frames
 pub mod Session
+pub mod Setup
 pub mod Printed

@@ -7,6 +7,7 @@ use mathlib.Core.Bool.{Bool, true, false, not, cond, _&&_, _||_}
 use mathlib.Core.List.{List, [], _∷_, _++_, map}
 use lib.Dec.{eqb}
 use Rattle.slots.specs.Plan.{Window, Slot, none, at}
+use Rattle.spec.specs.declared.types.Setup.{Setup}
 use Rattle.spec.specs.declared.types.Request.{Request}
 use Rattle.spec.specs.declared.types.Counts.{Counts}
 use Rattle.spec.specs.declared.types.Answer.{Answer}
@@ -19,14 +20,14 @@ use Rattle.spec.specs.Calls.{Outcome, openOf, submitOf, tickOf, reportOf
 -- "Arguments in the list are free; a chart's output is a table apart from the queue's." An open in the list gets the tables that
 -- the list's other calls get
 pub data Call : Type 0 where
-  opening : ℕ → ℕ → Call
+  opening : Setup → Call
   submit : ℕ → ℕ → Call
   tick : Call
   report : ℕ → Call
   chart : List ℕ → Call
 
 unfoldable pub outcomeOf : Call → State → Outcome
-outcomeOf (opening clients period) s = openOf clients period s
+outcomeOf (opening setup) s = openOf setup s
 outcomeOf (submit client deadline) s = submitOf client deadline s
 outcomeOf tick s = tickOf s
 outcomeOf (report client) s = reportOf client s
@@ -112,14 +113,14 @@ victimBy (Refused number) = []
 -- ---- what a list says
 -- whether a call is a tick, or an open
 abbrev pub isTickCall : Call → Bool
-isTickCall (opening clients period) = false
+isTickCall (opening setup) = false
 isTickCall (submit client deadline) = false
 isTickCall tick = true
 isTickCall (report client) = false
 isTickCall (chart output) = false
 
 abbrev pub isOpenCall : Call → Bool
-isOpenCall (opening clients period) = true
+isOpenCall (opening setup) = true
 isOpenCall (submit client deadline) = false
 isOpenCall tick = false
 isOpenCall (report client) = false
@@ -147,7 +148,7 @@ askedAs client deadline number clock =
 
 -- "The list's requests are its submits that were not refused, whether answered kept or dropped.": those of one event
 abbrev pub askedBy : Call → Answer → ℕ → List Asked
-askedBy (opening clients period) a clock = []
+askedBy (opening setup) a clock = []
 askedBy (submit client deadline) a clock = cond (isRefused a) [] (askedAs client deadline (newNumber a) clock ∷ [])
 askedBy tick a clock = []
 askedBy (report client) a clock = []
@@ -202,7 +203,7 @@ slotFor [] n = none
 slotFor (b ∷ bs) n = cond (eqb n (b .number)) (at (b .slot)) (slotFor bs n)
 
 abbrev pub ownBookings : List Event → State → List Booking
-ownBookings es s = bookings es ++ chartBookings (waiting s) (startsOf (waiting s))
+ownBookings es s = bookings es ++ chartBookings (waiting s) (startsOf (s .head .setup) (waiting s))
 
 unfoldable pub ownPlan : List Event → State → List Slot
 ownPlan es s = map (λ a. slotFor (ownBookings es s) (a .request .number)) (asked es)

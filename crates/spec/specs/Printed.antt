@@ -5,11 +5,13 @@ use mathlib.Core.Bool.{Bool, true, not, cond}
 use mathlib.Core.List.{List, [], _∷_, _++_, map}
 use mathlib.Core.Path.{_≡_}
 use lib.Dec.{eqb}
+use Rattle.spec.specs.declared.types.Setup.{Setup}
 use Rattle.spec.specs.declared.types.Answer.{Answer}
 use Rattle.spec.specs.declared.types.Answer.the-variants.{Opened, Kept, Dropped, Served, Idle, Reported, Charted, Refused}
 use Rattle.spec.specs.declared.types.Frame.{Frame}
 use Rattle.spec.specs.declared.types.Frame.the-variants.{Open, Submit, Tick, Report, Chart, Bad}
 use Rattle.spec.specs.Every.{select}
+use Rattle.spec.specs.Tables.{zeroSetup}
 use Rattle.spec.specs.Lists.{Call, opening, submit, tick, report, chart, Event, isRefused, isOpened}
 use Rattle.spec.specs.Frames.{fieldAt, frameOf}
 use Rattle.spec.specs.Session.{textOf, blank}
@@ -44,7 +46,7 @@ answersIn lines = map (λ line. answerWith (kindIn line) line) (select isAnswer 
 -- ---- calls and their answers
 -- the call that a frame asks for; a line that is no frame is no call, and stands in no list
 unfoldable pub callsBy : Frame → List Call
-callsBy (Open clients period records) = opening clients period ∷ []
+callsBy (Open setup records) = opening setup ∷ []
 callsBy (Submit client deadline) = submit client deadline ∷ []
 callsBy Tick = tick ∷ []
 callsBy (Report client) = report client ∷ []
@@ -87,14 +89,14 @@ pub data AsPrinted : List Event → List Event → Type 0 where
       {es fs : List Event} (count : ℕ) → AsPrinted es fs
       → AsPrinted es (record { call = chart blank; answer = Charted count } ∷ fs)
 
--- the period that this open set, for the counts
-abbrev pub periodBy : Call → ℕ
-periodBy (opening clients period) = period
-periodBy (submit client deadline) = 0
-periodBy tick = 0
-periodBy (report client) = 0
-periodBy (chart output) = 0
+-- what this open set
+abbrev pub setupBy : Call → Setup
+setupBy (opening setup) = setup
+setupBy (submit client deadline) = zeroSetup
+setupBy tick = zeroSetup
+setupBy (report client) = zeroSetup
+setupBy (chart output) = zeroSetup
 
-unfoldable pub periodSet : List Event → ℕ
-periodSet [] = 0
-periodSet (e ∷ es) = cond (isOpened e) (periodBy (e .call)) (periodSet es)
+unfoldable pub setupIn : List Event → Setup
+setupIn [] = zeroSetup
+setupIn (e ∷ es) = cond (isOpened e) (setupBy (e .call)) (setupIn es)

@@ -1,30 +1,15 @@
--- The refusals, document 01, "Refusals, first match wins". Assumes nothing.
+-- The refusals from 4 on, and each call's list of refusals: document 01, "Refusals, first match wins". Those of a setup, 2 and 3, stand
+-- in `Setup`. Assumes nothing.
 use Prim.Native.Nat.{ℕ}
-use mathlib.Core.Bool.{Bool, not, cond, _||_}
-use mathlib.Core.List.{List, [], _∷_}
+use mathlib.Core.Bool.{Bool, not, _||_}
+use mathlib.Core.List.{List, [], _∷_, _++_}
 use lib.Dec.{ltb, eqb}
 use lib.ListN.{length, getD}
+use Rattle.spec.specs.declared.types.Setup.{Setup}
 use Rattle.spec.specs.Every.{isWithin}
-use Rattle.spec.specs.Tables.{mostClients, mostRecords, mostPeriod, mostCounted, clockEnd, numberEnd, zeroCounts, State}
+use Rattle.spec.specs.Tables.{mostRecords, mostCounted, clockEnd, numberEnd, zeroCounts, State}
+use Rattle.spec.specs.Setup.{Refusal, setupRefusals}
 use Rattle.spec.specs.Sound.{isAhead, isClient, isSound}
-
--- a refusal's number, and whether its condition holds
-pub record Refusal : Type 0 where
-  pub number : ℕ
-  pub holds : Bool
-
--- "first match wins": the number of the first whose condition holds, 0 where none does
-unfoldable pub firstMatch : List Refusal → ℕ
-firstMatch [] = 0
-firstMatch (r ∷ rs) = cond (r .holds) (r .number) (firstMatch rs)
-
--- "2. Open: clients outside 1 to 256."
-abbrev pub refusal2 : ℕ → Refusal
-refusal2 clients = record { number = 2; holds = not (isWithin 1 mostClients clients) }
-
--- "3. Open: period outside its bounds."
-abbrev pub refusal3 : ℕ → Refusal
-refusal3 period = record { number = 3; holds = not (isWithin 1 mostPeriod period) }
 
 -- "4. All calls: the waiting table has no records or more than 2,048, or the client table's length differs from the number of
 -- clients (in open, the number given)."
@@ -38,7 +23,7 @@ refusal4Open clients s = record { number = 4; holds = isMisshapen clients s }
 -- ".. All but open: the waiting count exceeds the waiting table's length."
 abbrev pub refusal4 : State → Refusal
 refusal4 s =
-    record { number = 4; holds = isMisshapen (s .head .clients) s || ltb (length (s .waitingTable)) (s .head .waiting) }
+    record { number = 4; holds = isMisshapen (s .head .setup .clients) s || ltb (length (s .waitingTable)) (s .head .waiting) }
 
 -- "5. All calls but open: the tables are not sound."
 abbrev pub refusal5 : State → Refusal
@@ -46,7 +31,7 @@ refusal5 s = record { number = 5; holds = not (isSound s) }
 
 -- "6. Submit and report: the client does not exist."
 abbrev pub refusal6 : ℕ → State → Refusal
-refusal6 client s = record { number = 6; holds = not (isClient (s .head .clients) client) }
+refusal6 client s = record { number = 6; holds = not (isClient (s .head .setup .clients) client) }
 
 -- "7. Submit: the deadline is not after the clock, or more than 65,535 after it, all slots counted."
 abbrev pub refusal7 : ℕ → State → Refusal
@@ -73,8 +58,8 @@ abbrev pub refusal12 : List ℕ → State → Refusal
 refusal12 output s = record { number = 12; holds = ltb (length output) (s .head .waiting) }
 
 -- each call's list, in the paper's order
-unfoldable pub openRefusals : ℕ → ℕ → State → List Refusal
-openRefusals clients period s = refusal2 clients ∷ refusal3 period ∷ refusal4Open clients s ∷ []
+unfoldable pub openRefusals : Setup → State → List Refusal
+openRefusals setup s = setupRefusals setup ++ (refusal4Open (setup .clients) s ∷ [])
 
 unfoldable pub submitRefusals : ℕ → ℕ → State → List Refusal
 submitRefusals client deadline s =

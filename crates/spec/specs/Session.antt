@@ -8,7 +8,7 @@ use Rattle.spec.specs.declared.types.Answer.{Answer}
 use Rattle.spec.specs.declared.types.Answer.the-variants.{Refused}
 use Rattle.spec.specs.declared.types.Frame.{Frame}
 use Rattle.spec.specs.declared.types.Frame.the-variants.{Open, Submit, Tick, Report, Chart, Bad}
-use Rattle.spec.specs.Tables.{mostRecords, zeroRequest, zeroCounts, State}
+use Rattle.spec.specs.Tables.{mostRecords, zeroSetup, zeroRequest, zeroCounts, openHead, State}
 use Rattle.spec.specs.Chart.{Segment, segmentsOf}
 use Rattle.spec.specs.Calls.{Outcome, openOf, submitOf, tickOf, reportOf, chartOf, chartOutput}
 use Rattle.spec.specs.Lists.{isRefused}
@@ -37,7 +37,7 @@ textOf (b ∷ bs) = read b (textOf bs)
 unfoldable pub atStart : State
 atStart =
     record {
-      head = record { clients = 0; period = 0; clock = 0; last = 0; waiting = 0 };
+      head = openHead zeroSetup;
       waitingTable = [];
       clientTable = [];
     }
@@ -74,13 +74,13 @@ abbrev pub blank : List ℕ
 blank = replicate mostRecords 0
 
 unfoldable pub reply : Frame → State → Reply
-reply (Open clients period records) s = openReply s (openOf clients period (lent clients records s))
+reply (Open setup records) s = openReply s (openOf setup (lent (setup .clients) records s))
 reply (Submit client deadline) s = replyOf (submitOf client deadline s)
 reply Tick s = replyOf (tickOf s)
 reply (Report client) s = replyOf (reportOf client s)
 reply Chart s =
     record {
-      bytes = chartBytes (segmentsOf (take (s .head .waiting) (chartOutput blank s))) (chartOf blank s .answer);
+      bytes = chartBytes (segmentsOf (s .head .setup) (take (s .head .waiting) (chartOutput blank s))) (chartOf blank s .answer);
       after = s;
     }
 reply Bad s = record { bytes = answerLine (Refused 1); after = s }

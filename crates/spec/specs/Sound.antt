@@ -7,16 +7,15 @@ use Rattle.spec.specs.declared.types.Head.{Head}
 use Rattle.spec.specs.declared.types.Request.{Request}
 use Rattle.spec.specs.declared.types.Counts.{Counts}
 use Rattle.spec.specs.Every.{isWithin, every, everyFrom, countIf}
-use Rattle.spec.specs.Tables.{mostClients, mostPeriod, clockEnd, numberEnd, mostAhead, mostCounted, State, waiting}
-use Rattle.spec.specs.Tables.{behind}
+use Rattle.spec.specs.Tables.{clockEnd, numberEnd, mostAhead, mostCounted, State, waiting, behind}
+use Rattle.spec.specs.Setup.{isSetupWithin}
 use Rattle.spec.specs.Order.{isInOrder}
 use Rattle.spec.specs.Chart.{hasNoOverfull}
 
 -- "the head is within these bounds and those of every value document 02 adds to it": so far it adds none
 unfoldable pub isHeadWithin : Head → Bool
 isHeadWithin h =
-    isWithin 1 mostClients (h .clients)
-    && isWithin 1 mostPeriod (h .period)
+    isSetupWithin (h .setup)
     && leb (h .clock) clockEnd
     && leb (h .last) numberEnd
 
@@ -52,7 +51,7 @@ isSound s =
     && isInOrder (waiting s)
     && every (λ w. isAhead (s .head .clock) (w .deadline)) (waiting s)
     && every (λ w. isGiven (s .head .last) (w .number)) (waiting s)
-    && every (λ w. isClient (s .head .clients) (w .client)) (waiting s)
+    && every (λ w. isClient (s .head .setup .clients) (w .client)) (waiting s)
     && hasNoOverfull (s .head) (waiting s)
     && every isZeroRequest (behind s)
     && everyFrom (isBalanced (waiting s)) 0 (s .clientTable)

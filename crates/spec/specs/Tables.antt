@@ -3,6 +3,7 @@
 use Prim.Native.Nat.{ℕ, _-_}
 use mathlib.Core.List.{List, _++_, map}
 use lib.ListN.{length, take, drop, replicate}
+use Rattle.spec.specs.declared.types.Setup.{Setup}
 use Rattle.spec.specs.declared.types.Head.{Head}
 use Rattle.spec.specs.declared.types.Request.{Request}
 use Rattle.spec.specs.declared.types.Counts.{Counts}
@@ -34,12 +35,19 @@ mostPeriod = 4294967295
 abbrev pub mostAhead : ℕ
 mostAhead = 65535
 
--- A record that is zero.
+-- records that are zero
+abbrev pub zeroSetup : Setup
+zeroSetup = record { clients = 0; period = 0 }
+
 abbrev pub zeroRequest : Request
 zeroRequest = record { deadline = 0; number = 0; client = 0 }
 
 abbrev pub zeroCounts : Counts
 zeroCounts = record { submitted = 0; served = 0; dropped = 0 }
+
+-- a head with this setup and nothing else in it: "sets clock, last number and waiting count to 0"
+abbrev pub openHead : Setup → Head
+openHead setup = record { setup = setup; clock = 0; last = 0; waiting = 0 }
 
 -- The head and the two lent tables, whatever they hold.
 pub record State : Type 0 where
@@ -71,8 +79,7 @@ nextState clock last ws cs s =
     record {
       head =
           record {
-            clients = s .head .clients;
-            period = s .head .period;
+            setup = s .head .setup;
             clock = clock;
             last = last;
             waiting = length ws;

@@ -15,10 +15,15 @@ pub struct Counts {
     pub dropped: u32,
 }
 
-// "The head, passed and handed back: clients, period, clock, last request number, waiting count."
-pub struct Head {
+// "Open takes clients and period": what open sets and no other call changes.
+pub struct Setup {
     pub clients: u64,
     pub period: u64,
+}
+
+// "The head, passed and handed back: clients, period, clock, last request number, waiting count."
+pub struct Head {
+    pub setup: Setup,
     pub clock: u64,
     pub last: u64,
     pub waiting: u64,
@@ -61,19 +66,10 @@ pub enum Answer {
 
 // A session line, document 01, "Session lines"; `Bad` is a line that is no frame.
 pub enum Frame {
-    Open {
-        clients: u64,
-        period: u64,
-        records: u64,
-    },
-    Submit {
-        client: u64,
-        deadline: u64,
-    },
+    Open { setup: Setup, records: u64 },
+    Submit { client: u64, deadline: u64 },
     Tick,
-    Report {
-        client: u64,
-    },
+    Report { client: u64 },
     Chart,
     Bad,
 }

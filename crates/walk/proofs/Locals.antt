@@ -2,6 +2,7 @@
 -- `Enter.antt` leaves it: a local's cell is then found by the local's number, which the code has, and no position is written.
 --     back x           where the cell of the local x stands
 --     var, vars, field-var     an operand that is a local, operands that are locals, a field of a local
+--     inner-var        a field of a field of a local
 --     cell-of, revalues        the cell of a local; its value written another way
 --     Stands           the cell of a local, whether it holds something or nothing
 --     sets, sets-last  an assignment to a local, whatever it held
@@ -133,6 +134,14 @@ module _ {M : Type 1} {𝓤 : URA M} {H : Heap 𝓤} {A : Atoms 𝓤} {K : Type 
   field-var t {x} {k} {ν} {τs} {b} {us} {τ} {d} sp e at =
       load t (from t (subst (λ (s : Spot 𝓤 H). Walks K W Γ E s (field k ∷ []) (τ, b, 0 + d)) (sym sp) (fld t at (stop t))))
       (look-in t (back x Γ) (subst (λ (i : Item 𝓤). Part K W i fullShare τ b (0 + d) (getV us k) (λ u. ‵ (fat fullShare (tyStruct ν τs) b 0 (vstruct (setV us k u))))) (sym e) (sub t k at (whole t))))
+
+  -- a field of a struct that is itself a field of one in a local
+  pub inner-var : K → {x j k : ℕ} {ν μ : Sym} {τs σs : Tys} {b : ℕ} {us ws : Vals} {τ : Ty} {c d : ℕ} → spotOf 𝓤 H E x ≡ (tyStruct ν τs, b, 0) → nth 𝓤 H A (back x Γ) Γ ≡ ‵ (fat fullShare (tyStruct ν τs) b 0 (vstruct us)) → fieldAt zero τs j ≡ some (tyStruct μ σs, c)
+      → getV us j ≡ vstruct ws → fieldAt zero σs k ≡ some (τ, d) → Opd K W Γ E (copy (place x (field j ∷ field k ∷ []))) (getV ws k)
+  inner-var t {x} {j} {k} {ν} {μ} {τs} {σs} {b} {us} {ws} {τ} {c} {d} sp e at is inner =
+      load t (from t (subst (λ (s : Spot 𝓤 H). Walks K W Γ E s (field j ∷ field k ∷ []) (τ, b, 0 + c + d)) (sym sp) (fld t at (fld t inner (stop t)))))
+      (look-in t (back x Γ) (subst (λ (i : Item 𝓤). Part K W i fullShare τ b (0 + c + d) (getV ws k) (λ u. ‵ (fat fullShare (tyStruct ν τs) b 0 (vstruct (setV us j (vstruct (setV ws k u))))))) (sym e)
+      (sub t k inner (subst (λ (v : Val). Part K W (‵ (fat fullShare (tyStruct ν τs) b 0 (vstruct us))) fullShare (tyStruct μ σs) b (0 + c) v (λ u. ‵ (fat fullShare (tyStruct ν τs) b 0 (vstruct (setV us j u))))) is (sub t j at (whole t))))))
 
   -- an assignment, whatever the local held; as the last statement of a part
   pub sets-last : K → {C : Calls 𝓤 H} {Λ : Loops 𝓤 H} {q : Post 𝓤 H} {x : ℕ} {rv : RValue} {v : Val} → Rv K W Γ E rv v → Stands H A Γ E x → Fit H A Γ E x v → Step K W (held H A Γ E x v) (prop (post 𝓤 H q next)) Γ (runs C Λ E (assign (place x []) rv) q)

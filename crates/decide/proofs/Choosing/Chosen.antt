@@ -65,9 +65,9 @@ latestBy client deadline s D =
 pub data Chosen (client deadline : ℕ) (s : State) : ℕ → Decision → Type 0 where
   keeps : Chosen client deadline s 0 (Keep (dueBy deadline (waiting s)))
   drops : (D : ℕ) → 0 < D → dueBy deadline (waiting s) ≤ dueBy D (waiting s)
-      → HaveRatios (countsIn client s) (latestBy client deadline s D) (s .head .clients)
+      → HaveRatios (countsIn client s) (latestBy client deadline s D) (s .head .setup .clients)
       → 0 < getD (latestBy client deadline s D) client 0
-      → ((v : ℕ) → Wins (countsIn client s) (latestBy client deadline s D) (s .head .clients) v
+      → ((v : ℕ) → Wins (countsIn client s) (latestBy client deadline s D) (s .head .setup .clients) v
       → v ≡ victimPlace client deadline s)
       → Chosen client deadline s D (Drop (dueBy deadline (waiting s)) (victimPlace client deadline s))
 
@@ -125,10 +125,10 @@ module _ (client deadline : ℕ) (s : State) (r : SubmitReady client deadline s)
       ]
 
   -- each client exists
-  owned : (k : ℕ) → k < length all → getD all k zeroRequest .client < head .clients
+  owned : (k : ℕ) → k < length all → getD all k zeroRequest .client < head .setup .clients
   owned k h =
-      all-at (Owned (head .clients)) all k zeroRequest h
-      (all-put (Owned (head .clients)) (newRequest client deadline s) ws (r .exists) (r .ready .sound .owned))
+      all-at (Owned (head .setup .clients)) all k zeroRequest h
+      (all-put (Owned (head .setup .clients)) (newRequest client deadline s) ws (r .exists) (r .ready .sound .owned))
 
   module _ (D : ℕ) (h : roomTo head D < dueBy D all) (g : (x : ℕ) → x < D → dueBy x all ≤ roomTo head x) where
     abbrev last : ℕ
@@ -209,7 +209,7 @@ module _ (client deadline : ℕ) (s : State) (r : SubmitReady client deadline s)
         ∙ List·getD-map (λ (w : Request). w .client) all k zeroRequest
 
     entry : (k : ℕ) → k ≤ last → getD theirs k 0 % mostClients ≡ getD all k zeroRequest .client
-    entry k l = omega (arith, whose k l, owned k (inside k l), r .ready .sound .headed .most-clients)
+    entry k l = omega (arith, whose k l, owned k (inside k l), r .ready .sound .headed .setup .most-clients)
 
     abbrev latest : List ℕ
     latest = latestOf 1 theirs unmarked
@@ -241,7 +241,7 @@ module _ (client deadline : ℕ) (s : State) (r : SubmitReady client deadline s)
     counts = countsIn client s
 
     -- no ratio has the divisor 0
-    pub countable : HaveRatios counts latest (head .clients)
+    pub countable : HaveRatios counts latest (head .setup .clients)
     countable c l some = go (noted-of c) some
       where
         go : {v : ℕ} → Noted c v → 0 < v → 1 ≤ counts c .submitted
@@ -260,7 +260,7 @@ module _ (client deadline : ℕ) (s : State) (r : SubmitReady client deadline s)
         (length-take-le at (take last (clientsOf ws)) k) in
         omega (arith, subst (λ (c : ℕ). 1 + at ≤ getD latest c 0) (sym (whose at l) ∙ own) (at-least at l))
 
-    pub victim-same : (v : ℕ) → Wins counts latest (head .clients) v → v ≡ victimPlace client deadline s
+    pub victim-same : (v : ℕ) → Wins counts latest (head .setup .clients) v → v ≡ victimPlace client deadline s
     victim-same v w = omega (arith, before-victim, behind-victim)
       where
         p : ℕ
@@ -356,16 +356,16 @@ module _
       HaveRatios counts xs n → (c : ℕ) → c < n → 0 < getD xs c 0 → Wins counts xs n victim
 
   -- it is one among the state's clients
-  of-state : (D victim : ℕ) → latest ≡ latestBy client deadline s D → Choice (countsWith client su se dr) latest (head .clients) victim
-      → Choice (countsIn client s) (latestBy client deadline s D) (s .head .clients) victim
+  of-state : (D victim : ℕ) → latest ≡ latestBy client deadline s D → Choice (countsWith client su se dr) latest (head .setup .clients) victim
+      → Choice (countsIn client s) (latestBy client deadline s D) (s .head .setup .clients) victim
   of-state D victim e w =
       subst (λ (n : ℕ). Choice (countsIn client s) (latestBy client deadline s D) n victim)
-      (ap (λ (h : Head). h .clients) (sym (f .head-same)))
+      (ap (λ (h : Head). h .setup .clients) (sym (f .head-same)))
       (subst (λ (cs : List Counts). Choice (λ c. getD (change oneMoreSubmitted client cs) c zeroCounts)
-      (latestBy client deadline s D) (head .clients) victim) (sym (f .counts-same))
-      (subst (λ (xs : List ℕ). Choice (countsWith client su se dr) xs (head .clients) victim) e w))
+      (latestBy client deadline s D) (head .setup .clients) victim) (sym (f .counts-same))
+      (subst (λ (xs : List ℕ). Choice (countsWith client su se dr) xs (head .setup .clients) victim) e w))
 
-  choice-drops : found ≢ 0 → {victim : ℕ} → Choice (countsWith client su se dr) latest (head .clients) victim
+  choice-drops : found ≢ 0 → {victim : ℕ} → Choice (countsWith client su se dr) latest (head .setup .clients) victim
       → Drop place victim ≡ submitChoice client deadline s
   choice-drops n {victim} w = go what n (f .marked)
     where
@@ -383,11 +383,11 @@ module _
           ap (λ (j : ℕ). Drop j victim) (f .placed) ∙ ap (Drop (dueBy deadline (waiting s))) v
 
   -- the choice by what was found is the submit's
-  pub choice-found : choiceBy (head .clients) (countsWith client su se dr) latest place found ≡ submitChoice client deadline s
+  pub choice-found : choiceBy (head .setup .clients) (countsWith client su se dr) latest place found ≡ submitChoice client deadline s
   choice-found = go (eqb found 0) (same found 0)
     where
       go : (b : Bool) → Same found 0 b
-          → cond b (Keep place) (Drop place (smallestRatioPlace (countsWith client su se dr) latest (head .clients)))
+          → cond b (Keep place) (Drop place (smallestRatioPlace (countsWith client su se dr) latest (head .setup .clients)))
           ≡ submitChoice client deadline s
       go true (same-yes z) = choice-keeps z
-      go false (same-no n) = choice-drops n (place-wins (countsWith client su se dr) latest (head .clients))
+      go false (same-no n) = choice-drops n (place-wins (countsWith client su se dr) latest (head .setup .clients))

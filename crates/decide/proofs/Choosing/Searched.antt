@@ -133,7 +133,7 @@ search-over head D i (w ∷ ws) o h f a =
         → (suc i ≤ roomTo head D → overfullFrom head (suc i) (deadlinesOf ws) ≡ D)
         → cond x (w .deadline) (overfullFrom head (suc i) (deadlinesOf ws)) ≡ D
     go true (holds g) ih = here (omega arith)
-    go false (fails g) ih = ih (omega (arith, room-mono head (head .clock) (w .deadline) D early))
+    go false (fails g) ih = ih (omega (arith, room-mono (head .setup) (head .clock) (w .deadline) D early))
 
 search-none : (head : Head) (i : ℕ) (ws : List Request) → Roomy head i ws → overfullFrom head i (deadlinesOf ws) ≡ 0
 unfolding overfullFrom

@@ -13,7 +13,8 @@ use Rattle.spec.specs.declared.types.Request.{Request}
 use Rattle.spec.specs.Every.{countIf}
 use Rattle.spec.specs.Tables.{mostClients, mostRecords, clockEnd, State, waiting, deadlinesOf, clientsOf}
 use Rattle.spec.specs.Chart.{dueBy}
-use Rattle.spec.specs.Refusals.{firstMatch, submitRefusals}
+use Rattle.spec.specs.Setup.{firstMatch}
+use Rattle.spec.specs.Refusals.{submitRefusals}
 use Rattle.spec.proofs.Laws.Accepted.{SubmitReady, submit-ready}
 use Rattle.columns.specs.Columns.{stateOf, largest32}
 use Rattle.search.specs.Scans.{Sorted, placeBy, candidateCount, overfullFrom, latestOf, putAt}
@@ -46,8 +47,8 @@ module _ (head : Head) (ws : List Request) (su se dr : List ℕ) (client deadlin
   pub clock : head .clock ≤ clockEnd
   clock = ready .ready .sound .headed .clock
 
-  pub clients : head .clients ≤ mostClients
-  clients = ready .ready .sound .headed .most-clients
+  pub clients : head .setup .clients ≤ mostClients
+  clients = ready .ready .sound .headed .setup .most-clients
 
   pub rises : getD su client 0 < largest32
   rises = small ready refl su se dr refl

@@ -9,13 +9,15 @@ use lib.Dec.{eqb}
 use lib.ListN.{length, getD, length-map, List·getD-map}
 use lib.Seq.{ext-getD}
 use Rattle.slots.proofs.Laws.Tests.{Same, same-yes, same-no, same}
+use Rattle.spec.specs.declared.types.Setup.{Setup}
 use Rattle.spec.specs.declared.types.Request.{Request}
 use Rattle.spec.specs.declared.types.Counts.{Counts}
 use Rattle.spec.specs.declared.types.Answer.the-variants as answer
 use Rattle.spec.specs.Every.{mapFrom}
 use Rattle.spec.specs.Tables.{zeroRequest, zeroCounts, State, waiting, nextState}
 use Rattle.spec.specs.Order.{removeAt}
-use Rattle.spec.specs.Refusals.{Refusal, firstMatch, openRefusals, tickRefusals}
+use Rattle.spec.specs.Setup.{Refusal, firstMatch}
+use Rattle.spec.specs.Refusals.{openRefusals, tickRefusals}
 use Rattle.spec.specs.Calls.{Outcome, unlessRefused, change, oneMoreServed, openAccepted, openOf, restarted, countsAfter}
 use Rattle.spec.specs.Calls.{oneLater, tickAccepted, tickOf}
 use Rattle.spec.proofs.Laws.Clients.{length-change, counts-path}
@@ -103,13 +105,13 @@ module _ (rs : List Refusal) (s : State) (o : Outcome) {t : ℕ} (found : t ≡ 
       go false (same-no n) g = answers refl refl g
 
 -- ---- open
-pub open-answers : (clients period : ℕ) (s : State) {refusal : ℕ} {r : Reply} {su se dr su₁ se₁ dr₁ : List ℕ}
-    → refusal ≡ firstMatch (openRefusals clients period s) → s .clientTable ≡ countsOf su se dr
-    → (r ≡ openReply refusal (s .head) clients period) × Holds (openCounts refusal (countsOf su se dr)) su se dr su₁ se₁ dr₁
-    → Answers (openOf clients period s) su se dr r su₁ se₁ dr₁
+pub open-answers : (setup : Setup) (s : State) {refusal : ℕ} {r : Reply} {su se dr su₁ se₁ dr₁ : List ℕ}
+    → refusal ≡ firstMatch (openRefusals setup s) → s .clientTable ≡ countsOf su se dr
+    → (r ≡ openReply refusal (s .head) setup) × Holds (openCounts refusal (countsOf su se dr)) su se dr su₁ se₁ dr₁
+    → Answers (openOf setup s) su se dr r su₁ se₁ dr₁
 unfolding openOf openAccepted
-open-answers clients period s found counts (e, h) =
-    unless-answers (openRefusals clients period s) s (openAccepted clients period s) found
+open-answers setup s found counts (e, h) =
+    unless-answers (openRefusals setup s) s (openAccepted setup s) found
     (λ z g. answers refl refl g) e (rw counts h)
 
 -- ---- tick
@@ -127,9 +129,9 @@ module _ (s : State) (r : TickReady s) where
 
   -- the columns of a table that balances, one slot later
   later-holds : (ws : List Request) (cs : List Counts) {su₀ se₀ dr₀ su se dr su₁ se₁ dr₁ : List ℕ}
-      → Tidy clock (s .head .last) (s .head .clients) ws cs → length cs ≡ length (countsOf su₀ se₀ dr₀)
+      → Tidy clock (s .head .last) (s .head .setup .clients) ws cs → length cs ≡ length (countsOf su₀ se₀ dr₀)
       → Holds cs su₀ se₀ dr₀ su se dr
-      → Holds (restartedAt (s .head .period) (raised clock) (countsOf su se dr)) su se dr su₁ se₁ dr₁
+      → Holds (restartedAt (s .head .setup .period) (raised clock) (countsOf su se dr)) su se dr su₁ se₁ dr₁
       → Holds (oneLater ws cs s .clientTable) su₀ se₀ dr₀ su₁ se₁ dr₁
   unfolding nextState
   later-holds ws cs t e h g =
@@ -137,17 +139,17 @@ module _ (s : State) (r : TickReady s) where
       (rw (
         rises,
         holds-rows h e,
-        restarted-after (s .head .period) (suc clock) (r .ready .sound .headed .some-period) t,
+        restarted-after (s .head .setup .period) (suc clock) (r .ready .sound .headed .setup .some-period) t,
       ) at g)
     where
-      same-length : length (countsAfter (s .head .period) (suc clock) ws cs) ≡ length cs
+      same-length : length (countsAfter (s .head .setup .period) (suc clock) ws cs) ≡ length cs
       same-length =
-          tidy-restart (s .head .period) (suc clock) clock (s .head .last) (s .head .clients) ws cs t .counted
+          tidy-restart (s .head .setup .period) (suc clock) clock (s .head .last) (s .head .setup .clients) ws cs t .counted
           ∙ sym (t .counted)
 
   module _ {su se dr su₁ se₁ dr₁ : List ℕ} (counts : s .clientTable ≡ countsOf su se dr) where
     idle-answers : waiting s ≡ []
-        → Holds (restartedAt (s .head .period) (raised clock) (countsOf su se dr)) su se dr su₁ se₁ dr₁
+        → Holds (restartedAt (s .head .setup .period) (raised clock) (countsOf su se dr)) su se dr su₁ se₁ dr₁
         → Answers (tickAccepted [] s) su se dr
         (record { head = laterHead (s .head) (s .head .waiting); answer = answer.Idle clock }) su₁ se₁ dr₁
     unfolding tickAccepted
@@ -157,7 +159,7 @@ module _ (s : State) (r : TickReady s) where
         (later-holds [] (s .clientTable) (rw e at (tidy s (r .ready))) (ap length counts) (holds-same counts) g)
 
     served-answers : (w : Request) (ws : List Request) → waiting s ≡ w ∷ ws
-        → Holds (restartedAt (s .head .period) (raised clock) (countsOf su (oneAdded (w .client) se) dr))
+        → Holds (restartedAt (s .head .setup .period) (raised clock) (countsOf su (oneAdded (w .client) se) dr))
         su (oneAdded (w .client) se) dr su₁ se₁ dr₁
         → Answers (tickAccepted (w ∷ ws) s) su se dr
         (record {
@@ -170,14 +172,14 @@ module _ (s : State) (r : TickReady s) where
         answers refl
         (later-head ws cs (s .head .waiting - 1) (omega (arith, waiting-length s (r .ready .shape), ap length e)))
         (later-holds ws cs
-        (tidy-remove oneMoreServed ends 0 clock (s .head .last) (s .head .clients) (w ∷ ws) (s .clientTable) (omega arith) all)
+        (tidy-remove oneMoreServed ends 0 clock (s .head .last) (s .head .setup .clients) (w ∷ ws) (s .clientTable) (omega arith) all)
         (length-change oneMoreServed (w .client) (s .clientTable) ∙ ap length counts)
         (holds-counted all (ap length counts) (holds-same counts) second (w .client) (all .owned .0)) g)
       where
         cs : List Counts
         cs = change oneMoreServed (w .client) (s .clientTable)
 
-        all : Tidy clock (s .head .last) (s .head .clients) (w ∷ ws) (s .clientTable)
+        all : Tidy clock (s .head .last) (s .head .setup .clients) (w ∷ ws) (s .clientTable)
         all = rw e at (tidy s (r .ready))
 
         ends : Ends oneMoreServed

@@ -12,7 +12,8 @@ use Rattle.slots.proofs.Laws.Tests.{Test, holds, fails, test, Same, same-yes, s
 use Rattle.spec.specs.declared.types.Request.{Request}
 use Rattle.spec.specs.Tables.{zeroRequest, State, waiting, holding, nextState}
 use Rattle.spec.specs.Order.{placeOf, insertAt, putInOrder, removeAt}
-use Rattle.spec.specs.Refusals.{firstMatch, submitRefusals, tickRefusals}
+use Rattle.spec.specs.Setup.{firstMatch}
+use Rattle.spec.specs.Refusals.{submitRefusals, tickRefusals}
 use Rattle.spec.specs.Calls.{Outcome, newRequest, kept, droppedAt, victimPlace, requestAt, submitOf, tickAccepted, tickOf}
 use Rattle.spec.proofs.Laws.Every.{length-insert, length-remove, remove-insert, getD-insert}
 use Rattle.spec.proofs.Laws.Order.{place-most, length-put}

@@ -13,7 +13,8 @@ use Rattle.spec.specs.declared.types.Answer.the-variants.{Charted, Refused}
 use Rattle.spec.specs.Tables.{zeroRequest, zeroCounts, State, waiting, nextState}
 use Rattle.spec.specs.Order.{placeOf, removeAt}
 use Rattle.spec.specs.Sound.{waitingOf}
-use Rattle.spec.specs.Refusals.{firstMatch, submitRefusals, reportRefusals, chartRefusals}
+use Rattle.spec.specs.Setup.{firstMatch}
+use Rattle.spec.specs.Refusals.{submitRefusals, reportRefusals, chartRefusals}
 use Rattle.spec.specs.Calls.{Outcome, oneMoreSubmitted, newRequest, countedIn, withNew, kept, droppedAt}
 use Rattle.spec.specs.Calls.{victimPlace, requestAt, submitOf}
 use Rattle.spec.specs.Calls.{reportAccepted, reportOf, chartAccepted, chartOf}
@@ -40,8 +41,7 @@ use Rattle.decide.proofs.Replying.Counted.{answers, holds-same, holds-c
 numbered-head : (ws : List Request) (head : Head) (waits : ℕ) → raised (head .last) ≡ suc (head .last) → waits ≡ length ws
     → numberedHead head waits
     ≡ record {
-      clients = head .clients;
-      period = head .period;
+      setup = head .setup;
       clock = head .clock;
       last = suc (head .last);
       waiting = length ws;
@@ -94,7 +94,7 @@ module _ (client deadline : ℕ) (s : State) (ready : SubmitReady client deadlin
         (numbered-head (removeAt k all) (s .head) _ given (as-many k h))
         (holds-counted (tidy-put client deadline s ready)
         (length-change oneMoreSubmitted client (s .clientTable) ∙ ap length counts) counted third _
-        (all-at (Owned (s .head .clients)) all k zeroRequest h (tidy-put client deadline s ready .owned)))
+        (all-at (Owned (s .head .setup .clients)) all k zeroRequest h (tidy-put client deadline s ready .owned)))
 
 -- by the decision, where `gone` is the victim: what is handed back, and what becomes of the two columns
 pub submit-answers : (client deadline : ℕ) (s : State) {gone : Request} {decision : Decision} {r : Reply} {su se dr su₁ dr₁ : List ℕ}

@@ -8,7 +8,8 @@ use Rattle.columns.specs.Columns.{stateOf, largest16}
 use Rattle.decide.proofs.Choosing.Chosen.{choice-found}
 use Rattle.decide.proofs.Choosing.Shown.{waits, few, clock, clients, rises, placed-within, candidates-within, found-all}
 use Rattle.queue.proofs.Values.{DecisionT, a-decision}
-use Rattle.spec.specs.Refusals.{firstMatch, submitRefusals}
+use Rattle.spec.specs.Setup.{firstMatch}
+use Rattle.spec.specs.Refusals.{submitRefusals}
 use Rattle.spec.specs.Tables.{mostRecords}
 use Rattle.spec.specs.declared.types.Request.{Request}
 use Rattle.table.proofs.Heads.{a-head, the-head, waiting-fits}
@@ -106,7 +107,7 @@ module _ {M : Type 1} (𝓤 : URA M) (H : Heap 𝓤) (A : Atoms 𝓤) (W : Given
       sets ! (addr ! (from ! (stop !))) refl (tt, tt) $
       sets ! (agg ! (and-then ! (var ! refl) (and-then ! (lit ! tt) (no-more !)))) refl (tt, (tt, (fit (lit< tt), tt))) $
       -- calls::submit_choice(head, &latest, submitted, served, dropped, client, place, found)
-      calls-for ! 𝓣 (0 ∷ 2 ∷ 3 ∷ 4 ∷ []) (the-head W head head-is ∷ loan (array-shared W u16 256 l₈ tt known₃ (subst (Room u16) (sym long₃) (lit< tt, lit< tt)) long₃) ∷ passed-on W submitted ∷ passed-on W served ∷ passed-on W dropped ∷ number W client (client-is .1) ∷ number W place (place-is .1) ∷ number W found (found-is .1) ∷ []) a-decision (λ c. known-submit-choice) (λ c h. h) (so 𝓤 (subst (λ (k : ℕ). head .clients ≤ k) (sym long₃) (clients head ws su se dr client deadline accepted), rises head ws su se dr client deadline accepted)) refl (λ c. vars ! (refl, (refl, (refl, (refl, (refl, (refl, (refl, (refl, tt))))))))) (λ _. refl) (λ r last₈ told kept₈ r-is.
+      calls-for ! 𝓣 (0 ∷ 2 ∷ 3 ∷ 4 ∷ []) (the-head W head head-is ∷ loan (array-shared W u16 256 l₈ tt known₃ (subst (Room u16) (sym long₃) (lit< tt, lit< tt)) long₃) ∷ passed-on W submitted ∷ passed-on W served ∷ passed-on W dropped ∷ number W client (client-is .1) ∷ number W place (place-is .1) ∷ number W found (found-is .1) ∷ []) a-decision (λ c. known-submit-choice) (λ c h. h) (so 𝓤 (subst (λ (k : ℕ). head .setup .clients ≤ k) (sym long₃) (clients head ws su se dr client deadline accepted), rises head ws su se dr client deadline accepted)) refl (λ c. vars ! (refl, (refl, (refl, (refl, (refl, (refl, (refl, (refl, tt))))))))) (λ _. refl) (λ r last₈ told kept₈ r-is.
       ends-array ! 8 u16 256 l₈ known₃ $ gives ! refl refl $
       leaves (a-decision .val r) r tt tt (made W a-decision r r-is)
       (so 𝓤 (told ∙ choice-found (found-all head ws su se dr client deadline accepted place found due end before placed searched ended chosen fewer known₁ known₂ known₃ marked₁ marked₂ marked₃))))))))))))))

@@ -1,10 +1,10 @@
 -- `queue::chart` meets its contract: a walk of six calls. The deadlines are copied into the output, which then takes their start slots.
 -- Assumes nothing.
 use Rattle.walk.proofs.Prelude.{ℕ, _≤_, refl, sym, _∙_, subst, List, [], _∷_, length, URA, w64, SProp, Memory, Routine, Heap, Tables, Atoms, Fun, tables, Given, _$_, !, of-opd, and-then, no-more, first, u32, u64, tripleOf, id⊢}
-use Rattle.walk.proofs.Prelude.{drop, number, lent, shown, so, Shape, Walk, proved, var, vars, field-var, sets, relends, gives, mut-of, passed-on, made, fit, of-number, of-nothing, taken, calls-for}
+use Rattle.walk.proofs.Prelude.{drop, number, lent, shown, so, Shape, Walk, proved, var, vars, field-var, sets, relends, gives, mut-of, passed-on, made, fit, of-number, of-nothing, taken, given, calls-for}
 use Rattle.spec.specs.declared.types.Request.{Request}
 use Rattle.table.proofs.Rows.{R}
-use Rattle.table.proofs.Heads.{the-head, waiting-fits, a-head}
+use Rattle.table.proofs.Heads.{the-head, waiting-fits, a-head, a-setup, setup-is}
 use Rattle.queue.proofs.Values.{ReplyT, a-reply}
 use Rattle.queue.proofs.Together.{within, chart-gives, output-charted}
 use Rattle.sound.proofs.check.tables_refusal as tables-refusal
@@ -53,12 +53,12 @@ module _ {M : Type 1} (𝓤 : URA M) (H : Heap 𝓤) (A : Atoms 𝓤) (W : Given
       calls-for ! 𝓣 (0 ∷ 4 ∷ []) (passed-on W s₀ ∷ mut-of W s₄ output refl ∷ number W n (n-is .1) ∷ []) of-nothing (λ c. known-deadlines) (λ c h. h) (so 𝓤 (within head ws su se dr output tables refusal n found refuses copied)) refl (λ c. vars ! (refl, (refl, (refl, tt)))) (λ _. refl) (λ u last₄ first kept₄ _.
       let out₁ : List ℕ = last₄ .1 .0 in
       relends ! s₄ refl $
-      -- chart::write_starts(output, n);
-      calls-for ! 𝓣 (4 ∷ []) (mut-of W s₄ (last₄ .1 .0) (kept₄ .1 .0) ∷ number W n (n-is .1) ∷ []) of-nothing (λ c. known-write-starts) (λ c h. h) (so 𝓤 (subst (λ (m : ℕ). n ≤ m) (sym (kept₄ .1 .0)) (within head ws su se dr output tables refusal n found refuses copied .1))) refl (λ c. vars ! (refl, (refl, tt))) (λ _. refl) (λ u last₅ second kept₅ _.
-      let out₂ : List ℕ = last₅ .0 in
+      -- chart::write_starts(head.setup, output, n);
+      calls-for ! 𝓣 (4 ∷ []) (given W a-setup (head .setup) (setup-is head head-is) ∷ mut-of W s₄ (last₄ .1 .0) (kept₄ .1 .0) ∷ number W n (n-is .1) ∷ []) of-nothing (λ c. known-write-starts) (λ c h. h) (so 𝓤 (subst (λ (m : ℕ). n ≤ m) (sym (kept₄ .1 .0)) (within head ws su se dr output tables refusal n found refuses copied .1))) refl (λ c. and-then ! (field-var ! refl refl refl) (vars ! (refl, (refl, tt)))) (λ _. refl) (λ u last₅ second kept₅ _.
+      let out₂ : List ℕ = last₅ .1 .0 in
       -- replies::chart_reply(head, refusal)
       calls-for ! 𝓣 [] (the-head W head head-is ∷ number W refusal (refusal-is .1) ∷ []) a-reply (λ c. known-chart-reply) (λ c h. h) (id⊢ 𝓤 _) refl (λ c. vars ! (refl, (refl, tt))) (λ _. refl) (λ r last₆ told kept₆ r-is.
-      gives ! refl refl $ leaves (a-reply .val r) r (last₅ .0, tt) ((kept₅ .0) ∙ (kept₄ .1 .0), tt) (made W a-reply r r-is) (so 𝓤 (chart-gives head ws su se dr output tables refusal n found refuses copied r told, output-charted head ws su se dr output tables refusal n found refuses copied out₁ out₂ first second))))))))
+      gives ! refl refl $ leaves (a-reply .val r) r (last₅ .1 .0, tt) ((kept₅ .0) ∙ (kept₄ .1 .0), tt) (made W a-reply r r-is) (so 𝓤 (chart-gives head ws su se dr output tables refusal n found refuses copied r told, output-charted head ws su se dr output tables refusal n found refuses copied out₁ out₂ first second))))))))
 
 pub chart-spec : {M : Type 1} → f.Statement.statement M
 unfolding f.Code.routine

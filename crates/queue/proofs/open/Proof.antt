@@ -1,10 +1,10 @@
 -- `queue::open` meets its contract: a walk of five calls.
 -- Assumes nothing.
 use Rattle.walk.proofs.Prelude.{ℕ, refl, List, [], _∷_, length, URA, w64, SProp, Memory, Routine, Heap, Tables, Atoms, Fun, Given, _$_, !, of-opd, u32, tripleOf, id⊢}
-use Rattle.walk.proofs.Prelude.{drop, number, lent, taken, so, Shape, Walk, proved, vars, field-var, sets, relends, gives, mut-of, made, fit, of-number, of-nothing, calls-for, copies}
+use Rattle.walk.proofs.Prelude.{drop, number, lent, taken, so, Shape, Walk, proved, vars, field-var, sets, relends, gives, mut-of, made, fit, of-number, of-nothing, given, calls-for, copies}
 use Rattle.spec.specs.declared.types.Request.{Request}
 use Rattle.table.proofs.Rows.{R}
-use Rattle.table.proofs.Heads.{the-head, a-head}
+use Rattle.table.proofs.Heads.{the-head, a-head, a-setup}
 use Rattle.queue.proofs.Values.{ReplyT, a-reply}
 use Rattle.queue.proofs.Together.{opened, cleared-within}
 use Rattle.columns.proofs.rows.shortest as shortest
@@ -17,7 +17,7 @@ use Rattle.queue.proofs.open as f
 module _ {M : Type 1} (𝓤 : URA M) (H : Heap 𝓤) (A : Atoms 𝓤) (W : Given 𝓤 H A) (mem : Memory → SProp 𝓤) (run : Routine → Fun 𝓤) where
   abbrev shape : Shape W
   shape = record {
-    params = taken a-head ∷ lent R ∷ lent u32 ∷ lent u32 ∷ lent u32 ∷ taken (of-number w64) ∷ taken (of-number w64) ∷ [];
+    params = taken a-head ∷ lent R ∷ lent u32 ∷ lent u32 ∷ lent u32 ∷ taken a-setup ∷ [];
     result = ReplyT;
     clauses = f.clauses 𝓤 H A mem run;
     code = f.Code.function;
@@ -32,7 +32,7 @@ module _ {M : Type 1} (𝓤 : URA M) (H : Heap 𝓤) (A : Atoms 𝓤) (W : Given
   }
 
   walk : (𝓣 : Tables 𝓤 H) → Walk shape 𝓣
-  walk 𝓣 known-shortest known-open-refusal known-unless-refused known-clear known-open-reply κs qs head head-is s₀ s₁ s₂ s₃ clients clients-is period period-is g Q leaves bs =
+  walk 𝓣 known-shortest known-open-refusal known-unless-refused known-clear known-open-reply κs qs head head-is s₀ s₁ s₂ s₃ setup setup-is g Q leaves bs =
       let ws : List Request = s₀ .list in
       let su : List ℕ = s₁ .list in
       let se : List ℕ = s₂ .list in
@@ -44,25 +44,25 @@ module _ {M : Type 1} (𝓤 : URA M) (H : Heap 𝓤) (A : Atoms 𝓤) (W : Given
       -- let accounts = rows::shortest(submitted.len(), served.len(), dropped.len());
       calls-for ! 𝓣 [] (number W (length su) (s₁ .room .0) ∷ number W (length se) (s₂ .room .0) ∷ number W (length dr) (s₃ .room .0) ∷ []) (of-number w64) (λ c. known-shortest) (λ c h. h) (id⊢ 𝓤 _) refl (λ c. vars ! (refl, (refl, (refl, tt)))) (λ _. refl) (λ accounts last₁ shortest kept₁ accounts-is.
       sets ! (of-opd ! (field-var ! refl refl refl)) refl (tt, fit (s₀ .room .0)) $
-      -- let refusal = refusals::open_refusal(clients, period, waiting.len(), accounts);
-      calls-for ! 𝓣 [] (number W clients (clients-is .1) ∷ number W period (period-is .1) ∷ number W (length ws) (s₀ .room .0) ∷ number W accounts (accounts-is .1) ∷ []) (of-number w64) (λ c. known-open-refusal) (λ c h. h) (id⊢ 𝓤 _) refl (λ c. vars ! (refl, (refl, (refl, (refl, tt))))) (λ _. refl) (λ refusal last₂ refuses kept₂ refusal-is.
+      -- let refusal = refusals::open_refusal(setup, waiting.len(), accounts);
+      calls-for ! 𝓣 [] (given W a-setup setup setup-is ∷ number W (length ws) (s₀ .room .0) ∷ number W accounts (accounts-is .1) ∷ []) (of-number w64) (λ c. known-open-refusal) (λ c h. h) (id⊢ 𝓤 _) refl (λ c. vars ! (refl, (refl, (refl, tt)))) (λ _. refl) (λ refusal last₂ refuses kept₂ refusal-is.
       sets ! (of-opd ! (field-var ! refl refl refl)) refl (tt, fit (s₀ .room .0)) $
       copies ! refl refl (tt, fit (s₀ .room .0)) $
       -- let cleared = edits::unless_refused(refusal, waiting.len() as u64);
       calls-for ! 𝓣 [] (number W refusal (refusal-is .1) ∷ number W (length ws) (s₀ .room .0) ∷ []) (of-number w64) (λ c. known-unless-refused) (λ c h. h) (id⊢ 𝓤 _) refl (λ c. vars ! (refl, (refl, tt))) (λ _. refl) (λ cleared last₃ some kept₃ cleared-is.
       relends ! s₀ refl $
       -- table::clear(waiting, cleared);
-      calls-for ! 𝓣 (0 ∷ []) (mut-of W s₀ ws refl ∷ number W cleared (cleared-is .1) ∷ []) of-nothing (λ c. known-clear) (λ c h. h) (so 𝓤 (cleared-within head ws su se dr clients period accounts refusal cleared shortest refuses some)) refl (λ c. vars ! (refl, (refl, tt))) (λ _. refl) (λ u last₄ zeros kept₄ _.
+      calls-for ! 𝓣 (0 ∷ []) (mut-of W s₀ ws refl ∷ number W cleared (cleared-is .1) ∷ []) of-nothing (λ c. known-clear) (λ c h. h) (so 𝓤 (cleared-within head ws su se dr setup accounts refusal cleared shortest refuses some)) refl (λ c. vars ! (refl, (refl, tt))) (λ _. refl) (λ u last₄ zeros kept₄ _.
       let ws₁ : List Request = last₄ .0 in
       relends ! s₁ refl $
       relends ! s₂ refl $
       relends ! s₃ refl $
-      -- replies::open_reply(head, submitted, served, dropped, refusal, clients, period)
-      calls-for ! 𝓣 (1 ∷ 2 ∷ 3 ∷ []) (the-head W head head-is ∷ mut-of W s₁ su refl ∷ mut-of W s₂ se refl ∷ mut-of W s₃ dr refl ∷ number W refusal (refusal-is .1) ∷ number W clients (clients-is .1) ∷ number W period (period-is .1) ∷ []) a-reply (λ c. known-open-reply) (λ c h. h) (id⊢ 𝓤 _) refl (λ c. vars ! (refl, (refl, (refl, (refl, (refl, (refl, (refl, tt)))))))) (λ _. refl) (λ r last₅ told kept₅ r-is.
+      -- replies::open_reply(head, submitted, served, dropped, refusal, setup)
+      calls-for ! 𝓣 (1 ∷ 2 ∷ 3 ∷ []) (the-head W head head-is ∷ mut-of W s₁ su refl ∷ mut-of W s₂ se refl ∷ mut-of W s₃ dr refl ∷ number W refusal (refusal-is .1) ∷ given W a-setup setup setup-is ∷ []) a-reply (λ c. known-open-reply) (λ c h. h) (id⊢ 𝓤 _) refl (λ c. vars ! (refl, (refl, (refl, (refl, (refl, (refl, tt))))))) (λ _. refl) (λ r last₅ told kept₅ r-is.
       let su₁ : List ℕ = last₅ .1 .0 in
       let se₁ : List ℕ = last₅ .1 .1 .0 in
       let dr₁ : List ℕ = last₅ .1 .1 .1 .0 in
-      gives ! refl refl $ leaves (a-reply .val r) r (last₄ .0, (last₅ .1 .0, (last₅ .1 .1 .0, (last₅ .1 .1 .1 .0, tt)))) (kept₄ .0, (kept₅ .0, (kept₅ .1 .0, (kept₅ .1 .1 .0, tt)))) (made W a-reply r r-is) (so 𝓤 (opened head ws su se dr clients period accounts refusal cleared shortest refuses some ws₁ r su₁ se₁ dr₁ zeros told)))))))
+      gives ! refl refl $ leaves (a-reply .val r) r (last₄ .0, (last₅ .1 .0, (last₅ .1 .1 .0, (last₅ .1 .1 .1 .0, tt)))) (kept₄ .0, (kept₅ .0, (kept₅ .1 .0, (kept₅ .1 .1 .0, tt)))) (made W a-reply r r-is) (so 𝓤 (opened head ws su se dr setup accounts refusal cleared shortest refuses some ws₁ r su₁ se₁ dr₁ zeros told)))))))
 
 pub open-spec : {M : Type 1} → f.Statement.statement M
 unfolding f.Code.routine

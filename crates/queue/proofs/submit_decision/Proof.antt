@@ -8,7 +8,8 @@ use Rattle.decide.proofs.Matching.{submit-told}
 use Rattle.decide.proofs.States.{submit-refused, submit-goes}
 use Rattle.queue.proofs.Values.{DecisionT, a-decision}
 use Rattle.sound.proofs.Laws.{not-zero, is-zero}
-use Rattle.spec.specs.Refusals.{firstMatch, submitRefusals}
+use Rattle.spec.specs.Setup.{firstMatch}
+use Rattle.spec.specs.Refusals.{submitRefusals}
 use Rattle.spec.specs.declared.types.Request.{Request}
 use Rattle.table.proofs.Heads.{the-head, a-head}
 use Rattle.table.proofs.Rows.{R}

@@ -8,11 +8,13 @@ use borrow.Author.Tests.{leb-true, le-leb}
 use lib.Dec.{leb, eqb}
 use lib.ListN.{length}
 use Rattle.slots.proofs.Laws.Tests.{Same, same-yes, same-no, same}
+use Rattle.spec.specs.declared.types.Setup.{Setup}
 use Rattle.spec.specs.declared.types.Answer.the-variants.{Refused}
 use Rattle.spec.specs.declared.types.Request.{Request}
 use Rattle.spec.specs.Every.{isWithin}
 use Rattle.spec.specs.Tables.{mostRecords, mostClients, State}
-use Rattle.spec.specs.Refusals.{Refusal, firstMatch, openRefusals}
+use Rattle.spec.specs.Setup.{Refusal, firstMatch, setupRefusals}
+use Rattle.spec.specs.Refusals.{openRefusals}
 use Rattle.spec.specs.Calls.{Outcome, unlessRefused}
 use Rattle.spec.proofs.Laws.Every.{Value, is-true, is-false, value, cond-true}
 use Rattle.columns.specs.Columns.{countsOf, stateOf}
@@ -25,7 +27,7 @@ use Rattle.session.specs.Standing.{doFit, upTo}
 -- ---- tables that will do, as facts
 pub record Fits (s : Session) (waiting submitted served dropped starts : ℕ) : Type 0 where
   pub records : s .records ≤ mostRecords
-  pub clients : s .head .clients ≤ mostClients
+  pub clients : s .head .setup .clients ≤ mostClients
   pub waiting-long : mostRecords ≤ waiting
   pub starts-long : mostRecords ≤ starts
   pub submitted-long : mostClients ≤ submitted
@@ -39,7 +41,7 @@ fit-facts s waiting submitted served dropped starts e =
     let p = simp and-eq-true-iff at e in
     record {
       records = leb-true (s .records) mostRecords (p .0 .0);
-      clients = leb-true (s .head .clients) mostClients (p .0 .1);
+      clients = leb-true (s .head .setup .clients) mostClients (p .0 .1);
       waiting-long = leb-true mostRecords waiting (p .1 .0 .0);
       starts-long = leb-true mostRecords starts (p .1 .0 .1);
       submitted-long = leb-true mostClients submitted (p .1 .1 .0);
@@ -67,16 +69,16 @@ up-within most n = go (leb n most) refl
     go false e = rw and-false
 
 -- so open is refused alike on tables as long as a frame names and on those that are lent
-pub open-match : (clients period records : ℕ) (t u : State)
-    → length (t .waitingTable) ≡ upTo mostRecords records → length (t .clientTable) ≡ upTo mostClients clients
-    → length (u .waitingTable) ≡ records → length (u .clientTable) ≡ clients
-    → firstMatch (openRefusals clients period t) ≡ firstMatch (openRefusals clients period u)
-unfolding firstMatch openRefusals
-open-match clients period records t u a b c d = go (value (leb clients mostClients))
+pub open-match : (setup : Setup) (records : ℕ) (t u : State)
+    → length (t .waitingTable) ≡ upTo mostRecords records → length (t .clientTable) ≡ upTo mostClients (setup .clients)
+    → length (u .waitingTable) ≡ records → length (u .clientTable) ≡ setup .clients
+    → firstMatch (openRefusals setup t) ≡ firstMatch (openRefusals setup u)
+unfolding firstMatch setupRefusals openRefusals
+open-match setup records t u a b c d = go (value (leb (setup .clients) mostClients))
   where
-    go : Value (leb clients mostClients)
-        → firstMatch (openRefusals clients period t) ≡ firstMatch (openRefusals clients period u)
-    go (is-true e) = rw (a, b, c, d, up-within mostRecords records, cond-true (leb clients mostClients) clients 0 e)
+    go : Value (leb (setup .clients) mostClients)
+        → firstMatch (openRefusals setup t) ≡ firstMatch (openRefusals setup u)
+    go (is-true e) = rw (a, b, c, d, up-within mostRecords records, cond-true (leb (setup .clients) mostClients) (setup .clients) 0 e)
     go (is-false e) = rw (e, and-false)
 
 -- ---- what a call hands back, as a state

@@ -8,13 +8,15 @@ use native.Mathlib.Omega.{arith}
 use borrow.Author.Tests.{le-ltb, not-false}
 use lib.ListN.{length, getD, take, length-replicate, length-map, List·getD-map}
 use lib.Seq.{getD-take}
+use Rattle.spec.specs.declared.types.Setup.{Setup}
 use Rattle.spec.specs.declared.types.Frame.{Frame}
 use Rattle.spec.specs.declared.types.Frame.the-variants.{Submit, Tick, Report, Chart, Bad}
 use Rattle.spec.specs.declared.types.Answer.the-variants.{Charted, Refused}
 use Rattle.spec.specs.declared.types.Request.{Request}
 use Rattle.spec.specs.Tables.{mostRecords, State, waiting, zeroRequest, nextState, deadlinesOf}
 use Rattle.spec.specs.Chart.{startsOf, segmentsOf, hasNoOverfull}
-use Rattle.spec.specs.Refusals.{Refusal, firstMatch, submitRefusals, tickRefusals, reportRefusals, chartRefusals, refusal4}
+use Rattle.spec.specs.Setup.{Refusal, firstMatch}
+use Rattle.spec.specs.Refusals.{submitRefusals, tickRefusals, reportRefusals, chartRefusals, refusal4}
 use Rattle.spec.specs.Refusals.{refusal5, refusal12}
 use Rattle.spec.specs.Calls.{Outcome, submitOf, submitAccepted, kept, droppedAt, victimPlace, withNew, tickOf, tickAccepted}
 use Rattle.spec.specs.Calls.{reportOf, reportAccepted, chartOf, chartAccepted, chartOutput}
@@ -36,20 +38,20 @@ use Rattle.session.proofs.Laws.Lending.{alike}
 -- the tables keep their shape, and what the call gives is the frame's reply
 pub record Plain (frame : Frame) (starts : List ℕ) (t : State) : Type 0 where
   pub long : length (outcomeFor frame starts t .after .clientTable) ≡ length (t .clientTable)
-  pub clients : outcomeFor frame starts t .after .head .clients ≡ t .head .clients
+  pub clients : outcomeFor frame starts t .after .head .setup .clients ≡ t .head .setup .clients
   pub after : outcomeFor frame starts t .after ≡ reply frame t .after
-  pub bytes : replyBytes (outcomeFor frame starts t .answer) (startsFor frame starts t) ≡ reply frame t .bytes
+  pub bytes : replyBytes (outcomeFor frame starts t .after .head .setup) (outcomeFor frame starts t .answer) (startsFor frame starts t) ≡ reply frame t .bytes
   pub draws : CanDraw (outcomeFor frame starts t .answer) (startsFor frame starts t)
 
 -- of those that do not draw: the head keeps its clients, and the answer is one line
 record Told (t : State) (o : Outcome) : Type 0 where
-  clients : o .after .head .clients ≡ t .head .clients
-  line : (starts : List ℕ) → replyBytes (o .answer) starts ≡ answerLine (o .answer)
+  clients : o .after .head .setup .clients ≡ t .head .setup .clients
+  line : (setup : Setup) (starts : List ℕ) → replyBytes setup (o .answer) starts ≡ answerLine (o .answer)
   draws : (starts : List ℕ) → CanDraw (o .answer) starts
 
 told-refused : (n : ℕ) (t : State) → Told t (record { answer = Refused n; after = t })
 unfolding replyBytes
-told-refused n t = record { clients = refl; line = λ starts. refl; draws = λ starts. tt }
+told-refused n t = record { clients = refl; line = λ setup starts. refl; draws = λ starts. tt }
 
 told : {rs : List Refusal} {t : State} {accepted o : Outcome} → Told t accepted → Decided rs t accepted o → Told t o
 told a (accepts e) = a
@@ -63,7 +65,7 @@ told-plain frame starts t e l a =
       long = l;
       clients = a .clients;
       after = rw e;
-      bytes = rw e (a .line (startsFor frame starts t));
+      bytes = rw e (a .line (outcomeFor frame starts t .after .head .setup) (startsFor frame starts t));
       draws = a .draws (startsFor frame starts t);
     }
 
@@ -77,8 +79,8 @@ module _ (starts : List ℕ) (t : State) where
     where
       go : (x : Bool)
           → Told t (cond x (kept client deadline t) (droppedAt (victimPlace client deadline t) client deadline t))
-      go true = record { clients = refl; line = λ starts. refl; draws = λ starts. tt }
-      go false = record { clients = refl; line = λ starts. refl; draws = λ starts. tt }
+      go true = record { clients = refl; line = λ setup starts. refl; draws = λ starts. tt }
+      go false = record { clients = refl; line = λ setup starts. refl; draws = λ starts. tt }
 
   pub tick-plain : Plain Tick starts t
   unfolding outcomeFor outcomeOf reply tickOf tickAccepted nextState replyBytes
@@ -87,14 +89,14 @@ module _ (starts : List ℕ) (t : State) where
       (told (go (waiting t)) (decided (tickRefusals t) t (tickAccepted (waiting t) t)))
     where
       go : (ws : List Request) → Told t (tickAccepted ws t)
-      go [] = record { clients = refl; line = λ starts. refl; draws = λ starts. tt }
-      go (w ∷ ws) = record { clients = refl; line = λ starts. refl; draws = λ starts. tt }
+      go [] = record { clients = refl; line = λ setup starts. refl; draws = λ starts. tt }
+      go (w ∷ ws) = record { clients = refl; line = λ setup starts. refl; draws = λ starts. tt }
 
   pub report-plain : (client : ℕ) → Plain (Report client) starts t
   unfolding outcomeFor outcomeOf reply reportOf reportAccepted replyBytes
   report-plain client =
       told-plain (Report client) starts t refl (keeps-lengths (report client) t .1)
-      (told (record { clients = refl; line = λ starts. refl; draws = λ starts. tt })
+      (told (record { clients = refl; line = λ setup starts. refl; draws = λ starts. tt })
       (decided (reportRefusals client t) t (reportAccepted client t)))
 
   pub bad-plain : Plain Bad starts t
@@ -125,7 +127,7 @@ module _ (output : List ℕ) (t : State) (none : firstMatch (chartRefusals outpu
   unfolding chartOf chartAccepted
   charts = chart-written output t (rw none)
 
-  drawn : take (t .head .waiting) (chartOutput output t) ≡ startsOf (waiting t)
+  drawn : take (t .head .waiting) (chartOutput output t) ≡ startsOf (t .head .setup) (waiting t)
   drawn = rw (charts .one-each ∙ waiting-length t (ready .shape)) at (charts .starts)
 
   deadline-most : (j : ℕ) → j < length (deadlinesOf (waiting t)) → getD (deadlinesOf (waiting t)) j 0 ≤ largest64
@@ -136,8 +138,8 @@ module _ (output : List ℕ) (t : State) (none : firstMatch (chartRefusals outpu
 
   start-most : (k : ℕ) → k < t .head .waiting → getD (chartOutput output t) k 0 < largest64
   start-most k h =
-      rw (← getD-take (t .head .waiting) (chartOutput output t) k 0 h, drawn, ← starts-column (waiting t))
-      (starts-below (deadlinesOf (waiting t)) k
+      rw (← getD-take (t .head .waiting) (chartOutput output t) k 0 h, drawn, ← starts-column (t .head .setup) (waiting t))
+      (starts-below (t .head .setup) (deadlinesOf (waiting t)) k
       (omega (arith, length-map (waiting t) (λ w. w .deadline), waiting-length t (ready .shape))) deadline-most)
 
   can-draw : CanDraw (Charted (t .head .waiting)) (chartOutput output t)
@@ -152,8 +154,8 @@ module _ (starts : List ℕ) (t : State) (long : mostRecords ≤ length starts) 
   record Drawn (o q : Outcome) : Type 0 where
     after : o .after ≡ t
     bytes :
-        replyBytes (o .answer) (chartOutput starts t)
-        ≡ chartBytes (segmentsOf (take (t .head .waiting) (chartOutput blank t))) (q .answer)
+        replyBytes (t .head .setup) (o .answer) (chartOutput starts t)
+        ≡ chartBytes (segmentsOf (t .head .setup) (take (t .head .waiting) (chartOutput blank t))) (q .answer)
     draws : CanDraw (o .answer) (chartOutput starts t)
 
   both-drawn : Drawn (chartOf starts t) (chartOf blank t)
@@ -171,6 +173,6 @@ module _ (starts : List ℕ) (t : State) (long : mostRecords ≤ length starts) 
         long = rw (both-drawn .after);
         clients = rw (both-drawn .after);
         after = both-drawn .after;
-        bytes = both-drawn .bytes;
+        bytes = rw (both-drawn .after) (both-drawn .bytes);
         draws = both-drawn .draws;
       }

@@ -19,7 +19,7 @@ sessionAfter frame s r = record { head = r .head; records = recordsAfter frame (
 -- the parts zs, us, vs, ds that came back stand in the tables again
 pub record Replied (frame : Frame) (s : Session) (ws : List Request) (submitted served dropped starts : List ℕ) (r : Reply)
     (zs : List Request) (us vs ds starts′ : List ℕ) : Type 0 where
-  pub bytes : replyBytes (r .answer) starts′ ≡ reply frame (heldIn s ws submitted served dropped) .bytes
+  pub bytes : replyBytes (r .head .setup) (r .answer) starts′ ≡ reply frame (heldIn s ws submitted served dropped) .bytes
   pub after :
       heldIn (sessionAfter frame s r) (zs ++ drop (recordsFor frame s) ws) (us ++ drop (clientsFor frame s) submitted)
       (vs ++ drop (clientsFor frame s) served) (ds ++ drop (clientsFor frame s) dropped)

@@ -7,6 +7,7 @@ use native.Mathlib.Omega.{arith}
 use borrow.Author.Tests.{le-leb}
 use lib.ListN.{length, take, drop, length-take, length-replicate, take-append-drop}
 use lib.Seq.{take-at}
+use Rattle.spec.specs.declared.types.Setup.{Setup}
 use Rattle.spec.specs.declared.types.Frame.{Frame}
 use Rattle.spec.specs.declared.types.Frame.the-variants.{Open, Submit, Tick, Report, Chart, Bad}
 use Rattle.spec.specs.declared.types.Answer.{Answer}
@@ -57,36 +58,36 @@ module _ (s : Session) (ws : List Request) (su se dr starts : List ℕ)
   facts = fit-facts s (length ws) (length su) (length se) (length dr) (length starts) fit
 
   -- the tables will do for the session after the call
-  still-fits : (frame : Frame) → recordsAfter frame (r .answer) (s .records) ≤ mostRecords → r .head .clients ≤ mostClients
+  still-fits : (frame : Frame) → recordsAfter frame (r .answer) (s .records) ≤ mostRecords → r .head .setup .clients ≤ mostClients
       → doFit (sessionAfter frame s r) (length ws) (length su) (length se) (length dr) (length starts) ≡ true
   unfolding doFit
   still-fits frame records clients =
       rw (
         le-leb (recordsAfter frame (r .answer) (s .records)) mostRecords records,
-        le-leb (r .head .clients) mostClients clients,
+        le-leb (r .head .setup .clients) mostClients clients,
       )
-      (rw (le-leb (s .records) mostRecords (facts .records), le-leb (s .head .clients) mostClients (facts .clients)) at fit)
+      (rw (le-leb (s .records) mostRecords (facts .records), le-leb (s .head .setup .clients) mostClients (facts .clients)) at fit)
 
   -- where as much is in use after the call as was lent to it, the parts that came back are in use
   module _ {frame : Frame} {n c : ℕ} (h : Handed frame n c) (records : n ≤ mostRecords) (clients : c ≤ mostClients) where
-    stands : (k : ℕ) (rest : List Request) (su₁ se₁ dr₁ : List ℕ) → k ≡ n → r .head .clients ≡ c
-        → stateOf (r .head) (take k (zs ++ rest)) (take (r .head .clients) (us ++ su₁)) (take (r .head .clients) (vs ++ se₁))
-        (take (r .head .clients) (ds ++ dr₁))
+    stands : (k : ℕ) (rest : List Request) (su₁ se₁ dr₁ : List ℕ) → k ≡ n → r .head .setup .clients ≡ c
+        → stateOf (r .head) (take k (zs ++ rest)) (take (r .head .setup .clients) (us ++ su₁)) (take (r .head .setup .clients) (vs ++ se₁))
+        (take (r .head .setup .clients) (ds ++ dr₁))
         ≡ stateOf (r .head) zs us vs ds
     stands k rest su₁ se₁ dr₁ d e =
         rw (
           take-at zs rest k (omega (arith, h .waiting-long, length-take n ws, facts .waiting-long)),
-          take-at us su₁ (r .head .clients) (omega (arith, h .submitted-long, length-take c su, facts .submitted-long)),
-          take-at vs se₁ (r .head .clients) (omega (arith, h .served-long, length-take c se, facts .served-long)),
-          take-at ds dr₁ (r .head .clients) (omega (arith, h .dropped-long, length-take c dr, facts .dropped-long)),
+          take-at us su₁ (r .head .setup .clients) (omega (arith, h .submitted-long, length-take c su, facts .submitted-long)),
+          take-at vs se₁ (r .head .setup .clients) (omega (arith, h .served-long, length-take c se, facts .served-long)),
+          take-at ds dr₁ (r .head .setup .clients) (omega (arith, h .dropped-long, length-take c dr, facts .dropped-long)),
         )
 
   -- ---- every frame but open: what is in use is lent
   plain-replied : (frame : Frame) → ((a : Answer) → recordsAfter frame a (s .records) ≡ s .records) → Plain frame starts held
-      → Handed frame (upTo mostRecords (s .records)) (upTo mostClients (s .head .clients)) → Done frame
+      → Handed frame (upTo mostRecords (s .records)) (upTo mostClients (s .head .setup .clients)) → Done frame
   plain-replied frame e p handed =
       record {
-        bytes = rw (g .answer-same, h .answered .starts-same) (p .bytes);
+        bytes = rw (g .answer-same, g .head-same, h .answered .starts-same) (p .bytes);
         after =
             stands h (facts .records) (facts .clients) (recordsAfter frame (r .answer) (s .records))
             (drop (recordsFor frame s) ws) (drop (clientsFor frame s) su) (drop (clientsFor frame s) se)
@@ -97,34 +98,34 @@ module _ (s : Session) (ws : List Request) (su se dr starts : List ℕ)
         draws = rw (g .answer-same, h .answered .starts-same) (p .draws);
       }
     where
-      h : Handed frame (s .records) (s .head .clients)
+      h : Handed frame (s .records) (s .head .setup .clients)
       h =
-          rw (up-same mostRecords (s .records) (facts .records), up-same mostClients (s .head .clients) (facts .clients))
+          rw (up-same mostRecords (s .records) (facts .records), up-same mostClients (s .head .setup .clients) (facts .clients))
           at handed
 
-      g : Gives (outcomeFor frame starts held) (take (s .head .clients) su) (take (s .head .clients) se)
-          (take (s .head .clients) dr) r zs us vs ds
+      g : Gives (outcomeFor frame starts held) (take (s .head .setup .clients) su) (take (s .head .setup .clients) se)
+          (take (s .head .setup .clients) dr) r zs us vs ds
       g = h .answered .gives
 
-      clients : r .head .clients ≡ s .head .clients
-      clients = ap (λ (x : Head). x .clients) (g .head-same) ∙ p .clients
+      clients : r .head .setup .clients ≡ s .head .setup .clients
+      clients = ap (λ (x : Head). x .setup .clients) (g .head-same) ∙ p .clients
 
   -- ---- open: what it names is lent
-  module _ (clients period records : ℕ) where
+  module _ (setup : Setup) (records : ℕ) where
     abbrev n : ℕ
     n = upTo mostRecords records
 
     abbrev c : ℕ
-    c = upTo mostClients clients
+    c = upTo mostClients (setup .clients)
 
     abbrev opening : Frame
-    opening = Open clients period records
+    opening = Open setup records
 
     abbrev inCode : State
     inCode = lentState n c
 
     abbrev inSpec : State
-    inSpec = lent clients records held
+    inSpec = lent (setup .clients) records held
 
     records-lent : length (inCode .waitingTable) ≡ n
     records-lent = omega (arith, length-take n ws, up-most mostRecords records, facts .waiting-long)
@@ -137,7 +138,7 @@ module _ (s : Session) (ws : List Request) (su se dr starts : List ℕ)
           length-take c su,
           length-take c se,
           length-take c dr,
-          up-most mostClients clients,
+          up-most mostClients (setup .clients),
           facts .submitted-long,
           facts .served-long,
           facts .dropped-long,
@@ -148,26 +149,26 @@ module _ (s : Session) (ws : List Request) (su se dr starts : List ℕ)
 
     -- the reply is q, what the definition gives on tables as long as the frame names
     record Opens (q : Outcome) : Type 0 where
-      bytes : replyBytes (r .answer) starts′ ≡ answerLine (q .answer)
+      bytes : replyBytes (r .head .setup) (r .answer) starts′ ≡ answerLine (q .answer)
       after :
           heldIn (sessionAfter opening s r) (zs ++ drop n ws) (us ++ drop c su) (vs ++ drop c se) (ds ++ drop c dr)
           ≡ cond (isRefused (q .answer)) held (q .after)
       records-most : recordsAfter opening (r .answer) (s .records) ≤ mostRecords
-      clients-most : r .head .clients ≤ mostClients
+      clients-most : r .head .setup .clients ≤ mostClients
       draws : CanDraw (r .answer) starts′
 
     -- accepted: the tables are zero, and as long
-    opens : Handed opening n c → OpenReady clients period inSpec → Given (openAccepted clients period inCode)
-        → Opens (openAccepted clients period inSpec)
+    opens : Handed opening n c → OpenReady setup inSpec → Given (openAccepted setup inCode)
+        → Opens (openAccepted setup inSpec)
     unfolding openAccepted recordsAfter replyBytes
     opens h ready g =
         record {
           bytes = rw (g .answer-same);
           after =
-              stands h (up-most mostRecords records) (up-most mostClients clients)
+              stands h (up-most mostRecords records) (up-most mostClients (setup .clients))
               (recordsAfter opening (r .answer) (s .records)) (drop n ws) (drop c su)
               (drop c se) (drop c dr) (rw (g .answer-same) (sym same-records))
-              (ap (λ (x : Head). x .clients) (g .head-same) ∙ sym same-clients)
+              (ap (λ (x : Head). x .setup .clients) (g .head-same) ∙ sym same-clients)
               ∙ gives-state g (length-replicate (length (inCode .clientTable)) zeroCounts)
               ∙ rw (
                 records-lent,
@@ -175,10 +176,10 @@ module _ (s : Session) (ws : List Request) (su se dr starts : List ℕ)
                 same-records,
                 same-clients,
                 length-replicate records zeroRequest,
-                length-replicate clients zeroCounts,
+                length-replicate (setup .clients) zeroCounts,
               );
           records-most = rw (g .answer-same) few;
-          clients-most = rw (g .head-same) (ready .most-clients);
+          clients-most = rw (g .head-same) (ready .within .most-clients);
           draws = rw (g .answer-same) tt;
         }
       where
@@ -188,8 +189,8 @@ module _ (s : Session) (ws : List Request) (su se dr starts : List ℕ)
         same-records : n ≡ records
         same-records = up-same mostRecords records few
 
-        same-clients : c ≡ clients
-        same-clients = up-same mostClients clients (ready .most-clients)
+        same-clients : c ≡ setup .clients
+        same-clients = up-same mostClients (setup .clients) (ready .within .most-clients)
 
     -- refused: the parts come back as they were
     declines : (k : ℕ) → Given (record { answer = Refused k; after = inCode })
@@ -217,14 +218,14 @@ module _ (s : Session) (ws : List Request) (su se dr starts : List ℕ)
           draws = rw (g .answer-same) tt;
         }
 
-    both-open : Handed opening n c → Opens (openOf clients period inSpec)
+    both-open : Handed opening n c → Opens (openOf setup inSpec)
     unfolding outcomeFor openOf
     both-open h =
-        alike (λ o q. Given o → Opens q) (openRefusals clients period inCode) (openRefusals clients period inSpec) inCode inSpec
-        (openAccepted clients period inCode) (openAccepted clients period inSpec)
-        (open-match clients period records inCode inSpec records-lent clients-lent (length-replicate records zeroRequest)
-        (length-replicate clients zeroCounts))
-        (λ e e′. opens h (open-ready clients period inSpec e′)) declines (h .answered .gives)
+        alike (λ o q. Given o → Opens q) (openRefusals setup inCode) (openRefusals setup inSpec) inCode inSpec
+        (openAccepted setup inCode) (openAccepted setup inSpec)
+        (open-match setup records inCode inSpec records-lent clients-lent (length-replicate records zeroRequest)
+        (length-replicate (setup .clients) zeroCounts))
+        (λ e e′. opens h (open-ready setup inSpec e′)) declines (h .answered .gives)
 
     open-replied : Handed opening n c → Done opening
     unfolding reply recordsFor clientsFor
@@ -240,7 +241,7 @@ module _ (s : Session) (ws : List Request) (su se dr starts : List ℕ)
   -- ---- every frame
   handed-replied : (frame : Frame) → Handed frame (recordsFor frame s) (clientsFor frame s) → Done frame
   unfolding recordsFor clientsFor recordsAfter
-  handed-replied (Open clients period records) h = open-replied clients period records h
+  handed-replied (Open setup records) h = open-replied setup records h
   handed-replied (Submit client deadline) h =
       plain-replied (Submit client deadline) (λ a. refl) (submit-plain starts held client deadline) h
   handed-replied Tick h = plain-replied Tick (λ a. refl) (tick-plain starts held) h

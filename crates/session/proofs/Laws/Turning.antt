@@ -133,7 +133,7 @@ module _ (f : Frame) (other : OneOf (1 ∷ 2 ∷ 3 ∷ 4 ∷ 5 ∷ []) (tagOf fr
   not-open P submit tick report chart bad = go f other
     where
       go : (f : Frame) → OneOf (1 ∷ 2 ∷ 3 ∷ 4 ∷ 5 ∷ []) (tagOf frames.the-type f) → P f
-      go (Open clients period records) h = absurd (miss (1 ∷ 2 ∷ 3 ∷ 4 ∷ 5 ∷ []) 0 tt h)
+      go (Open setup records) h = absurd (miss (1 ∷ 2 ∷ 3 ∷ 4 ∷ 5 ∷ []) 0 tt h)
       go (Submit client deadline) h = submit client deadline
       go Tick h = tick
       go (Report client) h = report client
@@ -142,10 +142,10 @@ module _ (f : Frame) (other : OneOf (1 ∷ 2 ∷ 3 ∷ 4 ∷ 5 ∷ []) (tagOf fr
 
   -- it is lent what is in use
   pub lent-other : (s : Session)
-      → (recordsFor f s ≡ upTo mostRecords (s .records)) × (clientsFor f s ≡ upTo mostClients (s .head .clients))
+      → (recordsFor f s ≡ upTo mostRecords (s .records)) × (clientsFor f s ≡ upTo mostClients (s .head .setup .clients))
   unfolding recordsFor clientsFor
   lent-other s =
-      not-open (λ f. (recordsFor f s ≡ upTo mostRecords (s .records)) × (clientsFor f s ≡ upTo mostClients (s .head .clients)))
+      not-open (λ f. (recordsFor f s ≡ upTo mostRecords (s .records)) × (clientsFor f s ≡ upTo mostClients (s .head .setup .clients)))
       (λ client deadline. (refl, refl)) (refl, refl) (λ client. (refl, refl)) (refl, refl) (refl, refl)
 
   -- and as many records are in use after it

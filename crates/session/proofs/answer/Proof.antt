@@ -6,6 +6,7 @@ use Rattle.walk.proofs.Enter.{Slice, Ends, Long, Runs, ref}
 use Rattle.walk.proofs.Matches.{matches, payload-var}
 use Rattle.walk.proofs.Slices.Loans.{Lasts, Knowns}
 use denote.Enum.Laws as LE
+use Rattle.spec.specs.declared.types.Setup.{Setup}
 use Rattle.spec.specs.declared.types.Frame.{Frame}
 use Rattle.spec.specs.declared.types.Frame.the-variants.{Open, Submit, Tick, Report, Chart, Bad}
 use Rattle.spec.proofs.types.Frame as TF
@@ -14,7 +15,7 @@ use Rattle.table.proofs.Rows.{R}
 use Rattle.session.specs.Answers.{outcomeFor, startsFor}
 use Rattle.session.proofs.Answering.{answers, answers-bad}
 use Rattle.spec.specs.declared.types.Head.{Head}
-use Rattle.table.proofs.Heads.{HeadT, head-vals, a-head}
+use Rattle.table.proofs.Heads.{HeadT, head-vals, a-head, a-setup, setup-fits}
 use Rattle.queue.proofs.Values.{ReplyT, a-reply}
 use Rattle.session.proofs.Values.{a-frame}
 use Rattle.queue.proofs.open as open-call
@@ -80,14 +81,15 @@ module _ {M : Type 1} (𝓤 : URA M) (H : Heap 𝓤) (A : Atoms 𝓤) (W : Given
     abbrev Known : Name × Contract 𝓤 → Type 1
     Known k = Triple 𝓤 (𝓣 .C (k .0)) (k .1)
 
-    opens : Known opening → (clients period records : ℕ) → Arm (Open clients period records)
+    opens : Known opening → (setup : Setup) (records : ℕ) → Arm (Open setup records)
     unfolding outcomeFor startsFor
-    opens known clients period records is g Q leaves bs =
-        let owed = LE.owed TF.the-type TF′.the-laws (Open clients period records) _ is in
-        let ns : List (Param 𝓤 H A) = number W clients (owed .0 .1) ∷ number W period (owed .1 .0 .1) ∷ [] in
-        drop ! $ first ! $ matches ! refl refl refl tt $ sets ! (of-opd ! (payload-var ! refl refl refl refl)) refl (tt, fit (owed .0 .1)) $ sets ! (of-opd ! (payload-var ! refl refl refl refl)) refl (tt, fit (owed .1 .0 .1)) $ relends ! waiting refl $ relends ! submitted refl $ relends ! served refl $ relends ! dropped refl $
-        hands-on ! 𝓣 (0 ∷ 1 ∷ 2 ∷ 3 ∷ []) (lent-with ns) a-reply (λ c. known) (λ c h. h) (id⊢ 𝓤 _) refl (λ c. vars ! (refl, (refl, (refl, (refl, (refl, (refl, (refl, tt)))))))) (λ _. refl) Q refl (λ r last. (refl, refl)) (λ r last told kept own.
-        leaves (a-reply .val r) r (lasts ns last) (longs (Open clients period records) ns last kept) own (so 𝓤 (answers told refl)))
+    opens known setup records is g Q leaves bs =
+        let owed = LE.owed TF.the-type TF′.the-laws (Open setup records) _ is in
+        let fits = setup-fits setup (owed .0) in
+        let ns : List (Param 𝓤 H A) = given W a-setup setup (owed .0) ∷ [] in
+        drop ! $ first ! $ matches ! refl refl refl tt $ sets ! (of-opd ! (payload-var ! refl refl refl refl)) refl (tt, (fit (fits .0), (fit (fits .1), tt))) $ relends ! waiting refl $ relends ! submitted refl $ relends ! served refl $ relends ! dropped refl $
+        hands-on ! 𝓣 (0 ∷ 1 ∷ 2 ∷ 3 ∷ []) (lent-with ns) a-reply (λ c. known) (λ c h. h) (id⊢ 𝓤 _) refl (λ c. vars ! (refl, (refl, (refl, (refl, (refl, (refl, tt))))))) (λ _. refl) Q refl (λ r last. (refl, refl)) (λ r last told kept own.
+        leaves (a-reply .val r) r (lasts ns last) (longs (Open setup records) ns last kept) own (so 𝓤 (answers told refl)))
 
     submits : Known submitting → (client deadline : ℕ) → Arm (Submit client deadline)
     unfolding outcomeFor startsFor
@@ -133,7 +135,7 @@ module _ {M : Type 1} (𝓤 : URA M) (H : Heap 𝓤) (A : Atoms 𝓤) (W : Given
   walk 𝓣 known-open known-submit known-tick known-report known-chart known-no-frame κs qs frame is head head-is waiting submitted served dropped starts = arm frame is
     where
       arm : (frame : Frame) → Arm 𝓣 κs qs head head-is waiting submitted served dropped starts frame
-      arm (Open clients period records) = opens 𝓣 κs qs head head-is waiting submitted served dropped starts known-open clients period records
+      arm (Open setup records) = opens 𝓣 κs qs head head-is waiting submitted served dropped starts known-open setup records
       arm (Submit client deadline) = submits 𝓣 κs qs head head-is waiting submitted served dropped starts known-submit client deadline
       arm Tick = ticks 𝓣 κs qs head head-is waiting submitted served dropped starts known-tick
       arm (Report client) = reports 𝓣 κs qs head head-is waiting submitted served dropped starts known-report client

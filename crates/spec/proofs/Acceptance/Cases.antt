@@ -7,11 +7,11 @@ use lib.ListN.{replicate}
 use Rattle.spec.specs.declared.types.Counts.{Counts}
 use Rattle.spec.specs.declared.types.Answer.{Answer}
 use Rattle.spec.specs.declared.types.Answer.the-variants.{Kept, Dropped, Served, Idle, Refused}
-use Rattle.spec.specs.Tables.{clockEnd, mostPeriod, State, waiting, holding, zeroRequest, zeroCounts}
+use Rattle.spec.specs.Tables.{clockEnd, mostPeriod, State, waiting, holding, zeroRequest, zeroCounts, openHead}
 use Rattle.spec.specs.Chart.{Segment, startsOf, segmentsOf}
 use Rattle.spec.specs.Calls.{openOf, tickOf}
 use Rattle.spec.specs.Lists.{Call, submit, tick, outcomeOf, run, history, Event}
-use Rattle.spec.proofs.Acceptance.Computed.{calls}
+use Rattle.spec.proofs.Acceptance.Computed.{setting, calls}
 
 -- a state to begin with, calls from the first to the last, and what they come to: the answers, or the start slots and the segments
 -- of those that wait then
@@ -22,8 +22,8 @@ pub data Case : Type 0 where
 -- "fresh tables": what an open of so many clients and records left
 abbrev fresh : ℕ → ℕ → State
 fresh clients records =
-    openOf clients 100 (record {
-      head = record { clients = 0; period = 0; clock = 0; last = 0; waiting = 0 };
+    openOf (setting clients 100) (record {
+      head = openHead (setting 0 0);
       waitingTable = replicate records zeroRequest;
       clientTable = replicate clients zeroCounts;
     }) .after
@@ -35,7 +35,7 @@ counts submitted served dropped = record { submitted = submitted; served = serve
 abbrev rivals : ℕ → ℕ → Counts → Counts → State
 rivals client number a b =
     record {
-      head = record { clients = 2; period = 100; clock = 0; last = number; waiting = 1 };
+      head = record { setup = setting 2 100; clock = 0; last = number; waiting = 1 };
       waitingTable = holding 4 (record { deadline = 1; number = number; client = client } ∷ []);
       clientTable = a ∷ b ∷ [];
     }
@@ -83,8 +83,9 @@ abbrev given : Case → Case
 given (answering start calls answers) =
     answering start calls (reverse (map (λ (e : Event). e .answer) (history start (reverse calls))))
 given (drawing start calls starts segments) =
-    let slots = startsOf (waiting (run start (reverse calls))) in
-    drawing start calls slots (segmentsOf slots)
+    let end = run start (reverse calls) in
+    let slots = startsOf (end .head .setup) (waiting end) in
+    drawing start calls slots (segmentsOf (end .head .setup) slots)
 
 pub worked-reads : map given cases ≡ cases
 unfolding calls outcomeOf run history
@@ -101,7 +102,7 @@ pub record PeriodTick : Type 0 where
 abbrev ticking : ℕ → ℕ → State
 ticking period clock =
     record {
-      head = record { clients = 1; period = period; clock = clock; last = 6; waiting = 2 };
+      head = record { setup = setting 1 period; clock = clock; last = 6; waiting = 2 };
       waitingTable =
           holding 4
           (record { deadline = clock + 5; number = 5; client = 0 }

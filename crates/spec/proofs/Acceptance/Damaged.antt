@@ -15,8 +15,9 @@ use Rattle.spec.specs.Tables.{mostRecords, clockEnd, zeroRequest, zeroCo
 use Rattle.spec.specs.Order.{isInOrder}
 use Rattle.spec.specs.Chart.{hasNoOverfull}
 use Rattle.spec.specs.Sound.{isHeadWithin, isAhead, isGiven, isClient, isZeroRequest, isBalanced, isSound}
-use Rattle.spec.specs.Refusals.{refusal4, firstMatch, tickRefusals}
-use Rattle.spec.proofs.Acceptance.Computed.{refusals}
+use Rattle.spec.specs.Setup.{firstMatch, setupRefusals}
+use Rattle.spec.specs.Refusals.{refusal4, tickRefusals}
+use Rattle.spec.proofs.Acceptance.Computed.{setting, refusals}
 
 -- ---- clauses
 -- the three of refusal 4, and the eight of "Tables are sound when", each named for what it speaks of
@@ -44,7 +45,7 @@ tested clause holds = record { clause = clause; holds = holds }
 abbrev shapeTests : State → List ClauseTest
 shapeTests s =
     tested waiting-length (isWithin 1 mostRecords (length (s .waitingTable)))
-    ∷ tested client-length (eqb (length (s .clientTable)) (s .head .clients))
+    ∷ tested client-length (eqb (length (s .clientTable)) (s .head .setup .clients))
     ∷ tested waiting-count (not (ltb (length (s .waitingTable)) (s .head .waiting)))
     ∷ []
 
@@ -54,7 +55,7 @@ soundTests s =
     ∷ tested chart-order (isInOrder (waiting s))
     ∷ tested deadline-ahead (every (λ w. isAhead (s .head .clock) (w .deadline)) (waiting s))
     ∷ tested number-given (every (λ w. isGiven (s .head .last) (w .number)) (waiting s))
-    ∷ tested client-exists (every (λ w. isClient (s .head .clients) (w .client)) (waiting s))
+    ∷ tested client-exists (every (λ w. isClient (s .head .setup .clients) (w .client)) (waiting s))
     ∷ tested no-overfull (hasNoOverfull (s .head) (waiting s))
     ∷ tested zero-behind (every isZeroRequest (behind s))
     ∷ tested balance (everyFrom (isBalanced (waiting s)) 0 (s .clientTable))
@@ -67,7 +68,7 @@ areMet ts = every (λ t. t .holds) ts
 pub shape-clauses : (s : State) → refusal4 s .holds ≡ not (areMet (shapeTests s))
 unfolding every
 shape-clauses s =
-    go (isWithin 1 mostRecords (length (s .waitingTable))) (eqb (length (s .clientTable)) (s .head .clients))
+    go (isWithin 1 mostRecords (length (s .waitingTable))) (eqb (length (s .clientTable)) (s .head .setup .clients))
     (ltb (length (s .waitingTable)) (s .head .waiting))
   where
     go : (a b c : Bool) → (not a || not b || c) ≡ not (a && (b && (not c && true)))
@@ -120,7 +121,7 @@ counts submitted served dropped = record { submitted = submitted; served = serve
 -- clients, period, clock, last number and waiting count
 abbrev head : ℕ → ℕ → ℕ → ℕ → ℕ → Head
 head clients period clock last waits =
-    record { clients = clients; period = period; clock = clock; last = last; waiting = waits }
+    record { setup = setting clients period; clock = clock; last = last; waiting = waits }
 
 abbrev breaks : Head → List Request → List Counts → List Clause → Damage
 breaks h rs cs clauses = record { state = record { head = h; waitingTable = rs; clientTable = cs }; clauses = clauses }
@@ -222,5 +223,5 @@ heads =
     ∷ []
 
 pub heads-within : map (λ (r : HeadRow). isHeadWithin (r .head)) heads ≡ map (λ (r : HeadRow). r .isWithinBounds) heads
-unfolding isHeadWithin
+unfolding isHeadWithin firstMatch setupRefusals
 heads-within = refl

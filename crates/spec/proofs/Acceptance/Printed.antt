@@ -4,6 +4,7 @@ use Prim.Native.Nat.{ℕ}
 use mathlib.Core.Path.{_≡_, refl}
 use mathlib.Core.Bool.{Bool, true}
 use mathlib.Core.List.{List, [], _∷_, _++_, map}
+use Rattle.spec.specs.declared.types.Setup.{Setup}
 use Rattle.spec.specs.declared.types.Answer.{Answer}
 use Rattle.spec.specs.declared.types.Answer.the-variants.{Kept, Dropped, Served, Reported, Charted, Refused}
 use Rattle.spec.specs.Every.{exists, select}
@@ -13,8 +14,8 @@ use Rattle.spec.specs.Lists.{servedRequests, waitingRequests}
 use Rattle.spec.specs.Frames.{digitOf, characterOf, numberFrom, digits, frameWith, frameOf, field, kindOf, valuesOf, fieldDigits}
 use Rattle.spec.specs.Frames.{lineOf, segmentLines}
 use Rattle.spec.specs.Session.{textOf, atStart, blank, reply, replies, session}
-use Rattle.spec.specs.Printed.{answerWith, answersIn, callsBy, eventsFrom, eventsIn, sinceOpen, periodSet}
-use Rattle.spec.proofs.Acceptance.Computed.{calls}
+use Rattle.spec.specs.Printed.{answerWith, answersIn, callsBy, eventsFrom, eventsIn, sinceOpen, setupIn}
+use Rattle.spec.proofs.Acceptance.Computed.{setting, calls}
 
 -- ---- the input
 abbrev openLine : ℕ → ℕ → ℕ → List ℕ
@@ -42,7 +43,7 @@ input =
 -- ---- what is read off it
 pub record Shown : Type 0 where
   pub opened : Bool
-  pub period : ℕ
+  pub setup : Setup
   pub list : List Event
   pub served : List ℕ
   pub waits : List ℕ
@@ -54,7 +55,7 @@ abbrev shown : List Event → Shown
 shown es =
     record {
       opened = exists isOpened es;
-      period = periodSet es;
+      setup = setupIn es;
       list = sinceOpen es;
       served = numbers (servedRequests (sinceOpen es));
       waits = numbers (waitingRequests (sinceOpen es));
@@ -67,13 +68,13 @@ abbrev expected : Shown
 expected =
     record {
       opened = true;
-      period = 100;
+      setup = setting 2 100;
       list =
           answered (report 1) (Reported 1 2 0 1 1)
           ∷ answered tick (Served 0 1 0)
           ∷ answered (chart blank) (Charted 1)
           ∷ answered (submit 1 1) (Dropped 3 3 1)
-          ∷ answered (opening 2 100) (Refused 4)
+          ∷ answered (opening (setting 2 100)) (Refused 4)
           ∷ answered (submit 1 2) (Kept 2 1)
           ∷ answered (submit 0 1) (Kept 1 0)
           ∷ [];
@@ -86,5 +87,5 @@ unfolding digits characterOf digitOf numberFrom frameWith frameOf kindOf valuesO
 lines = tt
 
 pub read-off : shown (eventsIn input (session input)) ≡ expected
-unfolding calls chartOutput lines atStart reply replies session answerWith answersIn callsBy eventsFrom eventsIn sinceOpen periodSet exists select ticks asked bookings victims servedRequests waitingRequests
+unfolding calls chartOutput lines atStart reply replies session answerWith answersIn callsBy eventsFrom eventsIn sinceOpen setupIn exists select ticks asked bookings victims servedRequests waitingRequests
 read-off = refl

@@ -9,18 +9,18 @@ use Rattle.slots.specs.Plan.{Slot, none, at}
 use Rattle.spec.specs.declared.types.Counts.{Counts}
 use Rattle.spec.specs.declared.types.Answer.the-variants.{Refused}
 use Rattle.spec.specs.Every.{exists, select}
-use Rattle.spec.specs.Tables.{zeroRequest, zeroCounts, State}
+use Rattle.spec.specs.Tables.{zeroRequest, zeroCounts, openHead, State}
 use Rattle.spec.specs.Calls.{openOf}
 use Rattle.spec.specs.Lists.{Call, opening, submit, tick, report, chart, outcomeOf, run, Event, history, isOpened, ticks}
 use Rattle.spec.specs.Lists.{Asked, asked, bookings, victims, servedRequests, waitingRequests, slotFor, chartBookings}
 use Rattle.spec.specs.Lists.{ownPlan, waitingBy, sinceStart, countsSince}
-use Rattle.spec.proofs.Acceptance.Computed.{calls}
+use Rattle.spec.proofs.Acceptance.Computed.{setting, calls}
 
 -- two clients, a period of two slots
 abbrev start : State
 start =
-    openOf 2 2 (record {
-      head = record { clients = 0; period = 0; clock = 0; last = 0; waiting = 0 };
+    openOf (setting 2 2) (record {
+      head = openHead (setting 0 0);
       waitingTable = replicate 8 zeroRequest;
       clientTable = replicate 2 zeroCounts;
     }) .after
@@ -29,7 +29,7 @@ start =
 abbrev list : List Call
 list =
     chart []
-    ∷ opening 2 0
+    ∷ opening (setting 2 0)
     ∷ report 5
     ∷ submit 1 9
     ∷ tick
@@ -39,7 +39,7 @@ list =
     ∷ submit 1 1
     ∷ submit 1 2
     ∷ submit 0 1
-    ∷ opening 0 7
+    ∷ opening (setting 0 7)
     ∷ []
 
 pub record Reading : Type 0 where
@@ -105,7 +105,7 @@ readings = refl
 abbrev late : State
 late =
     record {
-      head = record { clients = 2; period = 2; clock = 281474976710653; last = 0; waiting = 0 };
+      head = record { setup = setting 2 2; clock = 281474976710653; last = 0; waiting = 0 };
       waitingTable = replicate 8 zeroRequest;
       clientTable = replicate 2 zeroCounts;
     }
@@ -145,6 +145,6 @@ unfolding listsRead
 late-readings = refl
 
 -- an open that is accepted is seen as such
-pub reopened : exists isOpened (history start (opening 2 5 ∷ [])) ≡ true
+pub reopened : exists isOpened (history start (opening (setting 2 5) ∷ [])) ≡ true
 unfolding lists
 reopened = refl

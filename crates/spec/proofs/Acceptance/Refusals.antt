@@ -11,10 +11,10 @@ use Rattle.spec.specs.declared.types.Answer.{Answer}
 use Rattle.spec.specs.declared.types.Answer.the-variants.{Opened, Kept, Served, Reported, Charted, Refused}
 use Rattle.spec.specs.Every.{select}
 use Rattle.spec.specs.Tables.{mostCounted, clockEnd, numberEnd, State, holding}
-use Rattle.spec.specs.Refusals.{Refusal}
+use Rattle.spec.specs.Setup.{Refusal}
 use Rattle.spec.specs.Lists.{Call, opening, submit, tick, report, chart, outcomeOf}
 use Rattle.spec.proofs.Demands.Words.{refusalsOf}
-use Rattle.spec.proofs.Acceptance.Computed.{calls}
+use Rattle.spec.proofs.Acceptance.Computed.{setting, calls}
 
 -- a call on a state, the numbers of its refusals whose conditions hold, and the answer
 pub record Row : Type 0 where
@@ -37,7 +37,7 @@ full = record { deadline = 281474976710660; number = 1; client = 0 } ∷ []
 abbrev state : ℕ → ℕ → ℕ → List Request → List Counts → State
 state clock last waits rs cs =
     record {
-      head = record { clients = 1; period = 10; clock = clock; last = last; waiting = waits };
+      head = record { setup = setting 1 10; clock = clock; last = last; waiting = waits };
       waitingTable = rs;
       clientTable = cs;
     }
@@ -48,10 +48,10 @@ oneClient submitted served dropped = counts submitted served dropped ∷ []
 
 abbrev rows : List Row
 rows =
-    row (opening 0 0) (state 0 0 0 [] (oneClient 0 0 0)) (2 ∷ 3 ∷ 4 ∷ []) (Refused 2)
-    ∷ row (opening 1 0) (state 0 0 0 [] (oneClient 0 0 0)) (3 ∷ 4 ∷ []) (Refused 3)
-    ∷ row (opening 1 10) (state 0 0 0 [] (oneClient 0 0 0)) (4 ∷ []) (Refused 4)
-    ∷ row (opening 1 10) (state 0 0 0 full (oneClient 0 0 0)) [] Opened
+    row (opening (setting 0 0)) (state 0 0 0 [] (oneClient 0 0 0)) (2 ∷ 3 ∷ 4 ∷ []) (Refused 2)
+    ∷ row (opening (setting 1 0)) (state 0 0 0 [] (oneClient 0 0 0)) (3 ∷ 4 ∷ []) (Refused 3)
+    ∷ row (opening (setting 1 10)) (state 0 0 0 [] (oneClient 0 0 0)) (4 ∷ []) (Refused 4)
+    ∷ row (opening (setting 1 10)) (state 0 0 0 full (oneClient 0 0 0)) [] Opened
     -- 8 holds beside 6 only where the client table is too long, for else a client that does not exist has no record; 10 holds beside 4
     -- only where the waiting count is not too large. So 4 is given in two rows; 10 comes back when 4 is taken away, and 8 when 6 is
     ∷ row (submit 9 0) (state clockEnd numberEnd 1 full (replicate 10 (counts mostCounted 0 0))) (4 ∷ 5 ∷ 6 ∷ 7 ∷ 8 ∷ 9 ∷ 10 ∷ [])

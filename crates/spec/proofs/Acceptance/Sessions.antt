@@ -15,7 +15,7 @@ use Rattle.spec.specs.declared.types.Answer.{Answer}
 use Rattle.spec.specs.declared.types.Answer.the-variants.{Opened, Kept, Dropped, Served, Idle, Reported, Charted, Refused}
 use Rattle.spec.specs.Chart.{Segment}
 use Rattle.spec.specs.Calls.{chartOutput}
-use Rattle.spec.proofs.Acceptance.Computed.{calls}
+use Rattle.spec.proofs.Acceptance.Computed.{setting, calls}
 
 -- an input's lines, what stands behind its last line feed, and the lines of the output
 pub record Dialogue : Type 0 where
@@ -162,7 +162,7 @@ pub record LineIn : Type 0 where
 abbrev linesIn : List LineIn
 linesIn =
     -- "Numbers are big-endian, widths in bytes in brackets.": every byte in its place
-    record { text = "01012389ABCDEF4567"; frame = Open 0x0123 0x89ABCDEF 0x4567 }
+    record { text = "01012389ABCDEF4567"; frame = Open (setting 0x0123 0x89ABCDEF) 0x4567 }
     ∷ record { text = "02CDEF0123456789ABFEDC"; frame = Submit 0xCDEF 0x0123456789ABFEDC }
     ∷ record { text = "03"; frame = Tick }
     ∷ record { text = "0489AB"; frame = Report 0x89AB }

@@ -44,14 +44,14 @@ due-deadlines D ws =
     sym (upto-entries D ws) ∙ upto-deadlines D (map entryOf ws) ∙ ap (total (dueOf D)) (entry-deadlines ws)
 
 -- from a slot t on
-pub finish-feasible-at : (head : Head) (t : ℕ) (ws : List Request) → CanAllFinish (capacityOf head) t (deadlinesOf ws)
+pub finish-feasible-at : (head : Head) (t : ℕ) (ws : List Request) → CanAllFinish (capacityOf (head .setup)) t (deadlinesOf ws)
     → FeasibleAt head t ws
 finish-feasible-at head t ws f D =
     omega (
       arith,
       due-deadlines D ws,
-      room-capacity head t D,
-      placing-room (capacityOf head) t (deadlinesOf ws) (f .0) (f .1) (f .2) D,
+      room-capacity (head .setup) t D,
+      placing-room (capacityOf (head .setup)) t (deadlinesOf ws) (f .0) (f .1) (f .2) D,
     )
 
 pub finish-feasible : (head : Head) (ws : List Request) → CanFinish head ws → Feasible head ws
@@ -60,7 +60,7 @@ finish-feasible head ws f = finish-feasible-at head (head .clock) ws f
 pub feasible-finish : (head : Head) (ws : List Request) → InOrder ws → Feasible head ws → CanFinish head ws
 feasible-finish head ws o f = (
   slots,
-  subst (λ (ds : List ℕ). Plan (capacityOf head) (map (since (head .clock)) ds) slots) (entry-deadlines ws) (placed .0),
+  subst (λ (ds : List ℕ). Plan (capacityOf (head .setup)) (map (since (head .clock)) ds) slots) (entry-deadlines ws) (placed .0),
   omega (arith, placed .1, length-map ws entryOf, length-map ws (λ (w : Request). w .deadline)),
 )
   where
@@ -68,14 +68,14 @@ feasible-finish head ws o f = (
     es = map entryOf ws
 
     slots : List Slot
-    slots = map slotted (chart (capacityOf head) es)
+    slots = map slotted (chart (capacityOf (head .setup)) es)
 
-    fits : (D : ℕ) → upto D es ≤ roomOf (capacityOf head) (head .clock) D
-    fits D = omega (arith, upto-entries D ws, room-capacity head (head .clock) D, f D)
+    fits : (D : ℕ) → upto D es ≤ roomOf (capacityOf (head .setup)) (head .clock) D
+    fits D = omega (arith, upto-entries D ws, room-capacity (head .setup) (head .clock) D, f D)
 
-    placed : Plan (capacityOf head) (map (since (head .clock)) (map (λ (e : Entry). e .deadline) es)) slots
+    placed : Plan (capacityOf (head .setup)) (map (since (head .clock)) (map (λ (e : Entry). e .deadline) es)) slots
         × (size slots ≡ length es)
-    placed = room-placing (capacityOf head) (head .clock) es (sorted-entries ws o) fits
+    placed = room-placing (capacityOf (head .setup)) (head .clock) es (sorted-entries ws o) fits
 
 -- a place is a candidate's just where the others can finish
 pub candidate-finish : (head : Head) (ws : List Request) (k : ℕ) → InOrder ws

@@ -9,6 +9,7 @@ use borrow.Author.Tests.{le-ltb, eq-eqb}
 use lib.ListN.{length, getD, replicate, length-replicate, getD-replicate}
 use Rattle.slots.proofs.Laws.Tests.{le, gt, order}
 use Rattle.slots.proofs.Laws.Sums.{All, all-imp}
+use Rattle.spec.specs.declared.types.Setup.{Setup}
 use Rattle.spec.specs.declared.types.Head.{Head}
 use Rattle.spec.specs.declared.types.Request.{Request}
 use Rattle.spec.specs.declared.types.Counts.{Counts}
@@ -18,7 +19,8 @@ use Rattle.spec.specs.Tables.{nextState}
 use Rattle.spec.specs.Order.{putInOrder, removeAt}
 use Rattle.spec.specs.Chart.{dueBy, hasNoOverfull}
 use Rattle.spec.specs.Victim.{isCandidate}
-use Rattle.spec.specs.Refusals.{firstMatch, refusal4}
+use Rattle.spec.specs.Setup.{firstMatch}
+use Rattle.spec.specs.Refusals.{refusal4}
 use Rattle.spec.specs.Calls.{Outcome, change, oneMoreSubmitted, oneMoreServed, oneMoreDropped, openAccepted, newRequest}
 use Rattle.spec.specs.Calls.{countedIn, withNew, kept, requestAt, droppedAt, victimPlace, submitAccepted, isPeriodStart}
 use Rattle.spec.specs.Calls.{restarted, countsAfter, oneLater, tickAccepted, reportAccepted, chartAccepted}
@@ -47,7 +49,7 @@ pub record Tidy (clock last clients : ℕ) (ws : List Request) (cs : List Counts
   pub counted : length cs ≡ clients
   pub balanced : (c : ℕ) → c < length cs → Balanced ws c (getD cs c zeroCounts)
 
-pub tidy : (s : State) → Ready s → Tidy (s .head .clock) (s .head .last) (s .head .clients) (waiting s) (s .clientTable)
+pub tidy : (s : State) → Ready s → Tidy (s .head .clock) (s .head .last) (s .head .setup .clients) (waiting s) (s .clientTable)
 tidy s r =
     record {
       ordered = r .sound .ordered;
@@ -60,7 +62,7 @@ tidy s r =
 
 -- a state that a call leaves is sound where its requests and counts are
 pub next-ready : (clock last : ℕ) (ws : List Request) (cs : List Counts) (s : State) → Ready s → clock ≤ clockEnd
-    → last ≤ numberEnd → length ws ≤ length (s .waitingTable) → Tidy clock last (s .head .clients) ws cs
+    → last ≤ numberEnd → length ws ≤ length (s .waitingTable) → Tidy clock last (s .head .setup .clients) ws cs
     → FeasibleAt (s .head) clock ws → Ready (nextState clock last ws cs s)
 unfolding nextState
 next-ready clock last ws cs s r c l n t f =
@@ -76,10 +78,7 @@ next-ready clock last ws cs s r c l n t f =
           record {
             headed =
                 record {
-                  some-clients = r .sound .headed .some-clients;
-                  most-clients = r .sound .headed .most-clients;
-                  some-period = r .sound .headed .some-period;
-                  most-period = r .sound .headed .most-period;
+                  setup = r .sound .headed .setup;
                   clock = c;
                   last = l;
                 };
@@ -94,9 +93,9 @@ next-ready clock last ws cs s r c l n t f =
     }
 
 -- ---- open
-pub open-keeps : (clients period : ℕ) (s : State) → OpenReady clients period s → Ready (openAccepted clients period s .after)
+pub open-keeps : (setup : Setup) (s : State) → OpenReady setup s → Ready (openAccepted setup s .after)
 unfolding openAccepted
-open-keeps clients period s r =
+open-keeps setup s r =
     record {
       shape =
           record {
@@ -109,10 +108,7 @@ open-keeps clients period s r =
           record {
             headed =
                 record {
-                  some-clients = r .some-clients;
-                  most-clients = r .most-clients;
-                  some-period = r .some-period;
-                  most-period = r .most-period;
+                  setup = r .within;
                   clock = omega arith;
                   last = omega arith;
                 };
@@ -144,7 +140,7 @@ balanced-put new ws cs n c (stays e) b = (omega (arith, waitingOf-put c new ws, 
 
 -- the new request counted and put in; overfull deadlines apart
 pub tidy-put : (client deadline : ℕ) (s : State) → SubmitReady client deadline s
-    → Tidy (s .head .clock) (suc (s .head .last)) (s .head .clients) (withNew client deadline s) (countedIn client s)
+    → Tidy (s .head .clock) (suc (s .head .last)) (s .head .setup .clients) (withNew client deadline s) (countedIn client s)
 tidy-put client deadline s r =
     let last = s .head .last in
     let t = tidy s (r .ready) in
@@ -156,7 +152,7 @@ tidy-put client deadline s r =
       given =
           all-put (Given (suc last)) new (waiting s) (omega arith, omega arith)
           (all-imp (Given last) (Given (suc last)) (waiting s) (λ w h. (h .0, omega arith)) (t .given));
-      owned = all-put (Owned (s .head .clients)) new (waiting s) (r .exists) (t .owned);
+      owned = all-put (Owned (s .head .setup .clients)) new (waiting s) (r .exists) (t .owned);
       counted = same-length ∙ t .counted;
       balanced =
           λ c h. let l : c < length (s .clientTable) = omega (arith, same-length) in
@@ -233,7 +229,7 @@ module _ (client deadline : ℕ) (s : State) (r : SubmitReady client deadline s)
       next-ready (s .head .clock) (suc (s .head .last)) (removeAt k (withNew client deadline s))
       (change oneMoreDropped (requestAt k client deadline s .client) (countedIn client s)) s (r .ready)
       (r .ready .sound .headed .clock) number-left (omega (arith, record-left, length-remove k (withNew client deadline s) n))
-      (tidy-remove oneMoreDropped dropped-ends k (s .head .clock) (suc (s .head .last)) (s .head .clients)
+      (tidy-remove oneMoreDropped dropped-ends k (s .head .clock) (suc (s .head .last)) (s .head .setup .clients)
       (withNew client deadline s) (countedIn client s) n (tidy-put client deadline s r))
       (feasible-facts (s .head) (removeAt k (withNew client deadline s)) e)
 
@@ -267,7 +263,7 @@ tidy-later head clock last clients ws cs f t =
     later : (w : Request) → 1 ≤ dueBy (w .deadline) ws → suc (suc clock) ≤ w .deadline
     later w d =
         elim (order (w .deadline) (suc clock)) [
-          | le h ↦ absurd (omega (arith, f (w .deadline), room-back head (suc clock) (w .deadline) h))
+          | le h ↦ absurd (omega (arith, f (w .deadline), room-back (head .setup) (suc clock) (w .deadline) h))
           | gt h ↦ h
         ]
 
@@ -300,16 +296,16 @@ feasible-later head w ws o f D =
     elim (order (w .deadline) D) [
       | le h ↦
           elim (order D (head .clock)) [
-            | le g ↦ absurd (omega (arith, f D, dueBy-cons D w ws, due-yes D w h, room-back head (head .clock) D g))
+            | le g ↦ absurd (omega (arith, f D, dueBy-cons D w ws, due-yes D w h, room-back (head .setup) (head .clock) D g))
             | gt g ↦
                 omega (
                   arith,
                   f D,
                   dueBy-cons D w ws,
                   due-yes D w h,
-                  room-split head (head .clock) (suc (head .clock)) D (omega arith) g,
-                  room-step head (head .clock),
-                  capacity-one head (head .clock),
+                  room-split (head .setup) (head .clock) (suc (head .clock)) D (omega arith) g,
+                  room-step (head .setup) (head .clock),
+                  capacity-one (head .setup) (head .clock),
                 )
           ]
       | gt h ↦
@@ -321,14 +317,14 @@ feasible-later head w ws o f D =
     ]
 
 later-ready : (ws : List Request) (cs : List Counts) (s : State) → TickReady s → length ws ≤ length (s .waitingTable)
-    → Tidy (s .head .clock) (s .head .last) (s .head .clients) ws cs
+    → Tidy (s .head .clock) (s .head .last) (s .head .setup .clients) ws cs
     → FeasibleAt (s .head) (suc (s .head .clock)) ws → Ready (oneLater ws cs s)
 later-ready ws cs s r n t f =
     let clock = suc (s .head .clock) in
-    next-ready clock (s .head .last) ws (countsAfter (s .head .period) clock ws cs) s (r .ready)
+    next-ready clock (s .head .last) ws (countsAfter (s .head .setup .period) clock ws cs) s (r .ready)
     (omega (arith, r .ready .sound .headed .clock, r .ticking)) (r .ready .sound .headed .last) n
-    (tidy-restart (s .head .period) clock clock (s .head .last) (s .head .clients) ws cs
-    (tidy-later (s .head) (s .head .clock) (s .head .last) (s .head .clients) ws cs f t)) f
+    (tidy-restart (s .head .setup .period) clock clock (s .head .last) (s .head .setup .clients) ws cs
+    (tidy-later (s .head) (s .head .clock) (s .head .last) (s .head .setup .clients) ws cs f t)) f
 
 pub tick-keeps : (s : State) → TickReady s → Ready (tickAccepted (waiting s) s .after)
 unfolding tickAccepted removeAt
@@ -337,19 +333,19 @@ tick-keeps s r =
     (r .ready .sound .feasible)
   where
     go : (ws : List Request) → length ws ≤ length (s .waitingTable)
-        → Tidy (s .head .clock) (s .head .last) (s .head .clients) ws (s .clientTable) → Feasible (s .head) ws
+        → Tidy (s .head .clock) (s .head .last) (s .head .setup .clients) ws (s .clientTable) → Feasible (s .head) ws
         → Ready (tickAccepted ws s .after)
     go [] n t f = later-ready [] (s .clientTable) s r n t (λ D. omega (arith, dueBy-none D [] tt))
     go (w ∷ ws) n t f =
         later-ready ws (change oneMoreServed (w .client) (s .clientTable)) s r (omega arith)
-        (tidy-remove oneMoreServed served-ends 0 (s .head .clock) (s .head .last) (s .head .clients) (w ∷ ws) (s .clientTable)
+        (tidy-remove oneMoreServed served-ends 0 (s .head .clock) (s .head .last) (s .head .setup .clients) (w ∷ ws) (s .clientTable)
         (omega arith) t)
         (feasible-later (s .head) w ws (t .ordered) f)
 
 -- ---- every call
 accepted-keeps : (c : Call) (s : State) → firstMatch (refusalsOf c s) ≡ 0 → Ready (acceptedOf c s .after)
 unfolding reportAccepted chartAccepted
-accepted-keeps (opening clients period) s e = open-keeps clients period s (open-ready clients period s e)
+accepted-keeps (opening setup) s e = open-keeps setup s (open-ready setup s e)
 accepted-keeps (submit client deadline) s e = submit-keeps client deadline s (submit-ready client deadline s e)
 accepted-keeps tick s e = tick-keeps s (tick-ready s e)
 accepted-keeps (report client) s e = report-ready client s e .ready
@@ -360,7 +356,7 @@ pub shaped-test : (s : State) → Shaped s → refusal4 s .holds ≡ false
 shaped-test s f =
     rw (
       within-test 1 mostRecords (length (s .waitingTable)) (f .some-records) (f .most-records),
-      eq-eqb (length (s .clientTable)) (s .head .clients) (f .clients),
+      eq-eqb (length (s .clientTable)) (s .head .setup .clients) (f .clients),
       le-ltb (length (s .waitingTable)) (s .head .waiting) (f .waits),
     )
 
@@ -403,10 +399,10 @@ unfolding tickAccepted
 tick-lengths s r = go (waiting s) (omega (arith, waiting-length s (r .shape), r .shape .waits))
   where
     after : List Request → List Counts → List Counts
-    after ws cs = countsAfter (s .head .period) (suc (s .head .clock)) ws cs
+    after ws cs = countsAfter (s .head .setup .period) (suc (s .head .clock)) ws cs
 
     counted : (ws : List Request) (cs : List Counts) → length (after ws cs) ≡ length cs
-    counted ws cs = which (isPeriodStart (s .head .period) (suc (s .head .clock)))
+    counted ws cs = which (isPeriodStart (s .head .setup .period) (suc (s .head .clock)))
       where
         which : (x : Bool) → length (cond x (mapFrom (restarted ws) 0 cs) cs) ≡ length cs
         which true = length-mapFrom (restarted ws) 0 cs
@@ -422,7 +418,7 @@ tick-lengths s r = go (waiting s) (omega (arith, waiting-length s (r .shape), r 
 
 accepted-lengths : (c : Call) (s : State) → firstMatch (refusalsOf c s) ≡ 0 → SameLengths s (acceptedOf c s .after)
 unfolding openAccepted reportAccepted chartAccepted
-accepted-lengths (opening clients period) s e =
+accepted-lengths (opening setup) s e =
     (length-replicate (length (s .waitingTable)) zeroRequest, length-replicate (length (s .clientTable)) zeroCounts)
 accepted-lengths (submit client deadline) s e = submit-lengths client deadline s (submit-ready client deadline s e)
 accepted-lengths tick s e = tick-lengths s (tick-ready s e .ready)

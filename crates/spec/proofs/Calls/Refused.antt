@@ -9,10 +9,12 @@ use lib.Dec.{eqb}
 use lib.ListN.{length, drop}
 use Rattle.slots.proofs.Laws.Tests.{Same, same-yes, same-no, same}
 use Rattle.slots.proofs.Laws.Sums.{All}
+use Rattle.spec.specs.declared.types.Setup.{Setup}
 use Rattle.spec.specs.declared.types.Request.{Request}
 use Rattle.spec.specs.Tables.{State, waiting}
 use Rattle.spec.specs.Chart.{startsOf, hasNoOverfull}
-use Rattle.spec.specs.Refusals.{Refusal, firstMatch, openRefusals, submitRefusals, tickRefusals, reportRefusals}
+use Rattle.spec.specs.Setup.{Refusal, firstMatch, setupRefusals}
+use Rattle.spec.specs.Refusals.{openRefusals, submitRefusals, tickRefusals, reportRefusals}
 use Rattle.spec.specs.Refusals.{chartRefusals}
 use Rattle.spec.specs.Calls.{Outcome, unlessRefused, openAccepted, openOf, kept, droppedAt, victimPlace, withNew}
 use Rattle.spec.specs.Calls.{submitAccepted, submitOf, tickAccepted, tickOf, reportAccepted, reportOf, chartAccepted}
@@ -24,7 +26,7 @@ use Rattle.spec.proofs.Laws.Accepted.{Decided, accepts, refuses, decide
 -- ---- each call is its refusals and what it does where none holds
 -- what an accepted call comes to
 abbrev pub acceptedOf : Call → State → Outcome
-acceptedOf (opening clients period) s = openAccepted clients period s
+acceptedOf (opening setup) s = openAccepted setup s
 acceptedOf (submit client deadline) s = submitAccepted client deadline s
 acceptedOf tick s = tickAccepted (waiting s) s
 acceptedOf (report client) s = reportAccepted client s
@@ -32,7 +34,7 @@ acceptedOf (chart output) s = chartAccepted s
 
 outcome-unless : (c : Call) (s : State) → unlessRefused (refusalsOf c s) s (acceptedOf c s) ≡ outcomeOf c s
 unfolding outcomeOf openOf submitOf tickOf reportOf chartOf
-outcome-unless (opening clients period) s = refl
+outcome-unless (opening setup) s = refl
 outcome-unless (submit client deadline) s = refl
 outcome-unless tick s = refl
 outcome-unless (report client) s = refl
@@ -44,7 +46,7 @@ outcome-decided c s = rw (outcome-unless c s) at (decided (refusalsOf c s) s (ac
 -- no answer of an accepted call is a refusal
 pub accepted-answer : (c : Call) (s : State) → isRefused (acceptedOf c s .answer) ≡ false
 unfolding openAccepted submitAccepted kept droppedAt tickAccepted reportAccepted chartAccepted
-accepted-answer (opening clients period) s = refl
+accepted-answer (opening setup) s = refl
 accepted-answer (submit client deadline) s = go (hasNoOverfull (s .head) (withNew client deadline s))
   where
     go : (x : Bool)
@@ -84,8 +86,8 @@ first-listed (here e) a = a .0
 first-listed (further e f) a = first-listed f (a .1)
 
 pub listed : (c : Call) (s : State) → All (λ (r : Refusal). Listed (r .number)) (refusalsOf c s)
-unfolding openRefusals submitRefusals tickRefusals reportRefusals chartRefusals
-listed (opening clients period) s = omega arith
+unfolding setupRefusals openRefusals submitRefusals tickRefusals reportRefusals chartRefusals
+listed (opening setup) s = omega arith
 listed (submit client deadline) s = omega arith
 listed tick s = omega arith
 listed (report client) s = omega arith
@@ -109,23 +111,23 @@ accepted-same c s = go (outcome-decided c s)
 
 -- ---- the output of chart
 -- "one start slot a waiting record"
-pub length-starts : (ws : List Request) → length (startsOf ws) ≡ length ws
+pub length-starts : (setup : Setup) (ws : List Request) → length (startsOf setup ws) ≡ length ws
 unfolding startsOf
-length-starts [] = refl
-length-starts (w ∷ ws) = ap suc (length-starts ws)
+length-starts setup [] = refl
+length-starts setup (w ∷ ws) = ap suc (length-starts setup ws)
 
 -- the output is written where no refusal matches, and only there
 pub data Written (output : List ℕ) (s : State) : List ℕ → Type 0 where
   untouched : firstMatch (chartRefusals output s) ≢ 0 → Written output s output
   written :
       firstMatch (chartRefusals output s) ≡ 0
-      → Written output s (startsOf (waiting s) ++ drop (length (startsOf (waiting s))) output)
+      → Written output s (startsOf (s .head .setup) (waiting s) ++ drop (length (startsOf (s .head .setup) (waiting s))) output)
 
 pub output-written : (output : List ℕ) (s : State) → Written output s (chartOutput output s)
 unfolding chartOutput
 output-written output s = go (eqb (firstMatch (chartRefusals output s)) 0) (same (firstMatch (chartRefusals output s)) 0)
   where
     go : (x : Bool) → Same (firstMatch (chartRefusals output s)) 0 x
-        → Written output s (cond x (startsOf (waiting s) ++ drop (length (startsOf (waiting s))) output) output)
+        → Written output s (cond x (startsOf (s .head .setup) (waiting s) ++ drop (length (startsOf (s .head .setup) (waiting s))) output) output)
     go true (same-yes e) = written e
     go false (same-no e) = untouched e

@@ -268,13 +268,13 @@ counted-some client deadline s r j h =
     some : Request → Type 0
     some w = 1 ≤ getD (countedIn client s) (w .client) zeroCounts .submitted
 
-    inside : (c : ℕ) → c < s .head .clients → c < length cs
+    inside : (c : ℕ) → c < s .head .setup .clients → c < length cs
     inside c l = omega (arith, r .ready .shape .clients)
 
     mine : some (newRequest client deadline s)
     mine = unfold change in rw (getD-set-same cs client more zeroCounts (inside client (r .exists))) (omega arith)
 
-    one : (w : Request) → Owned (s .head .clients) w → 1 ≤ waitingOf (w .client) (waiting s) → some w
+    one : (w : Request) → Owned (s .head .setup .clients) w → 1 ≤ waitingOf (w .client) (waiting s) → some w
     one w o n = go (eqb (w .client) client) (same (w .client) client)
       where
         go : (x : Bool) → Same (w .client) client x → some w
@@ -284,7 +284,7 @@ counted-some client deadline s r j h =
             rw (getD-set-other cs client (w .client) more zeroCounts e)
             (omega (arith, r .ready .sound .balanced (w .client) (inside (w .client) o) .0))
 
-    each : (ws : List Request) → All (Owned (s .head .clients)) ws
+    each : (ws : List Request) → All (Owned (s .head .setup .clients)) ws
         → All (λ (w : Request). 1 ≤ waitingOf (w .client) (waiting s)) ws → All some ws
     each [] a b = tt
     each (w ∷ ws) a b = (one w (a .0) (b .0), each ws (a .1) (b .1))

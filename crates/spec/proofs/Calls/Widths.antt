@@ -7,12 +7,13 @@ use native.Mathlib.Omega.{arith}
 use lib.Dec.{eqb}
 use lib.ListN.{length}
 use Rattle.slots.proofs.Laws.Sums.{All, all-imp}
+use Rattle.spec.specs.declared.types.Setup.{Setup}
 use Rattle.spec.specs.declared.types.Request.{Request}
 use Rattle.spec.specs.declared.types.Answer.{Answer}
 use Rattle.spec.specs.Tables.{mostAhead, zeroRequest, State, waiting}
 use Rattle.spec.specs.Chart.{startsOf, Segment, doTouch, joinLeft, segmentsOf, hasNoOverfull}
 use Rattle.spec.specs.Sound.{waitingOf}
-use Rattle.spec.specs.Refusals.{firstMatch}
+use Rattle.spec.specs.Setup.{firstMatch}
 use Rattle.spec.specs.Calls.{Outcome, openAccepted, newRequest, withNew, kept, droppedAt, victimPlace, submitAccepted}
 use Rattle.spec.specs.Calls.{tickAccepted, reportAccepted, chartAccepted}
 use Rattle.spec.specs.Lists.{Call, opening, submit, tick, report, chart, outcomeOf}
@@ -54,10 +55,10 @@ module _ (client deadline : ℕ) (s : State) (r : SubmitReady client deadline s)
         arith,
         r .ready .sound .headed .last,
         r .numbered,
-        r .ready .sound .headed .most-clients,
+        r .ready .sound .headed .setup .most-clients,
         all-at (λ (w : Request). (1 ≤ w .number) × (w .number ≤ suc (s .head .last))) (withNew client deadline s) k zeroRequest h
             (t .given),
-        all-at (λ (w : Request). w .client < s .head .clients) (withNew client deadline s) k zeroRequest h (t .owned),
+        all-at (λ (w : Request). w .client < s .head .setup .clients) (withNew client deadline s) k zeroRequest h (t .owned),
       )
 
   submit-fits : Fit (submitAccepted client deadline s .answer)
@@ -78,18 +79,18 @@ unfolding tickAccepted valuesOf
 tick-fits s r = go (waiting s) (r .sound .given) (r .sound .owned)
   where
     go : (ws : List Request) → All (λ (w : Request). (1 ≤ w .number) × (w .number ≤ s .head .last)) ws
-        → All (λ (w : Request). w .client < s .head .clients) ws → Fit (tickAccepted ws s .answer)
+        → All (λ (w : Request). w .client < s .head .setup .clients) ws → Fit (tickAccepted ws s .answer)
     go [] g o = omega (arith, r .sound .headed .clock)
     go (w ∷ ws) g o =
-        omega (arith, r .sound .headed .clock, r .sound .headed .last, r .sound .headed .most-clients, g .0, o .0)
+        omega (arith, r .sound .headed .clock, r .sound .headed .last, r .sound .headed .setup .most-clients, g .0, o .0)
 
 -- ---- report
-report-fits : (client : ℕ) (s : State) → Ready s → client < s .head .clients → Fit (reportAccepted client s .answer)
+report-fits : (client : ℕ) (s : State) → Ready s → client < s .head .setup .clients → Fit (reportAccepted client s .answer)
 unfolding reportAccepted valuesOf
 report-fits client s r h =
     omega (
       arith,
-      r .sound .headed .most-clients,
+      r .sound .headed .setup .most-clients,
       r .sound .balanced client (omega (arith, r .shape .clients)),
       waits-most,
       waiting-length s (r .shape),
@@ -103,7 +104,7 @@ report-fits client s r h =
 -- ---- every call, refused ones too
 accepted-fits : (c : Call) (s : State) → firstMatch (refusalsOf c s) ≡ 0 → Fit (acceptedOf c s .answer)
 unfolding openAccepted chartAccepted valuesOf
-accepted-fits (opening clients period) s e = tt
+accepted-fits (opening setup) s e = tt
 accepted-fits (submit client deadline) s e = submit-fits client deadline s (submit-ready client deadline s e)
 accepted-fits tick s e = tick-fits s (tick-ready s e .ready)
 accepted-fits (report client) s e =
@@ -124,13 +125,13 @@ call-fits c s = go (outcome-decided c s)
 abbrev Within : ℕ → Segment → Type 0
 Within most g = (g .left < g .right) × (g .right ≤ most)
 
-segments-within : (most : ℕ) (starts : List ℕ) → All (λ (s : ℕ). suc s ≤ most) starts → All (Within most) (segmentsOf starts)
-segments-within most starts a =
-    segments-all (λ s. suc s ≤ most) (Within most) (λ s h. (omega arith, h)) (λ s g h e k. (omega arith, k .1)) starts a
+segments-within : (setup : Setup) (most : ℕ) (starts : List ℕ) → All (λ (s : ℕ). suc s ≤ most) starts → All (Within most) (segmentsOf setup starts)
+segments-within setup most starts a =
+    segments-all setup (λ s. suc s ≤ most) (Within most) (λ s h. (omega arith, h)) (λ s g h e k. (omega arith, k .1)) starts a
 
-join-length : (s : ℕ) (gs : List Segment) → length (joinLeft s gs) ≤ suc (length gs)
-join-length s [] = omega arith
-join-length s (g ∷ gs) = go (doTouch (suc s) (g .left))
+join-length : (setup : Setup) (s : ℕ) (gs : List Segment) → length (joinLeft setup s gs) ≤ suc (length gs)
+join-length setup s [] = omega arith
+join-length setup s (g ∷ gs) = go (doTouch setup (suc s) (g .left))
   where
     go : (x : Bool)
         → length (cond x (record { left = s; right = g .right } ∷ gs) (record { left = s; right = suc s } ∷ g ∷ gs))
@@ -138,10 +139,10 @@ join-length s (g ∷ gs) = go (doTouch (suc s) (g .left))
     go true = omega arith
     go false = omega arith
 
-segments-length : (starts : List ℕ) → length (segmentsOf starts) ≤ length starts
+segments-length : (setup : Setup) (starts : List ℕ) → length (segmentsOf setup starts) ≤ length starts
 unfolding segmentsOf
-segments-length [] = omega arith
-segments-length (s ∷ starts) = omega (arith, join-length s (segmentsOf starts), segments-length starts)
+segments-length setup [] = omega arith
+segments-length setup (s ∷ starts) = omega (arith, join-length setup s (segmentsOf setup starts), segments-length setup starts)
 
 -- slots ended by deadlines within the bound
 ended-within : (most : ℕ) (ws : List Request) (slots : List ℕ) → Finish ws slots → All (λ (w : Request). w .deadline ≤ most) ws
@@ -156,21 +157,21 @@ module _ (s : State) (r : Ready s) where
   latest-end = s .head .clock + mostAhead
 
   pub segment-fits : All (λ (g : Segment). FitsField (field 8 (g .left)) × FitsField (field 8 (g .right)))
-      (segmentsOf (startsOf (waiting s)))
+      (segmentsOf (s .head .setup) (startsOf (s .head .setup) (waiting s)))
   unfolding latest-end
   segment-fits =
       all-imp (Within latest-end) (λ (g : Segment). FitsField (field 8 (g .left)) × FitsField (field 8 (g .right)))
-      (segmentsOf (startsOf (waiting s))) (λ g h. omega (arith, r .sound .headed .clock))
-      (segments-within latest-end (startsOf (waiting s))
-      (ended-within latest-end (waiting s) (startsOf (waiting s)) (ready-chart s r .ended)
+      (segmentsOf (s .head .setup) (startsOf (s .head .setup) (waiting s))) (λ g h. omega (arith, r .sound .headed .clock))
+      (segments-within (s .head .setup) latest-end (startsOf (s .head .setup) (waiting s))
+      (ended-within latest-end (waiting s) (startsOf (s .head .setup) (waiting s)) (ready-chart s r .ended)
       (all-imp (Ahead (s .head .clock)) (λ (w : Request). w .deadline ≤ latest-end) (waiting s) (λ w h. h .1) (r .sound .ahead))))
 
-  pub count-fits : FitsField (field 2 (length (segmentsOf (startsOf (waiting s)))))
+  pub count-fits : FitsField (field 2 (length (segmentsOf (s .head .setup) (startsOf (s .head .setup) (waiting s)))))
   count-fits =
       omega (
         arith,
-        segments-length (startsOf (waiting s)),
-        length-starts (waiting s),
+        segments-length (s .head .setup) (startsOf (s .head .setup) (waiting s)),
+        length-starts (s .head .setup) (waiting s),
         waiting-length s (r .shape),
         r .shape .waits,
         r .shape .most-records,

@@ -13,12 +13,14 @@ use lib.ListN.{length, getD, take, drop, length-append, length-drop}
 use lib.Seq.{take-append-seam, drop-append-seam}
 use Rattle.slots.specs.Plan.{CanAllFinish}
 use Rattle.slots.proofs.Laws.Sums.{All}
+use Rattle.spec.specs.declared.types.Setup.{Setup}
 use Rattle.spec.specs.declared.types.Answer.the-variants.{Charted, Refused}
 use Rattle.spec.specs.Every.{exists}
 use Rattle.spec.specs.Tables.{zeroCounts, State, waiting, deadlinesOf}
 use Rattle.spec.specs.Chart.{Segment, capacityOf, startsOf, segmentsOf}
 use Rattle.spec.specs.Sound.{isSound}
-use Rattle.spec.specs.Refusals.{firstMatch, refusal4, chartRefusals}
+use Rattle.spec.specs.Setup.{firstMatch}
+use Rattle.spec.specs.Refusals.{refusal4, chartRefusals}
 use Rattle.spec.specs.Calls.{Outcome, openOf, isPeriodStart, reportOf, reportAnswer, chartAccepted, chartOf, chartOutput}
 use Rattle.spec.specs.Frames.{field, valuesOf}
 use Rattle.spec.specs.Lists.{Call, chart, outcomeOf, run, Event, history, isRefused, WithRefused, isOpened, waitingBy}
@@ -90,23 +92,23 @@ keeps-lengths c s = same-lengths c s
 -- To be shut out: "counts in a report that the calls since open do not give". What holds after a list of calls
 pub record CountsGiven (period : ℕ) (es : List Event) (s : State) : Type 0 where
   -- each client's counts are what the calls and answers since the last period start say
-  pub counts : (c : ℕ) → c < s .head .clients → getD (s .clientTable) c zeroCounts ≡ countsSince period c es
+  pub counts : (c : ℕ) → c < s .head .setup .clients → getD (s .clientTable) c zeroCounts ≡ countsSince period c es
   -- "Report gives a client's three counts and its waiting count."
   pub reports : (c : ℕ) → isRefused (reportOf c s .answer) ≡ false
       → reportOf c s .answer ≡ reportAnswer c (countsSince period c es) (waitingBy c es)
 
 -- of a list whose calls are all lent the queue's tables
-counts-calls : (clients period : ℕ) (s : State) (cs : List Call) → isRefused (openOf clients period s .answer) ≡ false
-    → exists isOpened (history (openOf clients period s .after) cs) ≡ false
-    → CountsGiven period (history (openOf clients period s .after) cs) (run (openOf clients period s .after) cs)
-counts-calls clients period s cs a h =
-    let C = counted clients period s cs a h in
-    let T = traced clients period s cs a h in
-    let es = history (openOf clients period s .after) cs in
-    let t = run (openOf clients period s .after) cs in
+counts-calls : (setup : Setup) (s : State) (cs : List Call) → isRefused (openOf setup s .answer) ≡ false
+    → exists isOpened (history (openOf setup s .after) cs) ≡ false
+    → CountsGiven (setup .period) (history (openOf setup s .after) cs) (run (openOf setup s .after) cs)
+counts-calls setup s cs a h =
+    let C = counted setup s cs a h in
+    let T = traced setup s cs a h in
+    let es = history (openOf setup s .after) cs in
+    let t = run (openOf setup s .after) cs in
     record {
       counts = λ c l. C .counts-are c (omega (arith, T .ready .shape .clients));
-      reports = λ c e. reported-counts period c es t T C e;
+      reports = λ c e. reported-counts (setup .period) c es t T C e;
     }
 
 -- nothing of it depends on events that ask for nothing, serve nothing and drop nothing
@@ -119,21 +121,21 @@ counts-same period s w C =
     }
 
 -- a step for `Sessions`, and no statement of the demand
-pub counts-passing : (clients period : ℕ) (s : State) (cs : List Call) (es : List Event)
-    → isRefused (openOf clients period s .answer) ≡ false
-    → WithPassing (history (openOf clients period s .after) cs) es
+pub counts-passing : (setup : Setup) (s : State) (cs : List Call) (es : List Event)
+    → isRefused (openOf setup s .answer) ≡ false
+    → WithPassing (history (openOf setup s .after) cs) es
     → exists isOpened es ≡ false
-    → CountsGiven period es (run (openOf clients period s .after) cs)
-counts-passing clients period s cs es a w h =
-    counts-same period (run (openOf clients period s .after) cs) w (counts-calls clients period s cs a (none-opened w h))
+    → CountsGiven (setup .period) es (run (openOf setup s .after) cs)
+counts-passing setup s cs es a w h =
+    counts-same (setup .period) (run (openOf setup s .after) cs) w (counts-calls setup s cs a (none-opened w h))
 
 -- the list is one of demand 3: from an accepted open on, with no other accepted open in it, and with refused calls of every kind
-pub counts-given : (clients period : ℕ) (s : State) (cs : List Call) (es : List Event)
-    → isRefused (openOf clients period s .answer) ≡ false
-    → WithRefused (history (openOf clients period s .after) cs) es
+pub counts-given : (setup : Setup) (s : State) (cs : List Call) (es : List Event)
+    → isRefused (openOf setup s .answer) ≡ false
+    → WithRefused (history (openOf setup s .after) cs) es
     → exists isOpened es ≡ false
-    → CountsGiven period es (run (openOf clients period s .after) cs)
-counts-given clients period s cs es a w h = counts-passing clients period s cs es a (refused-pass w) h
+    → CountsGiven (setup .period) es (run (openOf setup s .after) cs)
+counts-given setup s cs es a w h = counts-passing setup s cs es a (refused-pass w) h
 
 -- "If it is now a multiple of the period": where a period starts, which the call and the counts since the last start ask alike. It is
 -- said of every period and every clock. 0 is a multiple of every period, but no tick leaves the clock at 0; of a period 0, which
@@ -154,22 +156,22 @@ period-starts period clock = (multiple, starts)
 -- "Chart writes one start slot a waiting record, in chart order, into a lent output table and answers their count; entries beyond are
 -- untouched.": l is the output after the call
 pub record Charts (output : List ℕ) (s : State) (l : List ℕ) : Type 0 where
-  pub answer : chartOf output s .answer ≡ Charted (length (startsOf (waiting s)))
-  pub one-each : length (startsOf (waiting s)) ≡ length (waiting s)
+  pub answer : chartOf output s .answer ≡ Charted (length (startsOf (s .head .setup) (waiting s)))
+  pub one-each : length (startsOf (s .head .setup) (waiting s)) ≡ length (waiting s)
   pub same-length : length l ≡ length output
-  pub starts : take (length (startsOf (waiting s))) l ≡ startsOf (waiting s)
-  pub beyond : drop (length (startsOf (waiting s))) l ≡ drop (length (startsOf (waiting s))) output
+  pub starts : take (length (startsOf (s .head .setup) (waiting s))) l ≡ startsOf (s .head .setup) (waiting s)
+  pub beyond : drop (length (startsOf (s .head .setup) (waiting s))) l ≡ drop (length (startsOf (s .head .setup) (waiting s))) output
 
 -- an output whose front is the start slots, and the rest as it was, is such a one
-written-charts : (output : List ℕ) (s : State) → chartOf output s .answer ≡ Charted (length (startsOf (waiting s)))
-    → length (startsOf (waiting s)) ≤ length output
-    → Charts output s (startsOf (waiting s) ++ drop (length (startsOf (waiting s))) output)
+written-charts : (output : List ℕ) (s : State) → chartOf output s .answer ≡ Charted (length (startsOf (s .head .setup) (waiting s)))
+    → length (startsOf (s .head .setup) (waiting s)) ≤ length output
+    → Charts output s (startsOf (s .head .setup) (waiting s) ++ drop (length (startsOf (s .head .setup) (waiting s))) output)
 written-charts output s a h =
-    let starts = startsOf (waiting s) in
+    let starts = startsOf (s .head .setup) (waiting s) in
     let rest = drop (length starts) output in
     record {
       answer = a;
-      one-each = length-starts (waiting s);
+      one-each = length-starts (s .head .setup) (waiting s);
       same-length = omega (arith, length-append starts rest, length-drop (length starts) output);
       starts = take-append-seam starts rest;
       beyond = drop-append-seam starts rest;
@@ -186,10 +188,10 @@ chart-written output s p = go (output-written output s)
     r : ChartReady output s
     r = chart-ready output s none
 
-    count : length (startsOf (waiting s)) ≡ s .head .waiting
-    count = length-starts (waiting s) ∙ waiting-length s (r .ready .shape)
+    count : length (startsOf (s .head .setup) (waiting s)) ≡ s .head .waiting
+    count = length-starts (s .head .setup) (waiting s) ∙ waiting-length s (r .ready .shape)
 
-    answer : chartOf output s .answer ≡ Charted (length (startsOf (waiting s)))
+    answer : chartOf output s .answer ≡ Charted (length (startsOf (s .head .setup) (waiting s)))
     answer = ap (λ (o : Outcome). o .answer) (accepted-same (chart output) s p) ∙ ap Charted (sym count)
 
     go : {l : List ℕ} → Written output s l → Charts output s l
@@ -200,15 +202,15 @@ chart-written output s p = go (output-written output s)
 -- one slot earlier."
 pub record Latest (s : State) : Type 0 where
   -- the start slots ascend from the clock on, each ended by its request's deadline
-  pub fits : ChartFits (s .head .clock) (waiting s) (startsOf (waiting s))
+  pub fits : ChartFits (s .head .clock) (waiting s) (startsOf (s .head .setup) (waiting s))
   -- each is the latest slot from which on the request at k and all later ones can finish
   pub begins : (k : ℕ) → k < length (waiting s) → (t : ℕ)
-      → CanAllFinish (capacityOf (s .head)) t (deadlinesOf (drop k (waiting s))) ↔ (t ≤ getD (startsOf (waiting s)) k 0)
+      → CanAllFinish (capacityOf (s .head .setup)) t (deadlinesOf (drop k (waiting s))) ↔ (t ≤ getD (startsOf (s .head .setup) (waiting s)) k 0)
   -- and the latest for it where they are served in chart order
   pub latest : (k : ℕ) (slots : List ℕ) → Ascending slots → Finish (drop k (waiting s)) slots
-      → Pairs (λ slot start. slot ≤ start) slots (drop k (startsOf (waiting s)))
+      → Pairs (λ slot start. slot ≤ start) slots (drop k (startsOf (s .head .setup) (waiting s)))
   -- "Segments are the longest runs of touching intervals": these are the runs of the start slots, and no other list is
-  pub segments : (gs : List Segment) → LongestRuns (startsOf (waiting s)) gs ↔ (gs ≡ segmentsOf (startsOf (waiting s)))
+  pub segments : (gs : List Segment) → LongestRuns (startsOf (s .head .setup) (waiting s)) gs ↔ (gs ≡ segmentsOf (s .head .setup) (startsOf (s .head .setup) (waiting s)))
 
 pub chart-latest : (output : List ℕ) (s : State) → isRefused (chartOf output s .answer) ≡ false → Latest s
 unfolding outcomeOf
@@ -219,8 +221,8 @@ chart-latest output s e =
       fits = c;
       begins =
           λ k h. latest-start (s .head) (s .head .clock) (waiting s) k (r .sound .ordered) (r .sound .feasible) h;
-      latest = λ k slots a f. rw (starts-drop k (waiting s)) at (starts-latest (drop k (waiting s)) slots a f);
-      segments = λ gs. longest-runs (startsOf (waiting s)) gs (c .ascending);
+      latest = λ k slots a f. rw (starts-drop (s .head .setup) k (waiting s)) at (starts-latest (s .head .setup) (drop k (waiting s)) slots a f);
+      segments = λ gs. longest-runs (s .head .setup) (startsOf (s .head .setup) (waiting s)) gs (c .ascending);
     }
 
 -- ---- lines
@@ -230,8 +232,8 @@ values-fit c s = call-fits c s
 
 -- nor any segment's ends, nor their count
 pub segments-fit : (output : List ℕ) (s : State) → isRefused (chartOf output s .answer) ≡ false
-    → All (λ (g : Segment). FitsField (field 8 (g .left)) × FitsField (field 8 (g .right))) (segmentsOf (startsOf (waiting s)))
-    × FitsField (field 2 (length (segmentsOf (startsOf (waiting s)))))
+    → All (λ (g : Segment). FitsField (field 8 (g .left)) × FitsField (field 8 (g .right))) (segmentsOf (s .head .setup) (startsOf (s .head .setup) (waiting s)))
+    × FitsField (field 2 (length (segmentsOf (s .head .setup) (startsOf (s .head .setup) (waiting s)))))
 unfolding outcomeOf
 segments-fit output s e =
     let r = chart-ready output s (accepted-none (chart output) s e) .ready in (segment-fits s r, count-fits s r)

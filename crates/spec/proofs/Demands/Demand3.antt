@@ -12,6 +12,7 @@ use Rattle.slots.specs.Plan.{Window, Fits, Slot, at, Plan, size}
 use Rattle.slots.proofs.Laws.Sums.{All, total}
 use Rattle.slots.proofs.Single.{Distinct, distinct, distinct-plan}
 use Rattle.slots.proofs.Largest.{largest, reached}
+use Rattle.spec.specs.declared.types.Setup.{Setup}
 use Rattle.spec.specs.declared.types.Head.{Head}
 use Rattle.spec.specs.declared.types.Request.{Request}
 use Rattle.spec.specs.Every.{exists}
@@ -29,10 +30,10 @@ use Rattle.spec.proofs.Lists.Passing.{WithPassing, refused-pass, none-o
 use Rattle.spec.proofs.Lists.Passing.{same-served, same-waiting, same-plan}
 
 -- "no slot to two of them": with what a slot can take now, a plan is just an entry for each request that fits and shares no slot
-pub plans-are : (head : Head) (R : List Window) (P : List Slot) → Plan (capacityOf head) R P ↔ (Fits R P × Distinct P)
-plans-are head R P = (
-  (λ p. (p .fits, distinct (capacityOf head) (capacity-one head) R P p)),
-  (λ d. distinct-plan (capacityOf head) (capacity-one head) R P (d .0) (d .1)),
+pub plans-are : (setup : Setup) (R : List Window) (P : List Slot) → Plan (capacityOf setup) R P ↔ (Fits R P × Distinct P)
+plans-are setup R P = (
+  (λ p. (p .fits, distinct (capacityOf setup) (capacity-one setup) R P p)),
+  (λ d. distinct-plan (capacityOf setup) (capacity-one setup) R P (d .0) (d .1)),
 )
 
 -- what holds after a list of calls, of its calls and answers and the state that it leaves
@@ -50,17 +51,17 @@ pub record Largest (es : List Event) (s : State) : Type 0 where
   -- "Served since open are the requests that the answers to the list's ticks name as served.": each answer names another
   pub served-once : length (servedRequests es) ≡ length (bookings es)
   -- a plan with that many requests: the served ones in their slots and the waiting ones at the start slots that chart writes
-  pub reached : Plan (capacityOf (s .head)) (windows es) (ownPlan es s)
+  pub reached : Plan (capacityOf (s .head .setup)) (windows es) (ownPlan es s)
   pub as-many : size (ownPlan es s) ≡ length (servedRequests es) + length (waitingRequests es)
   -- and for each of these the plan has the slot of its booking
   pub in-place : All (λ (b : Booking). slotFor (ownBookings es s) (b .number) ≡ at (b .slot)) (ownBookings es s)
   -- ".. and is not bound by what the queue served or dropped.": no plan of the list's requests has more
-  pub largest : (P : List Slot) → Plan (capacityOf (s .head)) (windows es) P
+  pub largest : (P : List Slot) → Plan (capacityOf (s .head .setup)) (windows es) P
       → size P ≤ length (servedRequests es) + length (waitingRequests es)
 
 largest-of : (es : List Event) (s : State) → Traced es s → Follows es s → Largest es s
 largest-of es s T B =
-    let heads = capacityOf (s .head) in
+    let heads = capacityOf (s .head .setup) in
     record {
       clock = T .clock;
       last = T .last;
@@ -75,14 +76,14 @@ largest-of es s T B =
     }
 
 -- of a list whose calls are all lent the queue's tables
-largest-calls : (clients period : ℕ) (s : State) (cs : List Call) → isRefused (openOf clients period s .answer) ≡ false
-    → exists isOpened (history (openOf clients period s .after) cs) ≡ false
-    → Largest (history (openOf clients period s .after) cs) (run (openOf clients period s .after) cs)
-largest-calls clients period s cs a h =
-    let b = along Follows follows-step (openOf clients period s .after) cs h
-    (accepted-open (λ (o : Outcome). Traced [] (o .after)) clients period s a (traced-open clients period s))
-    (accepted-open (λ (o : Outcome). Follows [] (o .after)) clients period s a (λ r. follows-open clients period s)) in
-    largest-of (history (openOf clients period s .after) cs) (run (openOf clients period s .after) cs) (b .0) (b .1)
+largest-calls : (setup : Setup) (s : State) (cs : List Call) → isRefused (openOf setup s .answer) ≡ false
+    → exists isOpened (history (openOf setup s .after) cs) ≡ false
+    → Largest (history (openOf setup s .after) cs) (run (openOf setup s .after) cs)
+largest-calls setup s cs a h =
+    let b = along Follows follows-step (openOf setup s .after) cs h
+    (accepted-open (λ (o : Outcome). Traced [] (o .after)) setup s a (traced-open setup s))
+    (accepted-open (λ (o : Outcome). Follows [] (o .after)) setup s a (λ r. follows-open setup s)) in
+    largest-of (history (openOf setup s .after) cs) (run (openOf setup s .after) cs) (b .0) (b .1)
 
 -- nothing of it depends on events that ask for nothing, serve nothing and drop nothing
 largest-same : {es fs : List Event} (s : State) → WithPassing es fs → Largest es s → Largest fs s
@@ -101,20 +102,20 @@ largest-same s w L =
     }
 
 -- a step for `Sessions`, and no statement of the demand
-pub largest-passing : (clients period : ℕ) (s : State) (cs : List Call) (es : List Event)
-    → isRefused (openOf clients period s .answer) ≡ false
-    → WithPassing (history (openOf clients period s .after) cs) es
+pub largest-passing : (setup : Setup) (s : State) (cs : List Call) (es : List Event)
+    → isRefused (openOf setup s .answer) ≡ false
+    → WithPassing (history (openOf setup s .after) cs) es
     → exists isOpened es ≡ false
-    → Largest es (run (openOf clients period s .after) cs)
-largest-passing clients period s cs es a w h =
-    largest-same (run (openOf clients period s .after) cs) w (largest-calls clients period s cs a (none-opened w h))
+    → Largest es (run (openOf setup s .after) cs)
+largest-passing setup s cs es a w h =
+    largest-same (run (openOf setup s .after) cs) w (largest-calls setup s cs a (none-opened w h))
 
 -- "The list starts from the head and tables that an accepted open left, whatever its arguments and whatever lengths of table it took."
 -- Arguments in the list are free, and it may be empty. Refused calls of every kind are in it, whether they were lent the queue's tables
 -- or others. "A later accepted open begins another list", so no open in it is accepted
-pub largest-plan : (clients period : ℕ) (s : State) (cs : List Call) (es : List Event)
-    → isRefused (openOf clients period s .answer) ≡ false
-    → WithRefused (history (openOf clients period s .after) cs) es
+pub largest-plan : (setup : Setup) (s : State) (cs : List Call) (es : List Event)
+    → isRefused (openOf setup s .answer) ≡ false
+    → WithRefused (history (openOf setup s .after) cs) es
     → exists isOpened es ≡ false
-    → Largest es (run (openOf clients period s .after) cs)
-largest-plan clients period s cs es a w h = largest-passing clients period s cs es a (refused-pass w) h
+    → Largest es (run (openOf setup s .after) cs)
+largest-plan setup s cs es a w h = largest-passing setup s cs es a (refused-pass w) h

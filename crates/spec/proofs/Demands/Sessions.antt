@@ -5,12 +5,13 @@ use mathlib.Core.Path.{_≡_, subst}
 use mathlib.Core.Bool.{true, false}
 use mathlib.Core.List.{List}
 use lib.ListN.{length}
+use Rattle.spec.specs.declared.types.Setup.{Setup}
 use Rattle.spec.specs.Every.{exists}
 use Rattle.spec.specs.Tables.{State}
 use Rattle.spec.specs.Calls.{openOf}
 use Rattle.spec.specs.Lists.{Call, run, Event, history, isRefused, isOpened}
 use Rattle.spec.specs.Session.{textOf, session, sessionState}
-use Rattle.spec.specs.Printed.{answersIn, eventsIn, sinceOpen, periodSet, unended}
+use Rattle.spec.specs.Printed.{answersIn, eventsIn, sinceOpen, setupIn, unended}
 use Rattle.spec.proofs.Demands.Words.{FromOpen}
 use Rattle.spec.proofs.Demands.Demand1.{CountsGiven, counts-passing}
 use Rattle.spec.proofs.Demands.Demand3.{Largest, largest-passing}
@@ -28,32 +29,32 @@ module _ (input : List ℕ) (opened : exists isOpened (eventsIn input (session i
   abbrev list : List Event
   list = sinceOpen (eventsIn input (session input))
 
-  abbrev period : ℕ
-  period = periodSet (eventsIn input (session input))
+  abbrev setup : Setup
+  setup = setupIn (eventsIn input (session input))
 
   -- the frames since the last accepted open, with their answers, are a list of calls from an accepted open on, as a session prints it:
   -- each submit, tick and report in it has the answer that its definition gives
   pub session-list :
-      FromOpen (periodSet (eventsIn input (session input))) (sinceOpen (eventsIn input (session input))) (sessionState input)
+      FromOpen (setupIn (eventsIn input (session input))) (sinceOpen (eventsIn input (session input))) (sessionState input)
   session-list = since-opened input opened
 
   -- what holds of every list from an accepted open on holds of the session's
   of-session : (Φ : State → Type 0)
-      → ((clients : ℕ) (before : State) (cs : List Call) → isRefused (openOf clients period before .answer) ≡ false
-      → WithPassing (history (openOf clients period before .after) cs) list → exists isOpened list ≡ false
-      → Φ (run (openOf clients period before .after) cs))
+      → ((before : State) (cs : List Call) → isRefused (openOf setup before .answer) ≡ false
+      → WithPassing (history (openOf setup before .after) cs) list → exists isOpened list ≡ false
+      → Φ (run (openOf setup before .after) cs))
       → Φ (sessionState input)
   of-session Φ f =
       let F = session-list in
-      subst Φ (F .state) (f (F .clients) (F .before) (F .calls) (F .accepted) (printed-pass (F .printed)) (F .none-opened))
+      subst Φ (F .state) (f (F .before) (F .calls) (F .accepted) (printed-pass (F .printed)) (F .none-opened))
 
   -- "For every list of calls from open on, served plus waiting is as many as the largest plan has, even one made by somebody who knew
   -- the whole list beforehand.": the list is what the input and the printed lines show since the last accepted open
   pub session-largest : Largest (sinceOpen (eventsIn input (session input))) (sessionState input)
-  session-largest = of-session (Largest list) (λ clients before cs. largest-passing clients period before cs list)
+  session-largest = of-session (Largest list) (λ before cs. largest-passing setup before cs list)
 
   -- To be shut out: "counts in a report that the calls since open do not give": the counts, and what a report then gives
   pub session-counts :
-      CountsGiven (periodSet (eventsIn input (session input))) (sinceOpen (eventsIn input (session input))) (sessionState input)
+      CountsGiven (setupIn (eventsIn input (session input)) .period) (sinceOpen (eventsIn input (session input))) (sessionState input)
   session-counts =
-      of-session (CountsGiven period list) (λ clients before cs. counts-passing clients period before cs list)
+      of-session (CountsGiven (setup .period) list) (λ before cs. counts-passing setup before cs list)

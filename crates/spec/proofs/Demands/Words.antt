@@ -7,11 +7,13 @@ use mathlib.Core.List.{List, [], _∷_, _++_}
 use lib.ListN.{length}
 use Rattle.slots.specs.Plan.{EndedBy, CanAllFinish}
 use Rattle.slots.proofs.Laws.Sums.{All}
+use Rattle.spec.specs.declared.types.Setup.{Setup}
 use Rattle.spec.specs.declared.types.Head.{Head}
 use Rattle.spec.specs.declared.types.Request.{Request}
 use Rattle.spec.specs.Tables.{State, deadlinesOf}
 use Rattle.spec.specs.Chart.{capacityOf, Segment}
-use Rattle.spec.specs.Refusals.{Refusal, openRefusals, submitRefusals, tickRefusals, reportRefusals, chartRefusals}
+use Rattle.spec.specs.Setup.{Refusal}
+use Rattle.spec.specs.Refusals.{openRefusals, submitRefusals, tickRefusals, reportRefusals, chartRefusals}
 use Rattle.spec.specs.Frames.{Field}
 use Rattle.spec.specs.Calls.{openOf}
 use Rattle.spec.specs.Every.{exists}
@@ -21,7 +23,7 @@ use Rattle.spec.specs.Printed.{AsPrinted}
 -- ---- refusals
 -- the call's refusals, in the paper's order
 abbrev pub refusalsOf : Call → State → List Refusal
-refusalsOf (opening clients period) s = openRefusals clients period s
+refusalsOf (opening setup) s = openRefusals setup s
 refusalsOf (submit client deadline) s = submitRefusals client deadline s
 refusalsOf tick s = tickRefusals s
 refusalsOf (report client) s = reportRefusals client s
@@ -47,7 +49,7 @@ Pairs p (x ∷ xs) (y ∷ ys) = p x y × Pairs p xs ys
 
 -- "every request can still finish": these requests, all from the head's clock on
 abbrev pub CanFinish : Head → List Request → Type 0
-CanFinish head ws = CanAllFinish (capacityOf head) (head .clock) (deadlinesOf ws)
+CanFinish head ws = CanAllFinish (capacityOf (head .setup)) (head .clock) (deadlinesOf ws)
 
 -- ---- the chart
 -- a slot for each of these requests, ended by its deadline
@@ -95,14 +97,13 @@ Numbered [] = Unit {0}
 Numbered (a ∷ rs) = (a .request .number ≡ suc (length rs)) × Numbered rs
 
 -- from an accepted open on, calls that are lent the queue's tables lead to the state s; es is the list of them as a session prints it
-pub record FromOpen (period : ℕ) (es : List Event) (s : State) : Type 0 where
-  pub clients : ℕ
+pub record FromOpen (setup : Setup) (es : List Event) (s : State) : Type 0 where
   pub before : State
   pub calls : List Call
-  pub accepted : isRefused (openOf clients period before .answer) ≡ false
-  pub printed : AsPrinted (history (openOf clients period before .after) calls) es
+  pub accepted : isRefused (openOf setup before .answer) ≡ false
+  pub printed : AsPrinted (history (openOf setup before .after) calls) es
   pub none-opened : exists isOpened es ≡ false
-  pub state : run (openOf clients period before .after) calls ≡ s
+  pub state : run (openOf setup before .after) calls ≡ s
 
 -- ---- lines
 -- a value has no more bytes than its field

@@ -10,6 +10,7 @@ use lib.Dec.{ltb, eqb}
 use lib.ListN.{drop, length, getD, replicate, length-take, length-drop, length-append, length-replicate, take-append-drop}
 use lib.Seq.{take-append-seam, drop-append-seam}
 use Rattle.slots.proofs.Laws.Tests.{Same, same-yes, same-no, same}
+use Rattle.spec.specs.declared.types.Setup.{Setup}
 use Rattle.spec.specs.declared.types.Counts.{Counts}
 use Rattle.spec.specs.declared.types.Request.{Request}
 use Rattle.spec.specs.declared.types.Answer.the-variants.{Refused}
@@ -18,13 +19,14 @@ use Rattle.spec.specs.Every.{isWithin}
 use Rattle.spec.specs.Tables.{mostClients, mostRecords, mostCounted, clockEnd, numberEnd, mostPeriod, mostAhead}
 use Rattle.spec.specs.Tables.{zeroRequest, zeroCounts, State, waiting, behind, holding, nextState}
 use Rattle.spec.specs.Sound.{isClient, isSound}
-use Rattle.spec.specs.Refusals.{Refusal, firstMatch, isMisshapen, refusal2, refusal3, refusal4Open, refusal4, refusal5}
+use Rattle.spec.specs.Setup.{Refusal, firstMatch}
+use Rattle.spec.specs.Refusals.{isMisshapen, refusal4Open, refusal4, refusal5}
 use Rattle.spec.specs.Refusals.{refusal6, refusal7, refusal8, refusal9, refusal10, refusal11, refusal12, openRefusals}
 use Rattle.spec.specs.Refusals.{submitRefusals, tickRefusals, reportRefusals, chartRefusals}
 use Rattle.spec.specs.Calls.{kept, droppedAt, tickAccepted, withNew, countedIn, requestAt, change, oneMoreDropped}
 use Rattle.spec.specs.Calls.{oneMoreServed, countsAfter, Outcome, unlessRefused}
 use Rattle.spec.proofs.Laws.Every.{or-none}
-use Rattle.spec.proofs.Laws.Sound.{within-facts, Shaped, Sound, sound-facts}
+use Rattle.spec.proofs.Laws.Sound.{within-refused, none-match, SetupWithin, setup-none, Shaped, Sound, sound-facts}
 
 -- ---- accepted, or refused with the first number that matches
 pub data Decided (rs : List Refusal) (s : State) (o : Outcome) : Outcome → Type 0 where
@@ -39,20 +41,7 @@ decided rs s o = go (eqb (firstMatch rs) 0) (same (firstMatch rs) 0)
     go true (same-yes e) = accepts e
     go false (same-no e) = refuses e
 
--- none matches: the first does not hold, and none of the rest matches
-pub none-match : (r : Refusal) (rs : List Refusal) → r .number ≢ 0 → firstMatch (r ∷ rs) ≡ 0
-    → (r .holds ≡ false) × (firstMatch rs ≡ 0)
-unfolding firstMatch
-none-match r rs n e = go (r .holds) e
-  where
-    go : (x : Bool) → cond x (r .number) (firstMatch rs) ≡ 0 → (x ≡ false) × (firstMatch rs ≡ 0)
-    go true e = absurd (n e)
-    go false e = (refl, e)
-
 -- ---- the conditions as facts
-within-refused : (lo hi x : ℕ) → not (isWithin lo hi x) ≡ false → (lo ≤ x) × (x ≤ hi)
-within-refused lo hi x e = within-facts lo hi x (not-false (isWithin lo hi x) e)
-
 pub record Lengths (clients : ℕ) (s : State) : Type 0 where
   pub some-records : 1 ≤ length (s .waitingTable)
   pub most-records : length (s .waitingTable) ≤ mostRecords
@@ -70,8 +59,8 @@ lengths clients s e =
 
 shaped : (s : State) → refusal4 s .holds ≡ false → Shaped s
 shaped s e =
-    let p = or-none (isMisshapen (s .head .clients) s) (ltb (length (s .waitingTable)) (s .head .waiting)) e in
-    let l = lengths (s .head .clients) s (p .0) in
+    let p = or-none (isMisshapen (s .head .setup .clients) s) (ltb (length (s .waitingTable)) (s .head .waiting)) e in
+    let l = lengths (s .head .setup .clients) s (p .0) in
     record {
       some-records = l .some-records;
       most-records = l .most-records;
@@ -91,26 +80,20 @@ ready s rs e =
     (record { shape = shaped s (p .0); sound = sound-facts s (not-false (isSound s) (q .0)) }, q .1)
 
 -- ---- each call
-pub record OpenReady (clients period : ℕ) (s : State) : Type 0 where
-  pub some-clients : 1 ≤ clients
-  pub most-clients : clients ≤ mostClients
-  pub some-period : 1 ≤ period
-  pub most-period : period ≤ mostPeriod
-  pub lengths : Lengths clients s
+pub record OpenReady (setup : Setup) (s : State) : Type 0 where
+  pub within : SetupWithin setup
+  pub lengths : Lengths (setup .clients) s
 
-pub open-ready : (clients period : ℕ) (s : State) → firstMatch (openRefusals clients period s) ≡ 0 → OpenReady clients period s
+pub open-ready : (setup : Setup) (s : State) → firstMatch (openRefusals setup s) ≡ 0 → OpenReady setup s
 unfolding openRefusals
-open-ready clients period s e =
-    let p = none-match (refusal2 clients) (refusal3 period ∷ refusal4Open clients s ∷ []) (omega arith) e in
-    let q = none-match (refusal3 period) (refusal4Open clients s ∷ []) (omega arith) (p .1) in
-    let r = none-match (refusal4Open clients s) [] (omega arith) (q .1) in
-    let c = within-refused 1 mostClients clients (p .0) in
-    let d = within-refused 1 mostPeriod period (q .0) in
-    record { some-clients = c .0; most-clients = c .1; some-period = d .0; most-period = d .1; lengths = lengths clients s (r .0) }
+open-ready setup s e =
+    let p = setup-none setup (refusal4Open (setup .clients) s ∷ []) e in
+    let r = none-match (refusal4Open (setup .clients) s) [] (omega arith) (p .1) in
+    record { within = p .0; lengths = lengths (setup .clients) s (r .0) }
 
 pub record SubmitReady (client deadline : ℕ) (s : State) : Type 0 where
   pub ready : Ready s
-  pub exists : client < s .head .clients
+  pub exists : client < s .head .setup .clients
   pub late : suc (s .head .clock) ≤ deadline
   pub near : deadline ≤ s .head .clock + mostAhead
   pub countable : getD (s .clientTable) client zeroCounts .submitted ≢ mostCounted
@@ -130,7 +113,7 @@ submit-ready client deadline s e =
     let w = within-refused (suc (s .head .clock)) (s .head .clock + mostAhead) deadline (c .0) in
     record {
       ready = a .0;
-      exists = ltb-true client (s .head .clients) (not-false (isClient (s .head .clients) client) (b .0));
+      exists = ltb-true client (s .head .setup .clients) (not-false (isClient (s .head .setup .clients) client) (b .0));
       late = w .0;
       near = w .1;
       countable = eqb-false (getD (s .clientTable) client zeroCounts .submitted) mostCounted (d .0);
@@ -151,14 +134,14 @@ tick-ready s e =
 
 pub record ReportReady (client : ℕ) (s : State) : Type 0 where
   pub ready : Ready s
-  pub exists : client < s .head .clients
+  pub exists : client < s .head .setup .clients
 
 pub report-ready : (client : ℕ) (s : State) → firstMatch (reportRefusals client s) ≡ 0 → ReportReady client s
 unfolding reportRefusals
 report-ready client s e =
     let a = ready s (refusal6 client s ∷ []) e in
     let b = none-match (refusal6 client s) [] (omega arith) (a .1) in
-    record { ready = a .0; exists = ltb-true client (s .head .clients) (not-false (isClient (s .head .clients) client) (b .0)) }
+    record { ready = a .0; exists = ltb-true client (s .head .setup .clients) (not-false (isClient (s .head .setup .clients) client) (b .0)) }
 
 pub record ChartReady (output : List ℕ) (s : State) : Type 0 where
   pub ready : Ready s
@@ -222,4 +205,4 @@ unfolding tickAccepted nextState
 ticked-waiting [] s = refl
 ticked-waiting (w ∷ ws) s =
     next-waiting (suc (s .head .clock)) (s .head .last) ws
-    (countsAfter (s .head .period) (suc (s .head .clock)) ws (change oneMoreServed (w .client) (s .clientTable))) s
+    (countsAfter (s .head .setup .period) (suc (s .head .clock)) ws (change oneMoreServed (w .client) (s .clientTable))) s

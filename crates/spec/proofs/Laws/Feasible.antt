@@ -79,7 +79,7 @@ dueBy-self (w ∷ ws) = (
 
 -- ---- there is room for all that are due by any D: from a clock on, or from the head's
 abbrev pub FeasibleAt : Head → ℕ → List Request → Type 0
-FeasibleAt head clock ws = (D : ℕ) → dueBy D ws ≤ room head clock D
+FeasibleAt head clock ws = (D : ℕ) → dueBy D ws ≤ room (head .setup) clock D
 
 abbrev pub Feasible : Head → List Request → Type 0
 Feasible head ws = FeasibleAt head (head .clock) ws
@@ -151,7 +151,7 @@ roomy-last : (head : Head) (D : ℕ) (ws : List Request)
     → Last (λ (w : Request). dueBy (w .deadline) ws ≤ roomTo head (w .deadline)) D ws
     → dueBy D ws ≤ roomTo head D
 roomy-last head D ws (none-due h) = omega arith
-roomy-last head D ws (last-due w p l h) = omega (arith, room-mono head (head .clock) (w .deadline) D l)
+roomy-last head D ws (last-due w p l h) = omega (arith, room-mono (head .setup) (head .clock) (w .deadline) D l)
 
 pub feasible-facts : (head : Head) (ws : List Request) → hasNoOverfull head ws ≡ true → Feasible head ws
 unfolding hasNoOverfull

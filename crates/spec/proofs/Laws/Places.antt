@@ -51,7 +51,7 @@ first-fits head i w ws r (last-due v f l h) =
       arith,
       dueBy-cons (w .deadline) w ws,
       due-yes (w .deadline) w (omega arith),
-      room-mono head (head .clock) (v .deadline) (w .deadline) l,
+      room-mono (head .setup) (head .clock) (v .deadline) (w .deadline) l,
     )
 
 roomy-fits : (head : Head) (i : ℕ) (ws : List Request) → InOrder ws → Roomy head i ws → All (Fits head i ws) ws

@@ -1,18 +1,22 @@
 -- Shape and soundness as facts, and what it means that a call is not refused. Assumes nothing.
 use Prim.Native.Nat.{ℕ, zero, suc, _+_, _≤_, _<_}
 use mathlib.Core.Path.{_≡_, refl, ap, _∙_}
-use mathlib.Core.Bool.{true, _&&_, and-eq-true-iff}
-use mathlib.Core.List.{List, [], _∷_}
-use borrow.Author.Tests.{leb-true, ltb-true, eqb-true, le-leb, lt-ltb, eq-eqb}
+use mathlib.Core.Logic.{_≢_}
+use mathlib.Core.Bool.{Bool, true, false, not, cond, _&&_, and-eq-true-iff}
+use mathlib.Core.List.{List, [], _∷_, _++_}
+use native.Mathlib.Omega.{arith}
+use borrow.Author.Tests.{leb-true, ltb-true, eqb-true, le-leb, lt-ltb, eq-eqb, not-false}
 use lib.Dec.{leb, eqb}
 use lib.ListN.{length, getD, replicate}
 use Rattle.slots.proofs.Laws.Sums.{All, all-imp}
+use Rattle.spec.specs.declared.types.Setup.{Setup}
 use Rattle.spec.specs.declared.types.Head.{Head}
 use Rattle.spec.specs.declared.types.Request.{Request}
 use Rattle.spec.specs.declared.types.Counts.{Counts}
 use Rattle.spec.specs.Every.{isWithin, every}
 use Rattle.spec.specs.Tables.{mostClients, mostRecords, mostCounted, clockEnd, numberEnd, mostPeriod, mostAhead}
 use Rattle.spec.specs.Tables.{zeroRequest, zeroCounts, State, waiting, behind}
+use Rattle.spec.specs.Setup.{Refusal, firstMatch, refusal2, refusal3, setupRefusals}
 use Rattle.spec.specs.Sound.{isHeadWithin, isAhead, isGiven, isClient, isZeroRequest, waitingOf, isBalanced, isSound}
 use Rattle.spec.proofs.Laws.Every.{and-left, and-right, and-both, every-facts, every-test, everyFrom-facts}
 use Rattle.spec.proofs.Laws.Every.{everyFrom-test}
@@ -27,36 +31,69 @@ within-facts lo hi x e =
 pub within-test : (lo hi x : ℕ) → lo ≤ x → x ≤ hi → isWithin lo hi x ≡ true
 within-test lo hi x h g = and-both (leb lo x) (leb x hi) (le-leb lo x h) (le-leb x hi g)
 
+pub within-refused : (lo hi x : ℕ) → not (isWithin lo hi x) ≡ false → (lo ≤ x) × (x ≤ hi)
+within-refused lo hi x e = within-facts lo hi x (not-false (isWithin lo hi x) e)
+
+-- ---- refusals
+-- none matches: the first does not hold, and none of the rest matches
+pub none-match : (r : Refusal) (rs : List Refusal) → r .number ≢ 0 → firstMatch (r ∷ rs) ≡ 0
+    → (r .holds ≡ false) × (firstMatch rs ≡ 0)
+unfolding firstMatch
+none-match r rs n e = go (r .holds) e
+  where
+    go : (x : Bool) → cond x (r .number) (firstMatch rs) ≡ 0 → (x ≡ false) × (firstMatch rs ≡ 0)
+    go true e = absurd (n e)
+    go false e = (refl, e)
+
+-- ---- the setup
+pub record SetupWithin (setup : Setup) : Type 0 where
+  pub some-clients : 1 ≤ setup .clients
+  pub most-clients : setup .clients ≤ mostClients
+  pub some-period : 1 ≤ setup .period
+  pub most-period : setup .period ≤ mostPeriod
+
+-- none of a setup's refusals matches, nor of those behind
+pub setup-none : (setup : Setup) (rs : List Refusal) → firstMatch (setupRefusals setup ++ rs) ≡ 0
+    → SetupWithin setup × (firstMatch rs ≡ 0)
+unfolding setupRefusals
+setup-none setup rs e =
+    let p = none-match (refusal2 setup) (refusal3 setup ∷ rs) (omega arith) e in
+    let q = none-match (refusal3 setup) rs (omega arith) (p .1) in
+    let c = within-refused 1 mostClients (setup .clients) (p .0) in
+    let d = within-refused 1 mostPeriod (setup .period) (q .0) in
+    (record { some-clients = c .0; most-clients = c .1; some-period = d .0; most-period = d .1 }, q .1)
+
+-- where a setup is within its bounds, its refusals pass
+pub setup-passes : (setup : Setup) (rs : List Refusal) → SetupWithin setup
+    → firstMatch (setupRefusals setup ++ rs) ≡ firstMatch rs
+unfolding setupRefusals firstMatch
+setup-passes setup rs f =
+    rw (
+      within-test 1 mostClients (setup .clients) (f .some-clients) (f .most-clients),
+      within-test 1 mostPeriod (setup .period) (f .some-period) (f .most-period),
+    )
+
 -- ---- the head
 pub record HeadWithin (h : Head) : Type 0 where
-  pub some-clients : 1 ≤ h .clients
-  pub most-clients : h .clients ≤ mostClients
-  pub some-period : 1 ≤ h .period
-  pub most-period : h .period ≤ mostPeriod
+  pub setup : SetupWithin (h .setup)
   pub clock : h .clock ≤ clockEnd
   pub last : h .last ≤ numberEnd
 
 pub head-facts : (h : Head) → isHeadWithin h ≡ true → HeadWithin h
-unfolding isHeadWithin
+unfolding isHeadWithin setupRefusals
 head-facts h e =
     let p = simp and-eq-true-iff at e in
     record {
-      some-clients = leb-true 1 (h .clients) (p .0 .0 .0 .0);
-      most-clients = leb-true (h .clients) mostClients (p .0 .0 .0 .1);
-      some-period = leb-true 1 (h .period) (p .0 .0 .1 .0);
-      most-period = leb-true (h .period) mostPeriod (p .0 .0 .1 .1);
+      setup = setup-none (h .setup) [] (eqb-true (firstMatch (setupRefusals (h .setup))) 0 (p .0 .0)) .0;
       clock = leb-true (h .clock) clockEnd (p .0 .1);
       last = leb-true (h .last) numberEnd (p .1);
     }
 
 pub head-test : (h : Head) → HeadWithin h → isHeadWithin h ≡ true
-unfolding isHeadWithin
+unfolding isHeadWithin setupRefusals firstMatch
 head-test h f =
     rw (
-      le-leb 1 (h .clients) (f .some-clients),
-      le-leb (h .clients) mostClients (f .most-clients),
-      le-leb 1 (h .period) (f .some-period),
-      le-leb (h .period) mostPeriod (f .most-period),
+      setup-passes (h .setup) [] (f .setup),
       le-leb (h .clock) clockEnd (f .clock),
       le-leb (h .last) numberEnd (f .last),
     )
@@ -93,7 +130,7 @@ zeros-all rs e = ap (every isZeroRequest) e ∙ zeros-test (length rs)
 pub record Shaped (s : State) : Type 0 where
   pub some-records : 1 ≤ length (s .waitingTable)
   pub most-records : length (s .waitingTable) ≤ mostRecords
-  pub clients : length (s .clientTable) ≡ s .head .clients
+  pub clients : length (s .clientTable) ≡ s .head .setup .clients
   pub waits : s .head .waiting ≤ length (s .waitingTable)
 
 -- ---- sound tables
@@ -114,7 +151,7 @@ pub record Sound (s : State) : Type 0 where
   pub ordered : InOrder (waiting s)
   pub ahead : All (Ahead (s .head .clock)) (waiting s)
   pub given : All (Given (s .head .last)) (waiting s)
-  pub owned : All (Owned (s .head .clients)) (waiting s)
+  pub owned : All (Owned (s .head .setup .clients)) (waiting s)
   pub feasible : Feasible (s .head) (waiting s)
   pub zeros : behind s ≡ replicate (length (behind s)) zeroRequest
   pub balanced : (c : ℕ) → c < length (s .clientTable) → Balanced (waiting s) c (getD (s .clientTable) c zeroCounts)
@@ -149,9 +186,9 @@ sound-facts s e =
           (λ w h. within-facts 1 (s .head .last) (w .number) h)
           (every-facts (λ w. isGiven (s .head .last) (w .number)) (waiting s) (p .0 .0 .0 .0 .1));
       owned =
-          all-imp (λ (w : Request). isClient (s .head .clients) (w .client) ≡ true) (Owned (s .head .clients)) (waiting s)
-          (λ w h. ltb-true (w .client) (s .head .clients) h)
-          (every-facts (λ w. isClient (s .head .clients) (w .client)) (waiting s) (p .0 .0 .0 .1));
+          all-imp (λ (w : Request). isClient (s .head .setup .clients) (w .client) ≡ true) (Owned (s .head .setup .clients)) (waiting s)
+          (λ w h. ltb-true (w .client) (s .head .setup .clients) h)
+          (every-facts (λ w. isClient (s .head .setup .clients) (w .client)) (waiting s) (p .0 .0 .0 .1));
       feasible = feasible-facts (s .head) (waiting s) (p .0 .0 .1);
       zeros = zeros-facts (behind s) (p .0 .1);
       balanced =
@@ -171,9 +208,9 @@ sound-test s f =
       every-test (λ w. isGiven (s .head .last) (w .number)) (waiting s)
           (all-imp (Given (s .head .last)) (λ (w : Request). isGiven (s .head .last) (w .number) ≡ true) (waiting s)
           (λ w h. within-test 1 (s .head .last) (w .number) (h .0) (h .1)) (f .given)),
-      every-test (λ w. isClient (s .head .clients) (w .client)) (waiting s)
-          (all-imp (Owned (s .head .clients)) (λ (w : Request). isClient (s .head .clients) (w .client) ≡ true) (waiting s)
-          (λ w h. lt-ltb (w .client) (s .head .clients) h) (f .owned)),
+      every-test (λ w. isClient (s .head .setup .clients) (w .client)) (waiting s)
+          (all-imp (Owned (s .head .setup .clients)) (λ (w : Request). isClient (s .head .setup .clients) (w .client) ≡ true) (waiting s)
+          (λ w h. lt-ltb (w .client) (s .head .setup .clients) h) (f .owned)),
       feasible-test (s .head) (waiting s) (f .feasible),
       zeros-all (behind s) (f .zeros),
       everyFrom-test (isBalanced (waiting s)) (s .clientTable) zeroCounts

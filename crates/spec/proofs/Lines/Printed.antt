@@ -122,13 +122,13 @@ segments-read (g ∷ gs) ys =
 -- ---- a line's reply
 -- the answer that is read off the lines that are printed for a frame
 abbrev pub segmentsIn : State → List Segment
-segmentsIn s = segmentsOf (take (s .head .waiting) (chartOutput blank s))
+segmentsIn s = segmentsOf (s .head .setup) (take (s .head .waiting) (chartOutput blank s))
 
 abbrev pub chartAnswer : List Segment → Answer → Answer
 chartAnswer gs a = cond (isRefused a) a (Charted (length gs))
 
 abbrev pub answerTo : Frame → State → Answer
-answerTo (Open clients period records) s = openOf clients period (lent clients records s) .answer
+answerTo (Open setup records) s = openOf setup (lent (setup .clients) records s) .answer
 answerTo (Submit client deadline) s = submitOf client deadline s .answer
 answerTo Tick s = tickOf s .answer
 answerTo (Report client) s = reportOf client s .answer
@@ -145,15 +145,15 @@ unfolding outcomeOf chartAccepted kindOf
 drawn s p =
     record {
       kind = ap (λ (o : Outcome). kindOf (o .answer)) (accepted-same (chart blank) s p);
-      fits = rw (ap segmentsOf starts) (segments-fit blank s p .1);
+      fits = rw (ap (segmentsOf (s .head .setup)) starts) (segments-fit blank s p .1);
     }
   where
-    count : length (startsOf (waiting s)) ≡ s .head .waiting
+    count : length (startsOf (s .head .setup) (waiting s)) ≡ s .head .waiting
     count =
         chart-written blank s p .one-each
         ∙ waiting-length s (chart-ready blank s (accepted-none (chart blank) s p) .ready .shape)
 
-    starts : take (s .head .waiting) (chartOutput blank s) ≡ startsOf (waiting s)
+    starts : take (s .head .waiting) (chartOutput blank s) ≡ startsOf (s .head .setup) (waiting s)
     starts = rw count at (chart-written blank s p .starts)
 
 chart-read : (s : State) (ys : List ℕ)
@@ -182,9 +182,9 @@ chart-read s ys = go (isRefused a) refl
 
 pub reply-read : (frame : Frame) (s : State) (ys : List ℕ) → answersOf (reply frame s .bytes ++ ys) ≡ answerTo frame s ∷ answersOf ys
 unfolding reply outcomeOf valuesOf
-reply-read (Open clients period records) s ys =
-    answer-read (openOf clients period (lent clients records s) .answer) ys
-    (values-fit (opening clients period) (lent clients records s))
+reply-read (Open setup records) s ys =
+    answer-read (openOf setup (lent (setup .clients) records s) .answer) ys
+    (values-fit (opening setup) (lent (setup .clients) records s))
 reply-read (Submit client deadline) s ys =
     answer-read (submitOf client deadline s .answer) ys (values-fit (submit client deadline) s)
 reply-read Tick s ys = answer-read (tickOf s .answer) ys (values-fit tick s)

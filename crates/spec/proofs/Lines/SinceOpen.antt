@@ -5,6 +5,7 @@ use mathlib.Core.Path.{_≡_, refl, sym, ap, subst}
 use mathlib.Core.Bool.{Bool, true, false, cond, true≢false}
 use mathlib.Core.List.{List, [], _∷_, _++_}
 use lib.ListN.{length}
+use Rattle.spec.specs.declared.types.Setup.{Setup}
 use Rattle.spec.specs.declared.types.Answer.{Answer}
 use Rattle.spec.specs.declared.types.Answer.the-variants.{Charted}
 use Rattle.spec.specs.declared.types.Frame.{Frame}
@@ -16,7 +17,7 @@ use Rattle.spec.specs.Lists.{Call, opening, submit, tick, report, chart,
 use Rattle.spec.specs.Lists.{isOpenCall, isOpened}
 use Rattle.spec.specs.Frames.{frameOf}
 use Rattle.spec.specs.Session.{textOf, atStart, lent, blank, reply, replies, stateAfter, atEnd, session, sessionState}
-use Rattle.spec.specs.Printed.{callsBy, eventsBy, eventsFrom, eventsIn, sinceOpen, periodSet}
+use Rattle.spec.specs.Printed.{callsBy, eventsBy, eventsFrom, eventsIn, sinceOpen, setupIn}
 use Rattle.spec.specs.Printed.{AsPrinted, empty, own, refused, charted}
 use Rattle.spec.proofs.Demands.Words.{FromOpen}
 use Rattle.spec.proofs.Lists.Trace.{event}
@@ -34,14 +35,14 @@ printed-pass (charted count p) =
 
 -- all events since the last accepted open are such a list, where there is one
 abbrev pub SinceOpened : List Event → State → Type 0
-SinceOpened es s = exists isOpened es ≡ true → FromOpen (periodSet es) (sinceOpen es) s
+SinceOpened es s = exists isOpened es ≡ true → FromOpen (setupIn es) (sinceOpen es) s
 
 module _ (es : List Event) (s : State) (so-far : SinceOpened es s) where
   -- an event that is no accepted open stands in the same list
   goes-on : (e : Event) (t : State) → isOpened e ≡ false
-      → (FromOpen (periodSet es) (sinceOpen es) s → FromOpen (periodSet es) (e ∷ sinceOpen es) t)
+      → (FromOpen (setupIn es) (sinceOpen es) s → FromOpen (setupIn es) (e ∷ sinceOpen es) t)
       → SinceOpened (e ∷ es) t
-  unfolding exists sinceOpen periodSet
+  unfolding exists sinceOpen setupIn
   goes-on e t n f h = rw n (f (so-far (rw n at h)))
 
   -- a call that is lent the queue's tables
@@ -52,7 +53,6 @@ module _ (es : List Event) (s : State) (so-far : SinceOpened es s) where
       goes-on e (outcomeOf c s .after) none
       (λ F.
       record {
-        clients = F .clients;
         before = F .before;
         calls = c ∷ F .calls;
         accepted = F .accepted;
@@ -76,7 +76,6 @@ module _ (es : List Event) (s : State) (so-far : SinceOpened es s) where
       goes-on e s n
       (λ F.
       record {
-        clients = F .clients;
         before = F .before;
         calls = F .calls;
         accepted = F .accepted;
@@ -86,22 +85,21 @@ module _ (es : List Event) (s : State) (so-far : SinceOpened es s) where
       })
 
   -- open: an accepted one begins another list
-  open-goes-on : (clients period : ℕ) (before : State)
-      → SinceOpened (event (opening clients period) (openOf clients period before .answer) ∷ es)
-      (cond (isRefused (openOf clients period before .answer)) s (openOf clients period before .after))
-  unfolding exists sinceOpen periodSet history run
-  open-goes-on clients period before = go (isRefused (openOf clients period before .answer)) refl
+  open-goes-on : (setup : Setup) (before : State)
+      → SinceOpened (event (opening setup) (openOf setup before .answer) ∷ es)
+      (cond (isRefused (openOf setup before .answer)) s (openOf setup before .after))
+  unfolding exists sinceOpen setupIn history run
+  open-goes-on setup before = go (isRefused (openOf setup before .answer)) refl
     where
       a : Answer
-      a = openOf clients period before .answer
+      a = openOf setup before .answer
 
       go : (b : Bool) → isRefused a ≡ b
-          → SinceOpened (event (opening clients period) a ∷ es) (cond b s (openOf clients period before .after))
-      go true r = event-goes-on (event (opening clients period) a) (rw r) (λ ds fs. refused (event (opening clients period) a) r)
+          → SinceOpened (event (opening setup) a ∷ es) (cond b s (openOf setup before .after))
+      go true r = event-goes-on (event (opening setup) a) (rw r) (λ ds fs. refused (event (opening setup) a) r)
       go false r =
           λ h.
           rw r (record {
-            clients = clients;
             before = before;
             calls = [];
             accepted = r;
@@ -125,7 +123,7 @@ module _ (es : List Event) (s : State) (so-far : SinceOpened es s) where
 
   frame-goes-on : (frame : Frame) → SinceOpened (eventsBy frame (answerTo frame s) ++ es) (reply frame s .after)
   unfolding callsBy reply outcomeOf
-  frame-goes-on (Open clients period records) = open-goes-on clients period (lent clients records s)
+  frame-goes-on (Open setup records) = open-goes-on setup (lent (setup .clients) records s)
   frame-goes-on (Submit client deadline) = call-goes-on (submit client deadline) refl
   frame-goes-on Tick = call-goes-on tick refl
   frame-goes-on (Report client) = call-goes-on (report client) refl

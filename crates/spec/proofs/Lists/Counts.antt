@@ -9,6 +9,7 @@ use native.Mathlib.Omega.{arith}
 use lib.Dec.{eqb}
 use lib.ListN.{length, getD, getD-replicate, length-replicate}
 use Rattle.slots.proofs.Laws.Sums.{total-map}
+use Rattle.spec.specs.declared.types.Setup.{Setup}
 use Rattle.spec.specs.declared.types.Request.{Request}
 use Rattle.spec.specs.declared.types.Counts.{Counts}
 use Rattle.spec.specs.declared.types.Answer.{Answer}
@@ -109,7 +110,7 @@ module _ (x : Bool) (k : Counts) where
 
 -- ---- the client table is what the events say
 pub record Counted (period : ℕ) (es : List Event) (s : State) : Type 0 where
-  pub period-is : s .head .period ≡ period
+  pub period-is : s .head .setup .period ≡ period
   pub counts-are : (c : ℕ) → c < length (s .clientTable) → getD (s .clientTable) c zeroCounts ≡ countsSince period c es
 
 -- the requests that wait by the events are those of the table
@@ -202,7 +203,7 @@ module _ (period : ℕ) (es : List Event) (s : State) (C : Counted period es s) 
   module _ (ws : List Request) (cs : List Counts) (a : Answer) (accepted : isRefused a ≡ false)
       (clock-is : s .head .clock ≡ ticks es) where
     abbrev begins : Bool
-    begins = isPeriodStart (s .head .period) (suc (s .head .clock))
+    begins = isPeriodStart (s .head .setup .period) (suc (s .head .clock))
 
     starts-same : begins ≡ startsPeriod period (event tick a) es
     unfolding ticks countIf
@@ -269,9 +270,9 @@ module _ (period : ℕ) (es : List Event) (s : State) (C : Counted period es s) 
       counted-same x (p .no-tick) (ap (map (λ (a : Asked). a .request .client)) (p .none-asked 0))
       (ap (map (λ (v : Victim). v .client)) (p .none-dropped))
 
-counted-open : (clients period : ℕ) (s : State) → Counted period [] (openAccepted clients period s .after)
+counted-open : (setup : Setup) (s : State) → Counted (setup .period) [] (openAccepted setup s .after)
 unfolding openAccepted countsSince sinceStart
-counted-open clients period s =
+counted-open setup s =
     record {
       period-is = refl;
       counts-are =
@@ -280,14 +281,14 @@ counted-open clients period s =
     }
 
 -- after any list of calls from an accepted open on, with no other accepted open in it
-pub counted : (clients period : ℕ) (s : State) (cs : List Call) → isRefused (openOf clients period s .answer) ≡ false
-    → exists isOpened (history (openOf clients period s .after) cs) ≡ false
-    → Counted period (history (openOf clients period s .after) cs) (run (openOf clients period s .after) cs)
-counted clients period s cs a h =
-    along (Counted period)
-    (λ s e t es k T C. counted-step period es s C e t k T (traced-step s e t es k T)) (openOf clients period s .after) cs h
-    (accepted-open (λ (o : Outcome). Traced [] (o .after)) clients period s a (traced-open clients period s))
-    (accepted-open (λ (o : Outcome). Counted period [] (o .after)) clients period s a (λ r. counted-open clients period s)) .1
+pub counted : (setup : Setup) (s : State) (cs : List Call) → isRefused (openOf setup s .answer) ≡ false
+    → exists isOpened (history (openOf setup s .after) cs) ≡ false
+    → Counted (setup .period) (history (openOf setup s .after) cs) (run (openOf setup s .after) cs)
+counted setup s cs a h =
+    along (Counted (setup .period))
+    (λ s e t es k T C. counted-step (setup .period) es s C e t k T (traced-step s e t es k T)) (openOf setup s .after) cs h
+    (accepted-open (λ (o : Outcome). Traced [] (o .after)) setup s a (traced-open setup s))
+    (accepted-open (λ (o : Outcome). Counted (setup .period) [] (o .after)) setup s a (λ r. counted-open setup s)) .1
 
 -- an accepted report says so
 pub reported-counts : (period client : ℕ) (es : List Event) (s : State) → Traced es s → Counted period es s

@@ -18,6 +18,7 @@ use Rattle.slots.proofs.Both.{bookings as booking, Both, both-empty, both-ticke
 use Rattle.slots.proofs.Reached.Agree.{Booked as IsBooked, as-booked}
 use Rattle.slots.proofs.Largest.{room-kept, room-dropped}
 use Rattle.slots.proofs.Single.{end, slots, booked, bookings-booked}
+use Rattle.spec.specs.declared.types.Setup.{Setup}
 use Rattle.spec.specs.declared.types.Request.{Request}
 use Rattle.spec.specs.Every.{countIf}
 use Rattle.spec.specs.Tables.{zeroRequest, State, waiting, nextState}
@@ -55,12 +56,12 @@ all-unmap p g (x ∷ xs) a = (a .0, all-unmap p g xs (a .1))
 
 -- the queue of crate slots has what its steps keep
 abbrev pub Follows : List Event → State → Type 0
-Follows es s = Both (capacityOf (s .head)) (queueOf es s)
+Follows es s = Both (capacityOf (s .head .setup)) (queueOf es s)
 
 -- ---- submit
 module _ (client deadline : ℕ) (s : State) (es : List Event) (r : SubmitReady client deadline s) (T : Traced es s) where
   abbrev heads : ℕ → ℕ
-  heads = capacityOf (s .head)
+  heads = capacityOf (s .head .setup)
 
   abbrev q : Queue
   q = queueOf es s
@@ -101,7 +102,7 @@ module _ (client deadline : ℕ) (s : State) (es : List Event) (r : SubmitReady 
   same-clock = omega arith
 
   same-room : (D : ℕ) → roomTo (s .head) D ≡ roomOf heads (ticks es) D
-  same-room D = room-capacity (s .head) (s .head .clock) D ∙ ap (λ (t : ℕ). roomOf heads t D) (T .clock)
+  same-room D = room-capacity (s .head .setup) (s .head .clock) D ∙ ap (λ (t : ℕ). roomOf heads t D) (T .clock)
 
   -- ---- it is kept
   kept-queue : asking deadline (map entryOf together) q
@@ -116,7 +117,7 @@ module _ (client deadline : ℕ) (s : State) (es : List Event) (r : SubmitReady 
         asked = record { release = ticks es; deadline = deadline } ∷ windows es;
       }
 
-  kept-heads : heads ≡ capacityOf (kept client deadline s .after .head)
+  kept-heads : heads ≡ capacityOf (kept client deadline s .after .head .setup)
   unfolding kept
   kept-heads = sym (capacity-next (s .head .clock) (suc (s .head .last)) together (countedIn client s) s)
 
@@ -151,7 +152,7 @@ module _ (client deadline : ℕ) (s : State) (es : List Event) (r : SubmitReady 
           asked = record { release = ticks es; deadline = deadline } ∷ windows es;
         }
 
-    dropped-heads : heads ≡ capacityOf (droppedAt k client deadline s .after .head)
+    dropped-heads : heads ≡ capacityOf (droppedAt k client deadline s .after .head .setup)
     unfolding droppedAt
     dropped-heads =
         sym (capacity-next (s .head .clock) (suc (s .head .last)) others
@@ -218,11 +219,11 @@ module _ (s : State) (es : List Event) (T : Traced es s) where
   later-clock = omega arith
 
   abbrev serving : ℕ → ℕ
-  serving = capacityOf (s .head)
+  serving = capacityOf (s .head .setup)
 
   -- one is served
   one : serving (ticks es) ≡ 1
-  one = capacity-one (s .head) (ticks es)
+  one = capacity-one (s .head .setup) (ticks es)
 
   tick-queue : (ws : List Request) → waiting s ≡ ws
       → tickedQueue serving (queueOf es s) ≡ queueOf (event tick (tickAccepted ws s .answer) ∷ es) (tickAccepted ws s .after)
@@ -250,14 +251,14 @@ module _ (s : State) (es : List Event) (T : Traced es s) where
           ∙ ap (λ (l : List Request). drop 1 (map entryOf l)) e
           ∙ ap (map entryOf) (sym (ticked-waiting (w ∷ ws) s))
 
-  tick-heads : (ws : List Request) → serving ≡ capacityOf (tickAccepted ws s .after .head)
+  tick-heads : (ws : List Request) → serving ≡ capacityOf (tickAccepted ws s .after .head .setup)
   unfolding tickAccepted
   tick-heads [] =
       sym (capacity-next (suc (s .head .clock)) (s .head .last) []
-      (countsAfter (s .head .period) (suc (s .head .clock)) [] (s .clientTable)) s)
+      (countsAfter (s .head .setup .period) (suc (s .head .clock)) [] (s .clientTable)) s)
   tick-heads (w ∷ ws) =
       sym (capacity-next (suc (s .head .clock)) (s .head .last) ws
-      (countsAfter (s .head .period) (suc (s .head .clock)) ws (change oneMoreServed (w .client) (s .clientTable))) s)
+      (countsAfter (s .head .setup .period) (suc (s .head .clock)) ws (change oneMoreServed (w .client) (s .clientTable))) s)
 
   follows-tick : Follows es s → Then Follows tick (tickAccepted (waiting s) s) es
   follows-tick B =
@@ -277,15 +278,15 @@ lookup-slot n [] = refl
 lookup-slot n (b ∷ bs) = ap (λ (p : Slot). cond (eqb n (b .number)) (at (b .slot)) p) (lookup-slot n bs)
 
 -- a request ends where the chart says
-end-chart : (w : Request) (ws : List Request) → endOf w (startsOf ws) ≡ end (w .deadline) (map entryOf ws)
+end-chart : (setup : Setup) (w : Request) (ws : List Request) → endOf w (startsOf setup ws) ≡ end (w .deadline) (map entryOf ws)
 unfolding startsOf
-end-chart w [] = refl
-end-chart w (v ∷ ws) = ap (λ (n : ℕ). min (w .deadline) (n - 1)) (end-chart v ws)
+end-chart setup w [] = refl
+end-chart setup w (v ∷ ws) = ap (λ (n : ℕ). min (w .deadline) (n - 1)) (end-chart setup v ws)
 
-slots-chart : (ws : List Request) → map bookedOf (chartBookings ws (startsOf ws)) ≡ slots (map entryOf ws)
+slots-chart : (setup : Setup) (ws : List Request) → map bookedOf (chartBookings ws (startsOf setup ws)) ≡ slots (map entryOf ws)
 unfolding startsOf chartBookings
-slots-chart [] = refl
-slots-chart (w ∷ ws) = λ i. record { number = w .number; slot = end-chart w ws i - 1 } ∷ slots-chart ws i
+slots-chart setup [] = refl
+slots-chart setup (w ∷ ws) = λ i. record { number = w .number; slot = end-chart setup w ws i - 1 } ∷ slots-chart setup ws i
 
 -- the requests are numbered from the last down to 1
 book-numbered : (bs : List Booking) (rs : List Asked) → Numbered rs
@@ -301,15 +302,15 @@ book-numbered bs (a ∷ rs) n = λ i. first i ∷ book-numbered bs rs (n .1) i
 
 booked-own : (es : List Event) (s : State) → booked (queueOf es s) ≡ map bookedOf (ownBookings es s)
 booked-own es s =
-    ap (λ (bs : List Booked). map bookedOf (bookings es) ++ bs) (sym (slots-chart (waiting s)))
-    ∙ sym (map-append bookedOf (bookings es) (chartBookings (waiting s) (startsOf (waiting s))))
+    ap (λ (bs : List Booked). map bookedOf (bookings es) ++ bs) (sym (slots-chart (s .head .setup) (waiting s)))
+    ∙ sym (map-append bookedOf (bookings es) (chartBookings (waiting s) (startsOf (s .head .setup) (waiting s))))
 
 -- with one served in each slot, as the queue of crate slots has it
-booked-here : (es : List Event) (s : State) → booking (capacityOf (s .head)) (queueOf es s) ≡ map bookedOf (ownBookings es s)
+booked-here : (es : List Event) (s : State) → booking (capacityOf (s .head .setup)) (queueOf es s) ≡ map bookedOf (ownBookings es s)
 booked-here es s =
-    bookings-booked (capacityOf (s .head)) (capacity-one (s .head)) (queueOf es s) ∙ booked-own es s
+    bookings-booked (capacityOf (s .head .setup)) (capacity-one (s .head .setup)) (queueOf es s) ∙ booked-own es s
 
-pub own-plan : (es : List Event) (s : State) → Numbered (asked es) → plan (capacityOf (s .head)) (queueOf es s) ≡ ownPlan es s
+pub own-plan : (es : List Event) (s : State) → Numbered (asked es) → plan (capacityOf (s .head .setup)) (queueOf es s) ≡ ownPlan es s
 unfolding ownPlan
 own-plan es s n =
     ap (book (length (windows es))) (booked-here es s) ∙ book-numbered (ownBookings es s) (asked es) n
@@ -333,12 +334,12 @@ module _ (es : List Event) (s : State) (T : Traced es s) (B : Follows es s) wher
       all-imp (λ (b : Booking). IsBooked (map bookedOf bs) (bookedOf b)) (λ (b : Booking). slotFor bs (b .number) ≡ at (b .slot)) bs
       (λ b e. lookup-slot (b .number) bs ∙ e)
       (all-unmap (IsBooked (map bookedOf bs)) bookedOf bs
-      (subst (λ (l : List Booked). All (IsBooked l) l) (booked-here es s) (as-booked (capacityOf (s .head)) (queueOf es s) B)))
+      (subst (λ (l : List Booked). All (IsBooked l) l) (booked-here es s) (as-booked (capacityOf (s .head .setup)) (queueOf es s) B)))
     where
       bs : List Booking
       bs = ownBookings es s
 
 -- ---- from an accepted open on
-pub follows-open : (clients period : ℕ) (s : State) → Follows [] (openAccepted clients period s .after)
+pub follows-open : (setup : Setup) (s : State) → Follows [] (openAccepted setup s .after)
 unfolding openAccepted ticks countIf asked bookings
-follows-open clients period s = both-empty (capacityOf (record { clients = clients; period = period; clock = 0; last = 0; waiting = 0 }))
+follows-open setup s = both-empty (capacityOf setup)

@@ -95,7 +95,7 @@ module _ {es fs : List Event} (w : WithPassing es fs) where
   same-plan s =
       λ i.
       map
-      (λ (a : Asked). slotFor (same-bookings w i ++ chartBookings (waiting s) (startsOf (waiting s))) (a .request .number))
+      (λ (a : Asked). slotFor (same-bookings w i ++ chartBookings (waiting s) (startsOf (s .head .setup) (waiting s))) (a .request .number))
       (same-asked w i)
 
   pub same-waits : (client : ℕ) → waitingBy client fs ≡ waitingBy client es

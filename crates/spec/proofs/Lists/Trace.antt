@@ -12,6 +12,7 @@ use lib.ListN.{length, getD}
 use Rattle.slots.proofs.Laws.Tests.{Same, same-yes, same-no, same}
 use Rattle.slots.proofs.Laws.Sums.{one, one-yes, one-no, one-most, All, all-each, all-imp, total, total-le, total-zero}
 use Rattle.slots.proofs.Laws.Sums.{total-map, total-one, total-cons}
+use Rattle.spec.specs.declared.types.Setup.{Setup}
 use Rattle.spec.specs.declared.types.Request.{Request}
 use Rattle.spec.specs.declared.types.Answer.{Answer}
 use Rattle.spec.specs.declared.types.Answer.the-variants.{Refused}
@@ -19,7 +20,7 @@ use Rattle.spec.specs.Every.{exists, countIf, select}
 use Rattle.spec.specs.Tables.{zeroRequest, State, waiting, nextState}
 use Rattle.spec.specs.Order.{removeAt}
 use Rattle.spec.specs.Chart.{hasNoOverfull}
-use Rattle.spec.specs.Refusals.{firstMatch}
+use Rattle.spec.specs.Setup.{firstMatch}
 use Rattle.spec.specs.Calls.{Outcome, openAccepted, openOf, submitAccepted, kept, droppedAt, withNew, newRequest}
 use Rattle.spec.specs.Calls.{requestAt, victimPlace, tickAccepted, reportAccepted, chartAccepted}
 use Rattle.spec.specs.Lists.{Call, opening, submit, tick, report, chart, outcomeOf, run, Event, history, isRefused}
@@ -298,11 +299,11 @@ abbrev pub Then : (List Event → State → Type 0) → Call → Outcome → Lis
 Then p c o es = p (event c (o .answer) ∷ es) (o .after)
 
 -- ---- open
-pub traced-open : (clients period : ℕ) (s : State) → OpenReady clients period s → Traced [] (openAccepted clients period s .after)
+pub traced-open : (setup : Setup) (s : State) → OpenReady setup s → Traced [] (openAccepted setup s .after)
 unfolding openAccepted ticks countIf asked bookings victims waitingRequests servedRequests select total
-traced-open clients period s r =
+traced-open setup s r =
     record {
-      ready = open-keeps clients period s r;
+      ready = open-keeps setup s r;
       clock = refl;
       last = refl;
       numbered = tt;
@@ -492,7 +493,7 @@ pub record Passing (e : Event) : Type 0 where
   pub none-dropped : victimBy (e .answer) ≡ []
 
 pub refused-passing : (c : Call) (n : ℕ) → Passing (event c (Refused n))
-refused-passing (opening clients period) n =
+refused-passing (opening setup) n =
     record { no-tick = refl; none-asked = λ t. refl; none-served = refl; none-dropped = refl }
 refused-passing (submit client deadline) n =
     record { no-tick = refl; none-asked = λ t. refl; none-served = refl; none-dropped = refl }
@@ -553,7 +554,7 @@ eventOf c s = event c (outcomeOf c s .answer)
 accepted-step : (c : Call) (s : State) → firstMatch (refusalsOf c s) ≡ 0 → isOpened (event c (acceptedOf c s .answer)) ≡ false
     → Step s (event c (acceptedOf c s .answer)) (acceptedOf c s .after)
 unfolding openAccepted reportAccepted chartAccepted
-accepted-step (opening clients period) s e h = absurd (true≢false h)
+accepted-step (opening setup) s e h = absurd (true≢false h)
 accepted-step (submit client deadline) s e h = submits client deadline (submit-ready client deadline s e)
 accepted-step tick s e h = serves (tick-ready s e)
 accepted-step (report client) s e h =
@@ -601,16 +602,16 @@ module _ (P : List Event → State → Type 0)
 
 -- ---- from an accepted open on
 -- what holds of the outcome where open is accepted
-pub accepted-open : (P : Outcome → Type 0) (clients period : ℕ) (s : State) → isRefused (openOf clients period s .answer) ≡ false
-    → (OpenReady clients period s → P (openAccepted clients period s)) → P (openOf clients period s)
+pub accepted-open : (P : Outcome → Type 0) (setup : Setup) (s : State) → isRefused (openOf setup s .answer) ≡ false
+    → (OpenReady setup s → P (openAccepted setup s)) → P (openOf setup s)
 unfolding outcomeOf
-accepted-open P clients period s a f =
-    subst P (sym (accepted-same (opening clients period) s a))
-    (f (open-ready clients period s (accepted-none (opening clients period) s a)))
+accepted-open P setup s a f =
+    subst P (sym (accepted-same (opening setup) s a))
+    (f (open-ready setup s (accepted-none (opening setup) s a)))
 
-pub traced : (clients period : ℕ) (s : State) (cs : List Call) → isRefused (openOf clients period s .answer) ≡ false
-    → exists isOpened (history (openOf clients period s .after) cs) ≡ false
-    → Traced (history (openOf clients period s .after) cs) (run (openOf clients period s .after) cs)
-traced clients period s cs a h =
-    along (λ (es : List Event) (t : State). Unit {0}) (λ s e t es k T p. tt) (openOf clients period s .after) cs h
-    (accepted-open (λ (o : Outcome). Traced [] (o .after)) clients period s a (traced-open clients period s)) tt .0
+pub traced : (setup : Setup) (s : State) (cs : List Call) → isRefused (openOf setup s .answer) ≡ false
+    → exists isOpened (history (openOf setup s .after) cs) ≡ false
+    → Traced (history (openOf setup s .after) cs) (run (openOf setup s .after) cs)
+traced setup s cs a h =
+    along (λ (es : List Event) (t : State). Unit {0}) (λ s e t es k T p. tt) (openOf setup s .after) cs h
+    (accepted-open (λ (o : Outcome). Traced [] (o .after)) setup s a (traced-open setup s)) tt .0

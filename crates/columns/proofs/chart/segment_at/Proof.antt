@@ -4,6 +4,7 @@ use mathlib.Core.Path.{_≡_, _∙_}
 use native.Mathlib.Omega.{arith}
 use borrow.Author.Needs.{needs}
 use lib.ListN.{take, drop}
+use Rattle.spec.specs.declared.types.Setup.{Setup}
 use Rattle.spec.specs.Chart.{segmentsOf}
 use Rattle.columns.proofs.Drawing.{glue, run-begins, run-more, run-ends, run-last}
 use Rattle.columns.proofs.chart.segment_at.Statement.{statement}
@@ -13,7 +14,7 @@ abbrev Inv-loop : tie.InvT-loop
 Inv-loop starts n i left right₀ k₀ right k =
     (i < k)
     × (k ≤ n)
-    × (segmentsOf (drop i (take n starts)) ≡ glue left right (segmentsOf (drop k (take n starts))))
+    × ((setup : Setup) → segmentsOf setup (drop i (take n starts)) ≡ glue setup left right (segmentsOf setup (drop k (take n starts))))
     × (right + i ≡ left + k)
 
 abbrev μ-loop : tie.MeasureT-loop
@@ -32,7 +33,7 @@ add-k : tie.Need-add-k Inv-loop μ-loop
 add-k c = search needs
 
 loop-holds : tie.Need-loop-holds Inv-loop μ-loop
-loop-holds c = (search needs, search needs, run-begins _ _ _ (c .before .pre .0) (c .before .pre .1), omega arith)
+loop-holds c = (search needs, search needs, (λ setup. run-begins setup _ _ _ (c .before .pre .0) (c .before .pre .1)), omega arith)
 
 mul-if1 : tie.Need-mul-if1 Inv-loop μ-loop
 mul-if1 c = search needs
@@ -55,14 +56,14 @@ loop-again c =
     let turn = c .before .before .before in (
       search needs,
       search needs,
-      turn .loop .inv .2
-          ∙ run-more _ _ _ _ _ (c .before .before .loop-test .taken) (turn .before .before .pre .1) (c .if1 .left),
+      λ setup. turn .loop .inv .2 setup
+          ∙ run-more setup _ _ _ _ _ (c .before .before .loop-test .taken) (turn .before .before .pre .1) (c .if1 .left),
       search needs,
     )
 
 returns : tie.Need-returns Inv-loop μ-loop
 returns c = (
-  c .before .loop .inv .2 ∙ run-last _ _ _ _ _ (c .loop-test .left),
+  c .before .loop .inv .2 _ ∙ run-last _ _ _ _ _ _ (c .loop-test .left),
   c .before .loop .inv .0,
   c .before .loop .inv .1,
   omega (arith, c .before .loop .inv .3),
@@ -71,8 +72,8 @@ returns c = (
 returns-2 : tie.Need-returns-2 Inv-loop μ-loop
 returns-2 c =
     let turn = c .before .before .before in (
-      turn .loop .inv .2
-          ∙ run-ends _ _ _ _ _ (c .before .before .loop-test .taken) (turn .before .before .pre .1) (c .if1 .taken),
+      turn .loop .inv .2 _
+          ∙ run-ends _ _ _ _ _ _ (c .before .before .loop-test .taken) (turn .before .before .pre .1) (c .if1 .taken),
       turn .loop .inv .0,
       turn .loop .inv .1,
       omega (arith, turn .loop .inv .3),

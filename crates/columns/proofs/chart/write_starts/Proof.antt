@@ -1,10 +1,12 @@
 -- `columns::chart::write_starts` meets its contract. Assumes nothing.
-use Prim.Native.Nat.{_-_, _≤_}
+use Prim.Native.Nat.{_-_, _≤_, min}
 use mathlib.Core.Path.{_≡_, refl, sym}
-use mathlib.Core.List.{_++_}
+use mathlib.Core.List.{_∷_, _++_}
 use native.Mathlib.Omega.{arith}
 use borrow.Author.Needs.{needs}
 use lib.ListN.{length, getD, take, drop, take-append-drop, length-set}
+use Rattle.spec.specs.declared.types.Setup.{Setup}
+use Rattle.spec.specs.Tables.{zeroSetup}
 use Rattle.columns.specs.Charted.{startSlots}
 use Rattle.columns.specs.Columns.{largest64}
 use Rattle.columns.proofs.Drawing.{starts-none, starts-more, set-last, last-same}
@@ -15,15 +17,15 @@ abbrev Inv-loop : tie.InvT-loop
 Inv-loop output₀ n i₀ next₀ output i next =
     (i ≤ n)
     × (length output ≡ length output₀)
-    × (output ≡ take i output₀ ++ (startSlots (drop i (take n output₀)) ++ drop n output₀))
-    × (next ≡ getD (startSlots (drop i (take n output₀))) 0 largest64)
+    × ((setup : Setup) → output ≡ take i output₀ ++ (startSlots setup (drop i (take n output₀)) ++ drop n output₀))
+    × ((setup : Setup) → next ≡ getD (startSlots setup (drop i (take n output₀))) 0 largest64)
 
 abbrev μ-loop : tie.MeasureT-loop
 μ-loop output₀ n i₀ next₀ output i next = i
 
 loop-holds : tie.Need-loop-holds Inv-loop μ-loop
 loop-holds c =
-    (search needs, refl, rw starts-none (sym (take-append-drop (c .before .args .n) _)), rw starts-none)
+    (search needs, refl, (λ setup. rw starts-none (sym (take-append-drop (c .before .args .n) _))), (λ setup. rw starts-none))
 
 sub-i : tie.Need-sub-i Inv-loop μ-loop
 sub-i c = search needs
@@ -53,16 +55,18 @@ loop-again c =
     let i = turn .loop .i in
     let inside = c .before .before .loop-test .taken in
     let read : getD (turn .loop .output) (i - 1) 0 ≡ getD (a .output .now) (i - 1) 0 =
-    rw (turn .loop .inv .2) (last-same _ _ _ inside (omega arith))
+    rw (turn .loop .inv .2 zeroSetup) (last-same _ _ _ inside (omega arith))
     in
-    let more =
-    starts-more (a .output .now) _ _ _ inside (turn .loop .inv .0) (turn .before .before .pre)
-    (omega (arith, c .before .slice-known2 .given (i - 1))) (turn .loop .inv .3)
+    let more : (setup : Setup)
+    → startSlots setup (drop (i - 1) (take (a .n) (a .output .now)))
+    ≡ (min (getD (a .output .now) (i - 1) 0) (turn .loop .next) - 1) ∷ startSlots setup (drop i (take (a .n) (a .output .now))) =
+    λ setup. starts-more setup (a .output .now) _ _ _ inside (turn .loop .inv .0) (turn .before .before .pre)
+    (omega (arith, c .before .slice-known2 .given (i - 1))) (turn .loop .inv .3 setup)
     in (
       search needs,
       simp length-set (turn .loop .inv .1),
-      rw (turn .loop .inv .2, more, c .one-before .ensures, read) (set-last _ _ _ _ inside (omega arith)),
-      rw (more, ← read) (c .one-before .ensures),
+      λ setup. rw (turn .loop .inv .2 setup, more setup, c .one-before .ensures, read) (set-last _ _ _ _ inside (omega arith)),
+      λ setup. rw (more setup, ← read) (c .one-before .ensures),
     )
 
 same-length : tie.Need-same-length Inv-loop μ-loop
@@ -70,7 +74,7 @@ same-length c = c .before .loop .inv .1
 
 returns : tie.Need-returns Inv-loop μ-loop
 returns c =
-    let e : c .before .loop .i ≡ 0 = omega arith in rw e at (c .before .loop .inv .2)
+    let e : c .before .loop .i ≡ 0 = omega arith in rw e at (c .before .loop .inv .2 (c .before .before .before .args .setup))
 
 pub write-starts-spec : {M : Type 1} → statement M
 write-starts-spec =

@@ -24,7 +24,7 @@ add-result : tie.Need-add-result
 add-result c = search needs
 
 returns : tie.Need-returns
-returns c = room-sum _ _ _ (value _)
+returns c = room-sum (c .before .args .head) _ _ (value _)
 
 pub has-room-spec : {M : Type 1} → statement M
 has-room-spec = tie.close (tie.spec add-result returns)

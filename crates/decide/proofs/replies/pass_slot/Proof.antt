@@ -21,7 +21,7 @@ same-length-3 c = search needs
 returns : tie.Need-returns
 returns c =
     let restartedCounts = c .before .before .before .before .before .before in
-    let rises = restartedCounts .before .before .before .before .raised .ensures in
+    let rises = restartedCounts .before .before .before .before .before .raised .ensures in
     (rw rises, rw rises at (restartedCounts .restart-at .ensures))
 
 pub pass-slot-spec : {M : Type 1} → statement M

@@ -22,7 +22,7 @@ returns c =
     let value = c .before .before in
     let drawn = value .before .before .before .before in
     let a = drawn .before .before .before .before .args in
-    let gs = segmentsOf (take (a .n) (a .starts .now)) in (
+    let gs = segmentsOf (a .setup) (take (a .n) (a .starts .now)) in (
       search needs,
       search needs,
       joined (take (a .at) (a .out .now)) (segmentLines gs) (lineOf 0x88 (field 2 (length gs) ∷ []))

@@ -35,7 +35,7 @@ same-length-2 c = search needs
 returns-2 : tie.Need-returns-2
 returns-2 c =
     put-ends _ _ _ _ _ _ (search needs) (search needs) (search needs)
-    (rw (line-alone _ _ (c .before .before .before .before .match .keys2)) (c .before .before .put-answer .ensures .2))
+    (rw (line-alone _ _ _ (c .before .before .before .before .match .keys2)) (c .before .before .put-answer .ensures .2))
 
 pub put-reply-spec : {M : Type 1} → statement M
 put-reply-spec =

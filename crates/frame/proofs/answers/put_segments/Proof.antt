@@ -13,18 +13,18 @@ use Rattle.frame.proofs.answers.put_segments.Statement.{statement}
 use Rattle.frame.proofs.answers.put_segments.Tie as tie
 
 abbrev Inv-loop : tie.InvT-loop
-Inv-loop out₀ at starts n end₀ count₀ i₀ out end count i =
+Inv-loop setup out₀ at starts n end₀ count₀ i₀ out end count i =
     (i ≤ n)
     × (length out ≡ length out₀)
     × (at ≤ end)
     × (end ≤ at + 35 * i)
     × (count ≤ i)
-    × (count + length (segmentsOf (drop i (take n starts))) ≡ length (segmentsOf (take n starts)))
-    × (take end out ++ segmentLines (segmentsOf (drop i (take n starts)))
-    ≡ take at out₀ ++ segmentLines (segmentsOf (take n starts)))
+    × (count + length (segmentsOf setup (drop i (take n starts))) ≡ length (segmentsOf setup (take n starts)))
+    × (take end out ++ segmentLines (segmentsOf setup (drop i (take n starts)))
+    ≡ take at out₀ ++ segmentLines (segmentsOf setup (take n starts)))
 
 abbrev μ-loop : tie.MeasureT-loop
-μ-loop out₀ at starts n end₀ count₀ i₀ out end count i = n - i
+μ-loop setup out₀ at starts n end₀ count₀ i₀ out end count i = n - i
 
 loop-holds : tie.Need-loop-holds Inv-loop μ-loop
 loop-holds c = search needs
@@ -54,7 +54,7 @@ loop-again c =
       search needs,
       omega (arith, ap length rest),
       segment-put (take (turn .loop .end) (turn .loop .out)) _ _
-          (segmentsOf (drop (run .segment-at .result .next) (take (a .n) (a .starts .now))))
+          (segmentsOf (a .setup) (drop (run .segment-at .result .next) (take (a .n) (a .starts .now))))
           (c .before .before .put-pair .ensures .1)
           ∙ rw rest at (turn .loop .inv .6),
     )
@@ -66,7 +66,7 @@ returns : tie.Need-returns Inv-loop μ-loop
 unfolding segmentLines
 returns c =
     let a = c .before .before .before .before .args in
-    let none = segments-end (a .starts .now) (a .n) (c .before .loop .i) (c .loop-test .left) in
+    let none = segments-end (a .setup) (a .starts .now) (a .n) (c .before .loop .i) (c .loop-test .left) in
     (search needs, search needs, omega (arith, ap length none), sym (append-nil _) ∙ rw none at (c .before .loop .inv .6))
 
 pub put-segments-spec : {M : Type 1} → statement M

@@ -1,7 +1,7 @@
 -- `sound::check::contents_refusal` meets its contract: a walk of four calls. The tally is a local array, lent to two of them.
 -- Assumes nothing.
 use Rattle.walk.proofs.Prelude.{ℕ, _≡_, refl, sym, _∙_, subst, List, [], _∷_, lit<, length, replicate, length-replicate, URA, w16, w64, vint, SProp, emp, id⊢, Memory, Routine, Heap, Tables, Atoms, Fun, Given, _$_, !, agg, stop, from, addr, lit, of-opd, and-then, no-more, uint-makes, uint-lawful, uint-copy, u16, u32, u64, Room, tripleOf}
-use Rattle.walk.proofs.Prelude.{shown, so, Shape, Walk, heard, var, vars, field-var, gives, takes-out, passed-on, big-lit, Param, number, flag, loan, fit, of-flag, of-number, proved, sets, calls-for, made, taken}
+use Rattle.walk.proofs.Prelude.{shown, so, Shape, Walk, heard, var, vars, field-var, inner-var, gives, takes-out, passed-on, big-lit, Param, number, flag, loan, fit, of-flag, of-number, proved, sets, calls-for, made, taken}
 use Rattle.walk.proofs.Slices.Arrays.{ends-array, array-lent, array-shared, repeats}
 use Rattle.spec.specs.declared.types.Request.{Request}
 use Rattle.table.proofs.Rows.{R}
@@ -59,9 +59,9 @@ module _ {M : Type 1} (𝓤 : URA M) (H : Heap 𝓤) (A : Atoms 𝓤) (W : Given
       (λ c. known-zero) (λ c h. h) (so 𝓤 (next-asked head ws su se dr asked .1)) refl (λ c. vars ! (refl, (refl, tt))) (λ _. refl) (λ zero last₂ told-zero kept₂ _.
       sets ! (addr ! (from ! (stop !))) refl (tt, tt) $
       sets ! (agg ! (and-then ! (var ! refl) (and-then ! (big-lit ! (fit (lit< tt))) (no-more !)))) refl (tt, (tt, (fit (lit< tt), tt))) $
-      sets ! (of-opd ! (field-var ! refl refl refl)) refl (tt, fit (clients-fit head head-is)) $
-      -- let balanced = tables::are_balanced(&tally, submitted, served, dropped, head.clients as usize);
-      calls-for ! 𝓣 (0 ∷ 2 ∷ 3 ∷ 4 ∷ []) (loan (array-shared W u16 1024 l₆ tt tally (subst (Room u16) (sym (kept₁ .1 .0)) tally-room) size) ∷ passed-on W s₁ ∷ passed-on W s₂ ∷ passed-on W s₃ ∷ number W (head .clients) (clients-fit head head-is) ∷ []) of-flag
+      sets ! (of-opd ! (inner-var ! refl refl refl refl refl)) refl (tt, fit (clients-fit head head-is)) $
+      -- let balanced = tables::are_balanced(&tally, submitted, served, dropped, head.setup.clients as usize);
+      calls-for ! 𝓣 (0 ∷ 2 ∷ 3 ∷ 4 ∷ []) (loan (array-shared W u16 1024 l₆ tt tally (subst (Room u16) (sym (kept₁ .1 .0)) tally-room) size) ∷ passed-on W s₁ ∷ passed-on W s₂ ∷ passed-on W s₃ ∷ number W (head .setup .clients) (clients-fit head head-is) ∷ []) of-flag
       (λ c. known-balanced) (λ c h. h) (so 𝓤 (balanced-asked head ws su se dr asked tally size)) refl (λ c. vars ! (refl, (refl, (refl, (refl, (refl, tt)))))) (λ _. refl) (λ balanced last₃ told-balanced kept₃ _.
       -- verdict(next, zero, balanced)
       calls-for ! 𝓣 [] (flag W next ∷ flag W zero ∷ flag W balanced ∷ []) (of-number w64)

@@ -30,7 +30,7 @@ returns-4 c = simp (sym (c .before .has-room .ensures) ∙ not-true _ (c .if4 .t
 
 comes-before-requires : tie.Need-comes-before-requires
 comes-before-requires c κs =
-    room-some _ _ _ (ltb-true _ _ (sym (c .before .has-room .ensures) ∙ not-false _ (c .if4 .left)))
+    room-some (c .before .before .before .before .before .before .before .before .before .before .args .head) _ _ (ltb-true _ _ (sym (c .before .has-room .ensures) ∙ not-false _ (c .if4 .left)))
 
 returns-5 : tie.Need-returns-5
 returns-5 c =
