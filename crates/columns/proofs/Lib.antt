@@ -1,3 +1,5 @@
+pub mod ClientsChanged
+pub mod ClientsLayout
 pub mod Counting
 pub mod Drawing
 pub mod Fields

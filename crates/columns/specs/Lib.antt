@@ -1,3 +1,4 @@
 pub mod Charted
+pub mod Clients
 pub mod Columns
 pub mod Counted

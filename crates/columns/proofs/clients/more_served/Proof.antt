@@ -1,0 +1,20 @@
+-- `columns::clients::more_served` meets its contract. Assumes nothing.
+use Prim.Native.Nat.{ℕ, suc}
+use borrow.Author.Needs.{needs}
+use lib.Dec.{ltb}
+use Rattle.columns.specs.Columns.{largest32}
+use Rattle.columns.specs.Clients.{recordOf}
+use Rattle.columns.proofs.ClientsChanged.{cond-record}
+use Rattle.columns.proofs.clients.more_served.Statement.{statement}
+use Rattle.columns.proofs.clients.more_served.Tie as tie
+
+saturating-next-requires : tie.Need-saturating-next-requires
+saturating-next-requires c κs = search needs
+
+returns : tie.Need-returns
+returns c =
+    let k = c .before .args .k in
+    rw (c .saturating-next .ensures) (cond-record (λ (n : ℕ). recordOf (k .submitted) n (k .dropped)) (ltb (k .served) largest32) (suc (k .served)) (k .served))
+
+pub more-served-spec : {M : Type 1} → statement M
+more-served-spec = tie.close (tie.spec saturating-next-requires returns)
