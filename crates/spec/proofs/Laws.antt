@@ -1,5 +1,6 @@
 -- Laws of the definitions, by which all theorems reason.
 pub mod Every
+pub mod Layout
 pub mod Order
 pub mod Room
 pub mod Feasible

@@ -11,7 +11,7 @@ use Rattle.spec.specs.declared.types.Counts.{Counts}
 use Rattle.spec.specs.declared.types.Answer.{Answer}
 use Rattle.spec.specs.declared.types.Answer.the-variants.{Opened, Kept, Dropped, Served, Idle, Reported, Charted, Refused}
 use Rattle.spec.specs.Every.{mapFrom}
-use Rattle.spec.specs.Tables.{zeroRequest, zeroCounts, openHead, State, waiting, nextState}
+use Rattle.spec.specs.Tables.{zeroRequest, zeroCounts, openHead, State, waiting, nextState, clientTable, numbersOf}
 use Rattle.spec.specs.Order.{placeOf, putInOrder, removeAt}
 use Rattle.spec.specs.Chart.{startsOf, hasNoOverfull}
 use Rattle.spec.specs.Victim.{victimOf}
@@ -53,7 +53,7 @@ openAccepted setup s =
           record {
             head = openHead setup;
             waitingTable = replicate (length (s .waitingTable)) zeroRequest;
-            clientTable = replicate (length (s .clientTable)) zeroCounts;
+            clientNumbers = numbersOf (replicate (length (clientTable s)) zeroCounts);
           };
     }
 
@@ -67,7 +67,7 @@ newRequest client deadline s = record { deadline = deadline; number = suc (s .he
 
 -- ".. adds 1 to submitted": the client table with the new request counted
 abbrev pub countedIn : ℕ → State → List Counts
-countedIn client s = change oneMoreSubmitted client (s .clientTable)
+countedIn client s = change oneMoreSubmitted client (clientTable s)
 
 -- ".. and puts the record in chart order.": the waiting requests with the new one
 abbrev pub withNew : ℕ → ℕ → State → List Request
@@ -131,11 +131,11 @@ oneLater ws cs s =
 -- "Tick serves the first waiting record in the slot that starts at the clock, takes it out, and adds 1 to that client's served;
 -- with none waiting it answers idle."
 unfoldable pub tickAccepted : List Request → State → Outcome
-tickAccepted [] s = record { answer = Idle (s .head .clock); after = oneLater [] (s .clientTable) s }
+tickAccepted [] s = record { answer = Idle (s .head .clock); after = oneLater [] (clientTable s) s }
 tickAccepted (w ∷ ws) s =
     record {
       answer = Served (s .head .clock) (w .number) (w .client);
-      after = oneLater ws (change oneMoreServed (w .client) (s .clientTable)) s;
+      after = oneLater ws (change oneMoreServed (w .client) (clientTable s)) s;
     }
 
 unfoldable pub tickOf : State → Outcome
@@ -149,7 +149,7 @@ reportAnswer client k waits = Reported client (k .submitted) (k .served) (k .dro
 unfoldable pub reportAccepted : ℕ → State → Outcome
 reportAccepted client s =
     record {
-      answer = reportAnswer client (getD (s .clientTable) client zeroCounts) (waitingOf client (waiting s));
+      answer = reportAnswer client (getD (clientTable s) client zeroCounts) (waitingOf client (waiting s));
       after = s;
     }
 

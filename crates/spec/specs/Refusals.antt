@@ -1,13 +1,13 @@
 -- The refusals from 4 on, and each call's list of refusals: document 01, "Refusals, first match wins". Those of a setup, 2 and 3, stand
 -- in `Setup`. Assumes nothing.
-use Prim.Native.Nat.{ℕ}
+use Prim.Native.Nat.{ℕ, _*_}
 use mathlib.Core.Bool.{Bool, not, _||_}
 use mathlib.Core.List.{List, [], _∷_, _++_}
 use lib.Dec.{ltb, eqb}
 use lib.ListN.{length, getD}
 use Rattle.spec.specs.declared.types.Setup.{Setup}
 use Rattle.spec.specs.Every.{isWithin}
-use Rattle.spec.specs.Tables.{mostRecords, mostCounted, clockEnd, numberEnd, zeroCounts, State}
+use Rattle.spec.specs.Tables.{mostRecords, mostCounted, clockEnd, numberEnd, zeroCounts, State, clientTable, width}
 use Rattle.spec.specs.Setup.{Refusal, setupRefusals}
 use Rattle.spec.specs.Sound.{isAhead, isClient, isSound}
 
@@ -15,7 +15,7 @@ use Rattle.spec.specs.Sound.{isAhead, isClient, isSound}
 -- clients (in open, the number given)."
 abbrev pub isMisshapen : ℕ → State → Bool
 isMisshapen clients s =
-    not (isWithin 1 mostRecords (length (s .waitingTable))) || not (eqb (length (s .clientTable)) clients)
+    not (isWithin 1 mostRecords (length (s .waitingTable))) || not (eqb (length (s .clientNumbers)) (width * clients))
 
 abbrev pub refusal4Open : ℕ → State → Refusal
 refusal4Open clients s = record { number = 4; holds = isMisshapen clients s }
@@ -39,7 +39,7 @@ refusal7 deadline s = record { number = 7; holds = not (isAhead (s .head .clock)
 
 -- "8. Submit: the client's submitted is 268,435,455."
 abbrev pub refusal8 : ℕ → State → Refusal
-refusal8 client s = record { number = 8; holds = eqb (getD (s .clientTable) client zeroCounts .submitted) mostCounted }
+refusal8 client s = record { number = 8; holds = eqb (getD (clientTable s) client zeroCounts .submitted) mostCounted }
 
 -- "9. Submit: the last request number has been given."
 abbrev pub refusal9 : State → Refusal

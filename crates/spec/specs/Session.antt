@@ -8,7 +8,7 @@ use Rattle.spec.specs.declared.types.Answer.{Answer}
 use Rattle.spec.specs.declared.types.Answer.the-variants.{Refused}
 use Rattle.spec.specs.declared.types.Frame.{Frame}
 use Rattle.spec.specs.declared.types.Frame.the-variants.{Open, Submit, Tick, Report, Chart, Bad}
-use Rattle.spec.specs.Tables.{mostRecords, zeroSetup, zeroRequest, zeroCounts, openHead, State}
+use Rattle.spec.specs.Tables.{mostRecords, zeroSetup, zeroRequest, zeroCounts, openHead, State, numbersOf}
 use Rattle.spec.specs.Chart.{Segment, segmentsOf}
 use Rattle.spec.specs.Calls.{Outcome, openOf, submitOf, tickOf, reportOf, chartOf, chartOutput}
 use Rattle.spec.specs.Lists.{isRefused}
@@ -39,7 +39,7 @@ atStart =
     record {
       head = openHead zeroSetup;
       waitingTable = [];
-      clientTable = [];
+      clientNumbers = [];
     }
 
 -- "lends the first part that open names, and of 256 client records as many as open names clients; an open naming more waiting
@@ -49,7 +49,7 @@ lent clients records s =
     record {
       head = s .head;
       waitingTable = replicate records zeroRequest;
-      clientTable = replicate clients zeroCounts;
+      clientNumbers = numbersOf (replicate clients zeroCounts);
     }
 
 -- the bytes that a line is answered, and the state after it

@@ -7,7 +7,7 @@ use Rattle.spec.specs.declared.types.Head.{Head}
 use Rattle.spec.specs.declared.types.Request.{Request}
 use Rattle.spec.specs.declared.types.Counts.{Counts}
 use Rattle.spec.specs.Every.{isWithin, every, everyFrom, countIf}
-use Rattle.spec.specs.Tables.{clockEnd, numberEnd, mostAhead, mostCounted, State, waiting, behind}
+use Rattle.spec.specs.Tables.{clockEnd, numberEnd, mostAhead, mostCounted, State, waiting, behind, clientTable}
 use Rattle.spec.specs.Setup.{isSetupWithin}
 use Rattle.spec.specs.Order.{isInOrder}
 use Rattle.spec.specs.Chart.{hasNoOverfull}
@@ -54,4 +54,4 @@ isSound s =
     && every (λ w. isClient (s .head .setup .clients) (w .client)) (waiting s)
     && hasNoOverfull (s .head) (waiting s)
     && every isZeroRequest (behind s)
-    && everyFrom (isBalanced (waiting s)) 0 (s .clientTable)
+    && everyFrom (isBalanced (waiting s)) 0 (clientTable s)

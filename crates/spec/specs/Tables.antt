@@ -1,7 +1,7 @@
 -- Bounds, records and the whole state of the queue: document 01, "Tables and bounds". Each bound stands here once, under a name.
 -- Assumes nothing.
 use Prim.Native.Nat.{ℕ, _-_}
-use mathlib.Core.List.{List, _++_, map}
+use mathlib.Core.List.{List, [], _∷_, _++_, map}
 use lib.ListN.{length, take, drop, replicate}
 use Rattle.spec.specs.declared.types.Setup.{Setup}
 use Rattle.spec.specs.declared.types.Head.{Head}
@@ -49,11 +49,39 @@ zeroCounts = record { submitted = 0; served = 0; dropped = 0 }
 abbrev pub openHead : Setup → Head
 openHead setup = record { setup = setup; clock = 0; last = 0; waiting = 0 }
 
--- The head and the two lent tables, whatever they hold.
+-- ---- the client table as numbers
+-- "The client table has one record a client: submitted, served, dropped": how many numbers a record is
+abbrev pub width : ℕ
+width = 3
+
+-- the record that three numbers are, and the numbers of a record ahead of others
+abbrev pub recordOf : ℕ → ℕ → ℕ → Counts
+recordOf submitted served dropped = record { submitted = submitted; served = served; dropped = dropped }
+
+abbrev pub recordThen : Counts → List ℕ → List ℕ
+recordThen k xs = k .submitted ∷ k .served ∷ k .dropped ∷ xs
+
+-- the whole records that numbers hold, and the numbers of records
+unfoldable pub recordsOf : List ℕ → List Counts
+recordsOf [] = []
+recordsOf (a ∷ []) = []
+recordsOf (a ∷ b ∷ []) = []
+recordsOf (a ∷ b ∷ c ∷ xs) = recordOf a b c ∷ recordsOf xs
+
+unfoldable pub numbersOf : List Counts → List ℕ
+numbersOf [] = []
+numbersOf (k ∷ cs) = recordThen k (numbersOf cs)
+
+-- ---- the state
+-- The head and the two lent tables, whatever they hold. The client table is lent as its numbers, one record after the other
 pub record State : Type 0 where
   pub head : Head
   pub waitingTable : List Request
-  pub clientTable : List Counts
+  pub clientNumbers : List ℕ
+
+-- the client table
+abbrev pub clientTable : State → List Counts
+clientTable s = recordsOf (s .clientNumbers)
 
 -- the waiting requests, and the records behind them
 abbrev pub waiting : State → List Request
@@ -85,5 +113,5 @@ nextState clock last ws cs s =
             waiting = length ws;
           };
       waitingTable = holding (length (s .waitingTable)) ws;
-      clientTable = cs;
+      clientNumbers = numbersOf cs;
     }

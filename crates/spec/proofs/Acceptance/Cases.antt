@@ -7,7 +7,7 @@ use lib.ListN.{replicate}
 use Rattle.spec.specs.declared.types.Counts.{Counts}
 use Rattle.spec.specs.declared.types.Answer.{Answer}
 use Rattle.spec.specs.declared.types.Answer.the-variants.{Kept, Dropped, Served, Idle, Refused}
-use Rattle.spec.specs.Tables.{clockEnd, mostPeriod, State, waiting, holding, zeroRequest, zeroCounts, openHead}
+use Rattle.spec.specs.Tables.{clockEnd, mostPeriod, State, waiting, holding, zeroRequest, zeroCounts, openHead, clientTable, numbersOf}
 use Rattle.spec.specs.Chart.{Segment, startsOf, segmentsOf}
 use Rattle.spec.specs.Calls.{openOf, tickOf}
 use Rattle.spec.specs.Lists.{Call, submit, tick, outcomeOf, run, history, Event}
@@ -25,7 +25,7 @@ fresh clients records =
     openOf (setting clients 100) (record {
       head = openHead (setting 0 0);
       waitingTable = replicate records zeroRequest;
-      clientTable = replicate clients zeroCounts;
+      clientNumbers = numbersOf (replicate clients zeroCounts);
     }) .after
 
 abbrev counts : ℕ → ℕ → ℕ → Counts
@@ -37,7 +37,7 @@ rivals client number a b =
     record {
       head = record { setup = setting 2 100; clock = 0; last = number; waiting = 1 };
       waitingTable = holding 4 (record { deadline = 1; number = number; client = client } ∷ []);
-      clientTable = a ∷ b ∷ [];
+      clientNumbers = numbersOf (a ∷ b ∷ []);
     }
 
 abbrev segment : ℕ → ℕ → Segment
@@ -108,7 +108,7 @@ ticking period clock =
           (record { deadline = clock + 5; number = 5; client = 0 }
           ∷ record { deadline = clock + 6; number = 6; client = 0 }
           ∷ []);
-      clientTable = counts 6 2 2 ∷ [];
+      clientNumbers = numbersOf (counts 6 2 2 ∷ []);
     }
 
 -- "If it is now a multiple of the period, each client's submitted becomes its waiting count, served and dropped become 0."
@@ -135,7 +135,7 @@ periodTicks =
     ∷ []
 
 abbrev countsGiven : PeriodTick → List Counts
-countsGiven t = tickOf (ticking (t .period) (t .clock - 1)) .after .clientTable
+countsGiven t = clientTable (tickOf (ticking (t .period) (t .clock - 1)) .after)
 
 pub period-ticks : map countsGiven periodTicks ≡ map (λ (t : PeriodTick). t .counts ∷ []) periodTicks
 unfolding calls

@@ -2,7 +2,7 @@
 use Prim.Native.Nat.{ℕ}
 use Rattle.spec.specs.declared.types.Setup.{Setup}
 use Rattle.spec.specs.Every.{every, everyFrom, countIf, mapFrom}
-use Rattle.spec.specs.Tables.{nextState}
+use Rattle.spec.specs.Tables.{recordsOf, numbersOf, nextState}
 use Rattle.spec.specs.Order.{comesBefore, isInOrder, placeOf, putInOrder, removeAt}
 use Rattle.spec.specs.Chart.{room, startsOf, segmentsOf, dueBy, isOverfull, hasNoOverfull}
 use Rattle.spec.specs.Victim.{isCandidate, candidatesFrom, hasSmallerRatio, smallestOf, victimOf}
@@ -25,11 +25,11 @@ unfolding charts comesBefore placeOf putInOrder removeAt isCandidate candidatesF
 victims = tt
 
 unfoldable pub refusals : Unit {0}
-unfolding charts everyFrom comesBefore isInOrder isHeadWithin isZeroRequest waitingOf isBalanced isSound firstMatch setupRefusals tickRefusals
+unfolding charts recordsOf everyFrom comesBefore isInOrder isHeadWithin isZeroRequest waitingOf isBalanced isSound firstMatch setupRefusals tickRefusals
 refusals = tt
 
 unfoldable pub submits : Unit {0}
-unfolding victims refusals submitRefusals change nextState kept droppedAt submitAccepted submitOf
+unfolding victims refusals submitRefusals change numbersOf nextState kept droppedAt submitAccepted submitOf
 submits = tt
 
 unfoldable pub calls : Unit {0}

@@ -1,7 +1,7 @@
 -- Damaged tables as one table that is checked by one theorem: each clause of refusal 4 and of "Tables are sound when" broken at its
 -- bound, beside tables just within it. Each row lists the clauses that its state breaks: one alone, but for a deadline that is not
 -- after the clock. The bounds of the waiting table's length and of the head stand behind it, as numbers. Assumes nothing.
-use Prim.Native.Nat.{ℕ}
+use Prim.Native.Nat.{ℕ, _*_}
 use mathlib.Core.Path.{_≡_, refl}
 use mathlib.Core.Bool.{Bool, true, false, not, cond, _&&_, _||_, and-assoc, and-true}
 use mathlib.Core.List.{List, [], _∷_, _++_, map}
@@ -11,7 +11,7 @@ use Rattle.spec.specs.declared.types.Head.{Head}
 use Rattle.spec.specs.declared.types.Request.{Request}
 use Rattle.spec.specs.declared.types.Counts.{Counts}
 use Rattle.spec.specs.Every.{isWithin, every, everyFrom}
-use Rattle.spec.specs.Tables.{mostRecords, clockEnd, zeroRequest, zeroCounts, State, waiting, behind, holding}
+use Rattle.spec.specs.Tables.{mostRecords, clockEnd, zeroRequest, zeroCounts, State, waiting, behind, holding, clientTable, numbersOf, width}
 use Rattle.spec.specs.Order.{isInOrder}
 use Rattle.spec.specs.Chart.{hasNoOverfull}
 use Rattle.spec.specs.Sound.{isHeadWithin, isAhead, isGiven, isClient, isZeroRequest, isBalanced, isSound}
@@ -45,7 +45,7 @@ tested clause holds = record { clause = clause; holds = holds }
 abbrev shapeTests : State → List ClauseTest
 shapeTests s =
     tested waiting-length (isWithin 1 mostRecords (length (s .waitingTable)))
-    ∷ tested client-length (eqb (length (s .clientTable)) (s .head .setup .clients))
+    ∷ tested client-length (eqb (length (s .clientNumbers)) (width * s .head .setup .clients))
     ∷ tested waiting-count (not (ltb (length (s .waitingTable)) (s .head .waiting)))
     ∷ []
 
@@ -58,7 +58,7 @@ soundTests s =
     ∷ tested client-exists (every (λ w. isClient (s .head .setup .clients) (w .client)) (waiting s))
     ∷ tested no-overfull (hasNoOverfull (s .head) (waiting s))
     ∷ tested zero-behind (every isZeroRequest (behind s))
-    ∷ tested balance (everyFrom (isBalanced (waiting s)) 0 (s .clientTable))
+    ∷ tested balance (everyFrom (isBalanced (waiting s)) 0 (clientTable s))
     ∷ []
 
 abbrev areMet : List ClauseTest → Bool
@@ -68,7 +68,7 @@ areMet ts = every (λ t. t .holds) ts
 pub shape-clauses : (s : State) → refusal4 s .holds ≡ not (areMet (shapeTests s))
 unfolding every
 shape-clauses s =
-    go (isWithin 1 mostRecords (length (s .waitingTable))) (eqb (length (s .clientTable)) (s .head .setup .clients))
+    go (isWithin 1 mostRecords (length (s .waitingTable))) (eqb (length (s .clientNumbers)) (width * s .head .setup .clients))
     (ltb (length (s .waitingTable)) (s .head .waiting))
   where
     go : (a b c : Bool) → (not a || not b || c) ≡ not (a && (b && (not c && true)))
@@ -124,7 +124,7 @@ head clients period clock last waits =
     record { setup = setting clients period; clock = clock; last = last; waiting = waits }
 
 abbrev breaks : Head → List Request → List Counts → List Clause → Damage
-breaks h rs cs clauses = record { state = record { head = h; waitingTable = rs; clientTable = cs }; clauses = clauses }
+breaks h rs cs clauses = record { state = record { head = h; waitingTable = rs; clientNumbers = numbersOf cs }; clauses = clauses }
 
 -- a sound state: at clock 5 a request of each of two clients waits in a table of four records
 abbrev two : Head
@@ -139,6 +139,14 @@ second = request 9 4 1
 abbrev both : List Counts
 both = counts 3 1 1 ∷ counts 1 0 0 ∷ []
 
+-- .. with these numbers lent for its client table
+abbrev lending : List ℕ → List Clause → Damage
+lending xs clauses =
+    record {
+      state = record { head = two; waitingTable = holding 4 (first ∷ second ∷ []); clientNumbers = xs };
+      clauses = clauses;
+    }
+
 abbrev damages : List Damage
 damages =
     breaks two (holding 4 (first ∷ second ∷ [])) both []
@@ -147,6 +155,11 @@ damages =
     -- "the client table's length differs from the number of clients"
     ∷ breaks two (holding 4 (first ∷ second ∷ [])) (counts 3 1 1 ∷ []) (client-length ∷ [])
     ∷ breaks two (holding 4 (first ∷ second ∷ [])) (counts 3 1 1 ∷ counts 1 0 0 ∷ zeroCounts ∷ []) (client-length ∷ [])
+    -- .. nor is it a table where it has one number less, one more or two more than its records
+    ∷ lending (3 ∷ 1 ∷ 1 ∷ 1 ∷ 0 ∷ 0 ∷ []) []
+    ∷ lending (3 ∷ 1 ∷ 1 ∷ 1 ∷ 0 ∷ []) (client-length ∷ [])
+    ∷ lending (3 ∷ 1 ∷ 1 ∷ 1 ∷ 0 ∷ 0 ∷ 0 ∷ []) (client-length ∷ [])
+    ∷ lending (3 ∷ 1 ∷ 1 ∷ 1 ∷ 0 ∷ 0 ∷ 0 ∷ 0 ∷ []) (client-length ∷ [])
     -- "the waiting count exceeds the waiting table's length"
     ∷ breaks (head 2 10 5 4 2) (first ∷ second ∷ []) both []
     ∷ breaks (head 2 10 5 4 3) (first ∷ second ∷ []) both (waiting-count ∷ [])
@@ -184,7 +197,7 @@ damages =
 
 pub damaged-tables : map (λ (d : Damage). broken (shapeTests (d .state) ++ soundTests (d .state))) damages
     ≡ map (λ (d : Damage). d .clauses) damages
-unfolding refusals
+unfolding refusals numbersOf
 damaged-tables = refl
 
 -- ---- numbers at their bounds and beyond

@@ -9,7 +9,7 @@ use Rattle.slots.specs.Plan.{Slot, none, at}
 use Rattle.spec.specs.declared.types.Counts.{Counts}
 use Rattle.spec.specs.declared.types.Answer.the-variants.{Refused}
 use Rattle.spec.specs.Every.{exists, select}
-use Rattle.spec.specs.Tables.{zeroRequest, zeroCounts, openHead, State}
+use Rattle.spec.specs.Tables.{zeroRequest, zeroCounts, openHead, State, numbersOf}
 use Rattle.spec.specs.Calls.{openOf}
 use Rattle.spec.specs.Lists.{Call, opening, submit, tick, report, chart, outcomeOf, run, Event, history, isOpened, ticks}
 use Rattle.spec.specs.Lists.{Asked, asked, bookings, victims, servedRequests, waitingRequests, slotFor, chartBookings}
@@ -22,7 +22,7 @@ start =
     openOf (setting 2 2) (record {
       head = openHead (setting 0 0);
       waitingTable = replicate 8 zeroRequest;
-      clientTable = replicate 2 zeroCounts;
+      clientNumbers = numbersOf (replicate 2 zeroCounts);
     }) .after
 
 -- the last call first: a refused open, submits of which the third drops itself, ticks, refused calls between them
@@ -55,8 +55,8 @@ pub record Reading : Type 0 where
   -- what the calls since the last period start say of each client
   pub counts : List Counts
 
-abbrev numbersOf : List Asked → List ℕ
-numbersOf rs = map (λ (a : Asked). a .request .number) rs
+abbrev numbersIn : List Asked → List ℕ
+numbersIn rs = map (λ (a : Asked). a .request .number) rs
 
 -- of a list whose calls left this state, for clients 0 and 1 and a period of two slots
 abbrev readOff : List Event → State → Reading
@@ -64,10 +64,10 @@ readOff es s =
     record {
       opened = exists isOpened es;
       clock = ticks es;
-      numbers = numbersOf (asked es);
+      numbers = numbersIn (asked es);
       releases = map (λ (a : Asked). a .release) (asked es);
-      served = numbersOf (servedRequests es);
-      waits = numbersOf (waitingRequests es);
+      served = numbersIn (servedRequests es);
+      waits = numbersIn (waitingRequests es);
       plan = ownPlan es s;
       counts = countsSince 2 0 es ∷ countsSince 2 1 es ∷ [];
     }
@@ -107,7 +107,7 @@ late =
     record {
       head = record { setup = setting 2 2; clock = 281474976710653; last = 0; waiting = 0 };
       waitingTable = replicate 8 zeroRequest;
-      clientTable = replicate 2 zeroCounts;
+      clientNumbers = numbersOf (replicate 2 zeroCounts);
     }
 
 -- the first tick serves, the second idles and begins a period, and the last is refused by 11; request 3 drops itself before it

@@ -10,7 +10,7 @@ use Rattle.spec.specs.declared.types.Counts.{Counts}
 use Rattle.spec.specs.declared.types.Answer.{Answer}
 use Rattle.spec.specs.declared.types.Answer.the-variants.{Opened, Kept, Served, Reported, Charted, Refused}
 use Rattle.spec.specs.Every.{select}
-use Rattle.spec.specs.Tables.{mostCounted, clockEnd, numberEnd, State, holding}
+use Rattle.spec.specs.Tables.{mostCounted, clockEnd, numberEnd, State, holding, numbersOf}
 use Rattle.spec.specs.Setup.{Refusal}
 use Rattle.spec.specs.Lists.{Call, opening, submit, tick, report, chart, outcomeOf}
 use Rattle.spec.proofs.Demands.Words.{refusalsOf}
@@ -39,7 +39,7 @@ state clock last waits rs cs =
     record {
       head = record { setup = setting 1 10; clock = clock; last = last; waiting = waits };
       waitingTable = rs;
-      clientTable = cs;
+      clientNumbers = numbersOf cs;
     }
 
 -- a client table of one record

@@ -1,6 +1,6 @@
 -- Accepted calls leave sound tables: document 01, "Tables and bounds". Assumes nothing.
-use Prim.Native.Nat.{ℕ, suc, _+_, _≤_, _<_}
-use mathlib.Core.Path.{_≡_, refl, _∙_}
+use Prim.Native.Nat.{ℕ, suc, _+_, _≤_, _<_, _*_}
+use mathlib.Core.Path.{_≡_, refl, _∙_, ap}
 use mathlib.Core.Logic.{_≢_}
 use mathlib.Core.Bool.{Bool, true, false, cond}
 use mathlib.Core.List.{List, [], _∷_}
@@ -14,7 +14,7 @@ use Rattle.spec.specs.declared.types.Head.{Head}
 use Rattle.spec.specs.declared.types.Request.{Request}
 use Rattle.spec.specs.declared.types.Counts.{Counts}
 use Rattle.spec.specs.Every.{mapFrom}
-use Rattle.spec.specs.Tables.{mostRecords, mostCounted, clockEnd, numberEnd, zeroRequest, zeroCounts, State, waiting}
+use Rattle.spec.specs.Tables.{mostRecords, mostCounted, clockEnd, numberEnd, zeroRequest, zeroCounts, State, waiting, clientTable, width}
 use Rattle.spec.specs.Tables.{nextState}
 use Rattle.spec.specs.Order.{putInOrder, removeAt}
 use Rattle.spec.specs.Chart.{dueBy, hasNoOverfull}
@@ -37,6 +37,7 @@ use Rattle.spec.proofs.Laws.Sound.{within-test, Shaped, Ahead, Given, O
 use Rattle.spec.proofs.Laws.Accepted.{Decided, accepts, refuses, Ready, OpenReady, open-ready, SubmitReady, submit-ready}
 use Rattle.spec.proofs.Laws.Accepted.{TickReady, tick-ready, report-ready, chart-ready, waiting-length, next-waiting}
 use Rattle.spec.proofs.Laws.Accepted.{next-behind, next-length}
+use Rattle.spec.proofs.Laws.Layout.{length-numbers, records-numbers}
 use Rattle.spec.proofs.Calls.Victim.{victim-place}
 use Rattle.spec.proofs.Calls.Refused.{outcome-decided, acceptedOf, accepted-none, accepted-same}
 
@@ -49,7 +50,7 @@ pub record Tidy (clock last clients : ℕ) (ws : List Request) (cs : List Counts
   pub counted : length cs ≡ clients
   pub balanced : (c : ℕ) → c < length cs → Balanced ws c (getD cs c zeroCounts)
 
-pub tidy : (s : State) → Ready s → Tidy (s .head .clock) (s .head .last) (s .head .setup .clients) (waiting s) (s .clientTable)
+pub tidy : (s : State) → Ready s → Tidy (s .head .clock) (s .head .last) (s .head .setup .clients) (waiting s) (clientTable s)
 tidy s r =
     record {
       ordered = r .sound .ordered;
@@ -71,7 +72,8 @@ next-ready clock last ws cs s r c l n t f =
           record {
             some-records = omega (arith, next-length clock last ws cs s n, r .shape .some-records);
             most-records = omega (arith, next-length clock last ws cs s n, r .shape .most-records);
-            clients = t .counted;
+            numbers = length-numbers cs ∙ ap (λ (n : ℕ). width * n) (t .counted);
+            clients = ap length (records-numbers cs) ∙ t .counted;
             waits = omega (arith, next-length clock last ws cs s n);
           };
       sound =
@@ -88,7 +90,7 @@ next-ready clock last ws cs s r c l n t f =
             owned = rw (next-waiting clock last ws cs s) (t .owned);
             feasible = rw (next-waiting clock last ws cs s) (λ D. omega (arith, f D, room-next clock last ws cs s clock D));
             zeros = rw (next-behind clock last ws cs s, length-replicate);
-            balanced = rw (next-waiting clock last ws cs s) (t .balanced);
+            balanced = rw (next-waiting clock last ws cs s, records-numbers cs) (t .balanced);
           };
     }
 
@@ -101,7 +103,8 @@ open-keeps setup s r =
           record {
             some-records = omega (arith, length-replicate (length (s .waitingTable)) zeroRequest, r .lengths .some-records);
             most-records = omega (arith, length-replicate (length (s .waitingTable)) zeroRequest, r .lengths .most-records);
-            clients = length-replicate (length (s .clientTable)) zeroCounts ∙ r .lengths .clients-length;
+            numbers = length-numbers none ∙ ap (λ (n : ℕ). width * n) (same-many ∙ r .lengths .clients-length);
+            clients = ap length (records-numbers none) ∙ same-many ∙ r .lengths .clients-length;
             waits = omega arith;
           };
       sound =
@@ -118,15 +121,21 @@ open-keeps setup s r =
             owned = tt;
             feasible = λ D. omega (arith, dueBy-none D [] tt);
             zeros = rw length-replicate;
-            balanced = balanced;
+            balanced = rw (records-numbers none) balanced;
           };
     }
   where
-    balanced : (c : ℕ) → c < length (replicate (length (s .clientTable)) zeroCounts)
-        → Balanced [] c (getD (replicate (length (s .clientTable)) zeroCounts) c zeroCounts)
+    none : List Counts
+    none = replicate (length (clientTable s)) zeroCounts
+
+    same-many : length none ≡ length (clientTable s)
+    same-many = length-replicate (length (clientTable s)) zeroCounts
+
+    balanced : (c : ℕ) → c < length (replicate (length (clientTable s)) zeroCounts)
+        → Balanced [] c (getD (replicate (length (clientTable s)) zeroCounts) c zeroCounts)
     balanced c h =
-        let n : c < length (s .clientTable) = omega (arith, length-replicate (length (s .clientTable)) zeroCounts) in
-        rw (getD-replicate (length (s .clientTable)) c zeroCounts zeroCounts n) (omega (arith, waitingOf-none c), omega arith)
+        let n : c < length (clientTable s) = omega (arith, length-replicate (length (clientTable s)) zeroCounts) in
+        rw (getD-replicate (length (clientTable s)) c zeroCounts zeroCounts n) (omega (arith, waitingOf-none c), omega arith)
 
 -- ---- submit
 -- a client's counts stay balanced where the new request is counted and put in
@@ -155,16 +164,16 @@ tidy-put client deadline s r =
       owned = all-put (Owned (s .head .setup .clients)) new (waiting s) (r .exists) (t .owned);
       counted = same-length ∙ t .counted;
       balanced =
-          λ c h. let l : c < length (s .clientTable) = omega (arith, same-length) in
-          balanced-put new (waiting s) (s .clientTable) (r .countable) c
-          (changed oneMoreSubmitted client (s .clientTable) c l) (t .balanced c l);
+          λ c h. let l : c < length (clientTable s) = omega (arith, same-length) in
+          balanced-put new (waiting s) (clientTable s) (r .countable) c
+          (changed oneMoreSubmitted client (clientTable s) c l) (t .balanced c l);
     }
   where
     new : Request
     new = newRequest client deadline s
 
-    same-length : length (countedIn client s) ≡ length (s .clientTable)
-    same-length = length-change oneMoreSubmitted client (s .clientTable)
+    same-length : length (countedIn client s) ≡ length (clientTable s)
+    same-length = length-change oneMoreSubmitted client (clientTable s)
 
 -- a change of counts that adds 1 to served or dropped
 pub record Ends (f : Counts → Counts) : Type 0 where
@@ -333,12 +342,12 @@ tick-keeps s r =
     (r .ready .sound .feasible)
   where
     go : (ws : List Request) → length ws ≤ length (s .waitingTable)
-        → Tidy (s .head .clock) (s .head .last) (s .head .setup .clients) ws (s .clientTable) → Feasible (s .head) ws
+        → Tidy (s .head .clock) (s .head .last) (s .head .setup .clients) ws (clientTable s) → Feasible (s .head) ws
         → Ready (tickAccepted ws s .after)
-    go [] n t f = later-ready [] (s .clientTable) s r n t (λ D. omega (arith, dueBy-none D [] tt))
+    go [] n t f = later-ready [] (clientTable s) s r n t (λ D. omega (arith, dueBy-none D [] tt))
     go (w ∷ ws) n t f =
-        later-ready ws (change oneMoreServed (w .client) (s .clientTable)) s r (omega arith)
-        (tidy-remove oneMoreServed served-ends 0 (s .head .clock) (s .head .last) (s .head .setup .clients) (w ∷ ws) (s .clientTable)
+        later-ready ws (change oneMoreServed (w .client) (clientTable s)) s r (omega arith)
+        (tidy-remove oneMoreServed served-ends 0 (s .head .clock) (s .head .last) (s .head .setup .clients) (w ∷ ws) (clientTable s)
         (omega arith) t)
         (feasible-later (s .head) w ws (t .ordered) f)
 
@@ -356,18 +365,20 @@ pub shaped-test : (s : State) → Shaped s → refusal4 s .holds ≡ false
 shaped-test s f =
     rw (
       within-test 1 mostRecords (length (s .waitingTable)) (f .some-records) (f .most-records),
-      eq-eqb (length (s .clientTable)) (s .head .setup .clients) (f .clients),
+      eq-eqb (length (s .clientNumbers)) (width * s .head .setup .clients) (f .numbers),
       le-ltb (length (s .waitingTable)) (s .head .waiting) (f .waits),
     )
 
 -- ---- tables keep their lengths
 abbrev pub SameLengths : State → State → Type 0
-SameLengths s t = (length (t .waitingTable) ≡ length (s .waitingTable)) × (length (t .clientTable) ≡ length (s .clientTable))
+SameLengths s t =
+    (length (t .waitingTable) ≡ length (s .waitingTable)) × (length (t .clientNumbers) ≡ length (s .clientNumbers))
 
-next-lengths : (clock last : ℕ) (ws : List Request) (cs : List Counts) (s : State) → length ws ≤ length (s .waitingTable)
-    → length cs ≡ length (s .clientTable) → SameLengths s (nextState clock last ws cs s)
+next-lengths : (clock last : ℕ) (ws : List Request) (cs : List Counts) (s : State) → Shaped s → length ws ≤ length (s .waitingTable)
+    → length cs ≡ length (clientTable s) → SameLengths s (nextState clock last ws cs s)
 unfolding nextState
-next-lengths clock last ws cs s h e = (next-length clock last ws cs s h, e)
+next-lengths clock last ws cs s f h e =
+    (next-length clock last ws cs s h, omega (arith, length-numbers cs, f .numbers, f .clients))
 
 submit-lengths : (client deadline : ℕ) (s : State) → SubmitReady client deadline s
     → SameLengths s (submitAccepted client deadline s .after)
@@ -377,17 +388,17 @@ submit-lengths client deadline s r = go (hasNoOverfull (s .head) (withNew client
     k : ℕ
     k = victimPlace client deadline s
 
-    counted : length (countedIn client s) ≡ length (s .clientTable)
-    counted = length-change oneMoreSubmitted client (s .clientTable)
+    counted : length (countedIn client s) ≡ length (clientTable s)
+    counted = length-change oneMoreSubmitted client (clientTable s)
 
     go : (x : Bool) → SameLengths s (cond x (kept client deadline s) (droppedAt k client deadline s) .after)
     go true =
         next-lengths (s .head .clock) (suc (s .head .last)) (withNew client deadline s) (countedIn client s) s
-        (record-left client deadline s r) counted
+        (r .ready .shape) (record-left client deadline s r) counted
     go false =
         next-lengths (s .head .clock) (suc (s .head .last)) (removeAt k (withNew client deadline s))
         (change oneMoreDropped (requestAt k client deadline s .client) (countedIn client s)) s
-        (omega (
+        (r .ready .shape) (omega (
           arith,
           record-left client deadline s r,
           length-remove k (withNew client deadline s) (victim-place client deadline s r .0),
@@ -410,16 +421,26 @@ tick-lengths s r = go (waiting s) (omega (arith, waiting-length s (r .shape), r 
 
     go : (ws : List Request) → length ws ≤ length (s .waitingTable) → SameLengths s (tickAccepted ws s .after)
     go [] h =
-        next-lengths (suc (s .head .clock)) (s .head .last) [] (after [] (s .clientTable)) s h (counted [] (s .clientTable))
+        next-lengths (suc (s .head .clock)) (s .head .last) [] (after [] (clientTable s)) s (r .shape) h (counted [] (clientTable s))
     go (w ∷ ws) h =
-        let cs = change oneMoreServed (w .client) (s .clientTable) in
-        next-lengths (suc (s .head .clock)) (s .head .last) ws (after ws cs) s (omega arith)
-        (counted ws cs ∙ length-change oneMoreServed (w .client) (s .clientTable))
+        let cs = change oneMoreServed (w .client) (clientTable s) in
+        next-lengths (suc (s .head .clock)) (s .head .last) ws (after ws cs) s (r .shape) (omega arith)
+        (counted ws cs ∙ length-change oneMoreServed (w .client) (clientTable s))
 
 accepted-lengths : (c : Call) (s : State) → firstMatch (refusalsOf c s) ≡ 0 → SameLengths s (acceptedOf c s .after)
 unfolding openAccepted reportAccepted chartAccepted
 accepted-lengths (opening setup) s e =
-    (length-replicate (length (s .waitingTable)) zeroRequest, length-replicate (length (s .clientTable)) zeroCounts)
+    let l = open-ready setup s e .lengths in
+    let none = replicate (length (clientTable s)) zeroCounts in (
+      length-replicate (length (s .waitingTable)) zeroRequest,
+      omega (
+        arith,
+        length-numbers none,
+        length-replicate (length (clientTable s)) zeroCounts,
+        l .numbers-length,
+        l .clients-length,
+      ),
+    )
 accepted-lengths (submit client deadline) s e = submit-lengths client deadline s (submit-ready client deadline s e)
 accepted-lengths tick s e = tick-lengths s (tick-ready s e .ready)
 accepted-lengths (report client) s e = (refl, refl)

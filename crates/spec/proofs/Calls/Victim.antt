@@ -16,7 +16,7 @@ use Rattle.spec.specs.declared.types.Head.{Head}
 use Rattle.spec.specs.declared.types.Request.{Request}
 use Rattle.spec.specs.declared.types.Counts.{Counts}
 use Rattle.spec.specs.Every.{toNumber}
-use Rattle.spec.specs.Tables.{State, waiting, zeroRequest, zeroCounts}
+use Rattle.spec.specs.Tables.{State, waiting, zeroRequest, zeroCounts, clientTable}
 use Rattle.spec.specs.Order.{placeOf}
 use Rattle.spec.specs.Sound.{waitingOf}
 use Rattle.spec.specs.Victim.{isCandidate, keepIf, candidatesFrom, candidates, hasSmallerRatio, countsAt, smallestOf}
@@ -260,7 +260,7 @@ counted-some client deadline s r j h =
     (each (waiting s) (r .ready .sound .owned) (waiting-self (waiting s))))
   where
     cs : List Counts
-    cs = s .clientTable
+    cs = clientTable s
 
     more : Counts
     more = oneMoreSubmitted (getD cs client zeroCounts)

@@ -16,7 +16,7 @@ use Rattle.slots.proofs.Laws.Sums.{All}
 use Rattle.spec.specs.declared.types.Setup.{Setup}
 use Rattle.spec.specs.declared.types.Answer.the-variants.{Charted, Refused}
 use Rattle.spec.specs.Every.{exists}
-use Rattle.spec.specs.Tables.{zeroCounts, State, waiting, deadlinesOf}
+use Rattle.spec.specs.Tables.{zeroCounts, State, waiting, deadlinesOf, clientTable}
 use Rattle.spec.specs.Chart.{Segment, capacityOf, startsOf, segmentsOf}
 use Rattle.spec.specs.Sound.{isSound}
 use Rattle.spec.specs.Setup.{firstMatch}
@@ -85,14 +85,14 @@ leaves-sound c s h =
 -- the tables are lent: every call, accepted or refused, hands them back as long as it got them
 pub keeps-lengths : (c : Call) (s : State)
     → (length (outcomeOf c s .after .waitingTable) ≡ length (s .waitingTable))
-    × (length (outcomeOf c s .after .clientTable) ≡ length (s .clientTable))
+    × (length (outcomeOf c s .after .clientNumbers) ≡ length (s .clientNumbers))
 keeps-lengths c s = same-lengths c s
 
 -- ---- counts
 -- To be shut out: "counts in a report that the calls since open do not give". What holds after a list of calls
 pub record CountsGiven (period : ℕ) (es : List Event) (s : State) : Type 0 where
   -- each client's counts are what the calls and answers since the last period start say
-  pub counts : (c : ℕ) → c < s .head .setup .clients → getD (s .clientTable) c zeroCounts ≡ countsSince period c es
+  pub counts : (c : ℕ) → c < s .head .setup .clients → getD (clientTable s) c zeroCounts ≡ countsSince period c es
   -- "Report gives a client's three counts and its waiting count."
   pub reports : (c : ℕ) → isRefused (reportOf c s .answer) ≡ false
       → reportOf c s .answer ≡ reportAnswer c (countsSince period c es) (waitingBy c es)

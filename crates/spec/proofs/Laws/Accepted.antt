@@ -1,5 +1,5 @@
 -- What it means that a call is accepted, as facts, and the states that accepted calls leave. Assumes nothing.
-use Prim.Native.Nat.{ℕ, suc, _+_, _-_, _≤_, _<_}
+use Prim.Native.Nat.{ℕ, suc, _+_, _-_, _≤_, _<_, _*_}
 use mathlib.Core.Path.{_≡_, refl, sym, ap, _∙_}
 use mathlib.Core.Logic.{_≢_}
 use mathlib.Core.Bool.{Bool, true, false, not, cond}
@@ -16,7 +16,7 @@ use Rattle.spec.specs.declared.types.Request.{Request}
 use Rattle.spec.specs.declared.types.Answer.the-variants.{Refused}
 use Rattle.spec.specs.Order.{removeAt}
 use Rattle.spec.specs.Every.{isWithin}
-use Rattle.spec.specs.Tables.{mostClients, mostRecords, mostCounted, clockEnd, numberEnd, mostPeriod, mostAhead}
+use Rattle.spec.specs.Tables.{mostClients, mostRecords, mostCounted, clockEnd, numberEnd, mostPeriod, mostAhead, clientTable, width}
 use Rattle.spec.specs.Tables.{zeroRequest, zeroCounts, State, waiting, behind, holding, nextState}
 use Rattle.spec.specs.Sound.{isClient, isSound}
 use Rattle.spec.specs.Setup.{Refusal, firstMatch}
@@ -26,6 +26,7 @@ use Rattle.spec.specs.Refusals.{submitRefusals, tickRefusals, reportRefu
 use Rattle.spec.specs.Calls.{kept, droppedAt, tickAccepted, withNew, countedIn, requestAt, change, oneMoreDropped}
 use Rattle.spec.specs.Calls.{oneMoreServed, countsAfter, Outcome, unlessRefused}
 use Rattle.spec.proofs.Laws.Every.{or-none}
+use Rattle.spec.proofs.Laws.Layout.{whole-records}
 use Rattle.spec.proofs.Laws.Sound.{within-refused, none-match, SetupWithin, setup-none, Shaped, Sound, sound-facts}
 
 -- ---- accepted, or refused with the first number that matches
@@ -45,16 +46,19 @@ decided rs s o = go (eqb (firstMatch rs) 0) (same (firstMatch rs) 0)
 pub record Lengths (clients : ℕ) (s : State) : Type 0 where
   pub some-records : 1 ≤ length (s .waitingTable)
   pub most-records : length (s .waitingTable) ≤ mostRecords
-  pub clients-length : length (s .clientTable) ≡ clients
+  pub numbers-length : length (s .clientNumbers) ≡ width * clients
+  pub clients-length : length (clientTable s) ≡ clients
 
 lengths : (clients : ℕ) (s : State) → isMisshapen clients s ≡ false → Lengths clients s
 lengths clients s e =
-    let p = or-none (not (isWithin 1 mostRecords (length (s .waitingTable)))) (not (eqb (length (s .clientTable)) clients)) e in
+    let p = or-none (not (isWithin 1 mostRecords (length (s .waitingTable)))) (not (eqb (length (s .clientNumbers)) (width * clients))) e in
     let w = within-refused 1 mostRecords (length (s .waitingTable)) (p .0) in
+    let n = eqb-true (length (s .clientNumbers)) (width * clients) (not-false (eqb (length (s .clientNumbers)) (width * clients)) (p .1)) in
     record {
       some-records = w .0;
       most-records = w .1;
-      clients-length = eqb-true (length (s .clientTable)) clients (not-false (eqb (length (s .clientTable)) clients) (p .1));
+      numbers-length = n;
+      clients-length = whole-records (s .clientNumbers) clients n;
     }
 
 shaped : (s : State) → refusal4 s .holds ≡ false → Shaped s
@@ -64,6 +68,7 @@ shaped s e =
     record {
       some-records = l .some-records;
       most-records = l .most-records;
+      numbers = l .numbers-length;
       clients = l .clients-length;
       waits = ltb-false (length (s .waitingTable)) (s .head .waiting) (p .1);
     }
@@ -96,7 +101,7 @@ pub record SubmitReady (client deadline : ℕ) (s : State) : Type 0 where
   pub exists : client < s .head .setup .clients
   pub late : suc (s .head .clock) ≤ deadline
   pub near : deadline ≤ s .head .clock + mostAhead
-  pub countable : getD (s .clientTable) client zeroCounts .submitted ≢ mostCounted
+  pub countable : getD (clientTable s) client zeroCounts .submitted ≢ mostCounted
   pub numbered : s .head .last ≢ numberEnd
   pub free : s .head .waiting ≢ length (s .waitingTable)
 
@@ -116,7 +121,7 @@ submit-ready client deadline s e =
       exists = ltb-true client (s .head .setup .clients) (not-false (isClient (s .head .setup .clients) client) (b .0));
       late = w .0;
       near = w .1;
-      countable = eqb-false (getD (s .clientTable) client zeroCounts .submitted) mostCounted (d .0);
+      countable = eqb-false (getD (clientTable s) client zeroCounts .submitted) mostCounted (d .0);
       numbered = eqb-false (s .head .last) numberEnd (f .0);
       free = eqb-false (s .head .waiting) (length (s .waitingTable)) (g .0);
     }
@@ -205,4 +210,4 @@ unfolding tickAccepted nextState
 ticked-waiting [] s = refl
 ticked-waiting (w ∷ ws) s =
     next-waiting (suc (s .head .clock)) (s .head .last) ws
-    (countsAfter (s .head .setup .period) (suc (s .head .clock)) ws (change oneMoreServed (w .client) (s .clientTable))) s
+    (countsAfter (s .head .setup .period) (suc (s .head .clock)) ws (change oneMoreServed (w .client) (clientTable s))) s

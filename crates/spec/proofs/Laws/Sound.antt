@@ -1,5 +1,5 @@
 -- Shape and soundness as facts, and what it means that a call is not refused. Assumes nothing.
-use Prim.Native.Nat.{ℕ, zero, suc, _+_, _≤_, _<_}
+use Prim.Native.Nat.{ℕ, zero, suc, _+_, _≤_, _<_, _*_}
 use mathlib.Core.Path.{_≡_, refl, ap, _∙_}
 use mathlib.Core.Logic.{_≢_}
 use mathlib.Core.Bool.{Bool, true, false, not, cond, _&&_, and-eq-true-iff}
@@ -14,7 +14,7 @@ use Rattle.spec.specs.declared.types.Head.{Head}
 use Rattle.spec.specs.declared.types.Request.{Request}
 use Rattle.spec.specs.declared.types.Counts.{Counts}
 use Rattle.spec.specs.Every.{isWithin, every}
-use Rattle.spec.specs.Tables.{mostClients, mostRecords, mostCounted, clockEnd, numberEnd, mostPeriod, mostAhead}
+use Rattle.spec.specs.Tables.{mostClients, mostRecords, mostCounted, clockEnd, numberEnd, mostPeriod, mostAhead, clientTable, width}
 use Rattle.spec.specs.Tables.{zeroRequest, zeroCounts, State, waiting, behind}
 use Rattle.spec.specs.Setup.{Refusal, firstMatch, refusal2, refusal3, setupRefusals}
 use Rattle.spec.specs.Sound.{isHeadWithin, isAhead, isGiven, isClient, isZeroRequest, waitingOf, isBalanced, isSound}
@@ -130,7 +130,8 @@ zeros-all rs e = ap (every isZeroRequest) e ∙ zeros-test (length rs)
 pub record Shaped (s : State) : Type 0 where
   pub some-records : 1 ≤ length (s .waitingTable)
   pub most-records : length (s .waitingTable) ≤ mostRecords
-  pub clients : length (s .clientTable) ≡ s .head .setup .clients
+  pub numbers : length (s .clientNumbers) ≡ width * s .head .setup .clients
+  pub clients : length (clientTable s) ≡ s .head .setup .clients
   pub waits : s .head .waiting ≤ length (s .waitingTable)
 
 -- ---- sound tables
@@ -154,7 +155,7 @@ pub record Sound (s : State) : Type 0 where
   pub owned : All (Owned (s .head .setup .clients)) (waiting s)
   pub feasible : Feasible (s .head) (waiting s)
   pub zeros : behind s ≡ replicate (length (behind s)) zeroRequest
-  pub balanced : (c : ℕ) → c < length (s .clientTable) → Balanced (waiting s) c (getD (s .clientTable) c zeroCounts)
+  pub balanced : (c : ℕ) → c < length (clientTable s) → Balanced (waiting s) c (getD (clientTable s) c zeroCounts)
 
 balanced-facts : (ws : List Request) (client : ℕ) (k : Counts) → isBalanced ws client k ≡ true → Balanced ws client k
 unfolding isBalanced
@@ -192,8 +193,8 @@ sound-facts s e =
       feasible = feasible-facts (s .head) (waiting s) (p .0 .0 .1);
       zeros = zeros-facts (behind s) (p .0 .1);
       balanced =
-          λ c h. balanced-facts (waiting s) c (getD (s .clientTable) c zeroCounts)
-          (everyFrom-facts (isBalanced (waiting s)) (s .clientTable) (p .1) c zeroCounts h);
+          λ c h. balanced-facts (waiting s) c (getD (clientTable s) c zeroCounts)
+          (everyFrom-facts (isBalanced (waiting s)) (clientTable s) (p .1) c zeroCounts h);
     }
 
 pub sound-test : (s : State) → Sound s → isSound s ≡ true
@@ -213,6 +214,6 @@ sound-test s f =
           (λ w h. lt-ltb (w .client) (s .head .setup .clients) h) (f .owned)),
       feasible-test (s .head) (waiting s) (f .feasible),
       zeros-all (behind s) (f .zeros),
-      everyFrom-test (isBalanced (waiting s)) (s .clientTable) zeroCounts
-          (λ c h. balanced-test (waiting s) c (getD (s .clientTable) c zeroCounts) (f .balanced c h)),
+      everyFrom-test (isBalanced (waiting s)) (clientTable s) zeroCounts
+          (λ c h. balanced-test (waiting s) c (getD (clientTable s) c zeroCounts) (f .balanced c h)),
     )

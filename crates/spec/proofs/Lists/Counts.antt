@@ -7,7 +7,7 @@ use mathlib.Core.List.{List, [], _∷_, map}
 use native.Mathlib.Nat.{zero-add}
 use native.Mathlib.Omega.{arith}
 use lib.Dec.{eqb}
-use lib.ListN.{length, getD, getD-replicate, length-replicate}
+use lib.ListN.{length, getD, getD-replicate, length-replicate, replicate}
 use Rattle.slots.proofs.Laws.Sums.{total-map}
 use Rattle.spec.specs.declared.types.Setup.{Setup}
 use Rattle.spec.specs.declared.types.Request.{Request}
@@ -15,14 +15,15 @@ use Rattle.spec.specs.declared.types.Counts.{Counts}
 use Rattle.spec.specs.declared.types.Answer.{Answer}
 use Rattle.spec.specs.declared.types.Answer.the-variants.{Served, Idle}
 use Rattle.spec.specs.Every.{toNumber, exists, countIf, mapFrom}
-use Rattle.spec.specs.Tables.{zeroCounts, State, waiting, nextState}
+use Rattle.spec.specs.Tables.{zeroCounts, State, waiting, nextState, clientTable}
 use Rattle.spec.specs.Sound.{waitingOf}
-use Rattle.spec.specs.Calls.{Outcome, openOf, openAccepted, change, oneMoreSubmitted, oneMoreServed, oneMoreDropped}
+use Rattle.spec.specs.Calls.{countedIn, Outcome, openOf, openAccepted, change, oneMoreSubmitted, oneMoreServed, oneMoreDropped}
 use Rattle.spec.specs.Calls.{isPeriodStart, restarted, oneLater, kept, droppedAt, tickAccepted, reportAccepted, reportOf}
 use Rattle.spec.specs.Calls.{reportAnswer, victimPlace, requestAt}
 use Rattle.spec.specs.Lists.{Call, submit, tick, report, outcomeOf, run, history, Event, isRefused, isOpened, isTick}
 use Rattle.spec.specs.Lists.{ticks, Asked, Victim, waitingRequests, waitingBy, submitters, servedClients, victimClients}
 use Rattle.spec.specs.Lists.{startsPeriod, sinceStart, countsSince}
+use Rattle.spec.proofs.Laws.Layout.{records-numbers}
 use Rattle.spec.proofs.Laws.Clients.{length-change, getD-change, counts-path}
 use Rattle.spec.proofs.Laws.Every.{count-total, length-mapFrom, getD-mapFrom}
 use Rattle.spec.proofs.Laws.Accepted.{next-waiting, ReportReady, report-ready}
@@ -111,7 +112,7 @@ module _ (x : Bool) (k : Counts) where
 -- ---- the client table is what the events say
 pub record Counted (period : ℕ) (es : List Event) (s : State) : Type 0 where
   pub period-is : s .head .setup .period ≡ period
-  pub counts-are : (c : ℕ) → c < length (s .clientTable) → getD (s .clientTable) c zeroCounts ≡ countsSince period c es
+  pub counts-are : (c : ℕ) → c < length (clientTable s) → getD (clientTable s) c zeroCounts ≡ countsSince period c es
 
 -- the requests that wait by the events are those of the table
 waits-counted : (es : List Event) (s : State) (c : ℕ) → Traced es s → waitingBy c es ≡ waitingOf c (waiting s)
@@ -149,17 +150,18 @@ module _ (period : ℕ) (es : List Event) (s : State) (C : Counted period es s) 
   counted-kept client deadline =
       record {
         period-is = C .period-is;
-        counts-are = λ c h. table c (omega (arith, length-change oneMoreSubmitted client (s .clientTable)));
+        counts-are = λ c h. ap (λ (cs : List Counts). getD cs c zeroCounts) (records-numbers (countedIn client s))
+            ∙ table c (omega (arith, ap length (records-numbers (countedIn client s)), length-change oneMoreSubmitted client (clientTable s)));
       }
     where
       e : Event
       e = event (submit client deadline) (kept client deadline s .answer)
 
-      table : (c : ℕ) → c < length (s .clientTable)
-          → getD (change oneMoreSubmitted client (s .clientTable)) c zeroCounts ≡ countsSince period c (e ∷ es)
+      table : (c : ℕ) → c < length (clientTable s)
+          → getD (change oneMoreSubmitted client (clientTable s)) c zeroCounts ≡ countsSince period c (e ∷ es)
       table c h =
-          getD-change oneMoreSubmitted client (s .clientTable) c h
-          ∙ one-submitted (eqb c client) (getD (s .clientTable) c zeroCounts)
+          getD-change oneMoreSubmitted client (clientTable s) c h
+          ∙ one-submitted (eqb c client) (getD (clientTable s) c zeroCounts)
           ∙ ap (adding (toNumber (eqb c client)) 0 0) (C .counts-are c h)
           ∙ sym (since-adds period c e es refl ∙ rw (named-one c client, named-none c))
 
@@ -170,10 +172,12 @@ module _ (period : ℕ) (es : List Event) (s : State) (C : Counted period es s) 
       record {
         period-is = C .period-is;
         counts-are =
-            λ c h. table c (omega (
+            λ c h. ap (λ (cs : List Counts). getD cs c zeroCounts) (records-numbers (change oneMoreDropped (v .client) counted))
+            ∙ table c (omega (
               arith,
+              ap length (records-numbers (change oneMoreDropped (v .client) counted)),
               length-change oneMoreDropped (v .client) counted,
-              length-change oneMoreSubmitted client (s .clientTable),
+              length-change oneMoreSubmitted client (clientTable s),
             ));
       }
     where
@@ -184,16 +188,16 @@ module _ (period : ℕ) (es : List Event) (s : State) (C : Counted period es s) 
       v = requestAt k client deadline s
 
       counted : List Counts
-      counted = change oneMoreSubmitted client (s .clientTable)
+      counted = change oneMoreSubmitted client (clientTable s)
 
-      table : (c : ℕ) → c < length (s .clientTable)
+      table : (c : ℕ) → c < length (clientTable s)
           → getD (change oneMoreDropped (v .client) counted) c zeroCounts ≡ countsSince period c (e ∷ es)
       table c h =
-          getD-change oneMoreDropped (v .client) counted c (omega (arith, length-change oneMoreSubmitted client (s .clientTable)))
+          getD-change oneMoreDropped (v .client) counted c (omega (arith, length-change oneMoreSubmitted client (clientTable s)))
           ∙ one-dropped (eqb c (v .client)) (getD counted c zeroCounts)
           ∙ ap (adding 0 0 (toNumber (eqb c (v .client))))
-          (getD-change oneMoreSubmitted client (s .clientTable) c h
-          ∙ one-submitted (eqb c client) (getD (s .clientTable) c zeroCounts)
+          (getD-change oneMoreSubmitted client (clientTable s) c h
+          ∙ one-submitted (eqb c client) (getD (clientTable s) c zeroCounts)
           ∙ ap (adding (toNumber (eqb c client)) 0 0) (C .counts-are c h))
           ∙ both-added (toNumber (eqb c client)) (toNumber (eqb c (v .client))) (countsSince period c es)
           ∙ sym (since-adds period c e es refl ∙ rw (named-one c client, named-one c (v .client), named-none c))
@@ -216,7 +220,8 @@ module _ (period : ℕ) (es : List Event) (s : State) (C : Counted period es s) 
         → ((c : ℕ) → c < length cs → getD cs c zeroCounts ≡ addedBy c (event tick a) (countsSince period c es))
         → Counted period (event tick a ∷ es) (oneLater ws cs s)
     unfolding nextState
-    counted-later T f = record { period-is = C .period-is; counts-are = table begins refl }
+    counted-later T f =
+        record { period-is = C .period-is; counts-are = rw (records-numbers (cond begins (mapFrom (restarted ws) 0 cs) cs)) (table begins refl) }
       where
         e : Event
         e = event tick a
@@ -239,21 +244,21 @@ module _ (period : ℕ) (es : List Event) (s : State) (C : Counted period es s) 
       → Then (Counted period) tick (tickAccepted ws s) es
   unfolding tickAccepted
   counted-tick [] k T =
-      counted-later [] (s .clientTable) (Idle (s .head .clock)) refl k T
+      counted-later [] (clientTable s) (Idle (s .head .clock)) refl k T
       (λ c h. C .counts-are c h ∙ sym (rw (named-none c) (adding-none (countsSince period c es))))
   counted-tick (w ∷ ws) k T =
-      counted-later ws (change oneMoreServed (w .client) (s .clientTable)) answer refl k T
-      (λ c h. table c (omega (arith, length-change oneMoreServed (w .client) (s .clientTable))))
+      counted-later ws (change oneMoreServed (w .client) (clientTable s)) answer refl k T
+      (λ c h. table c (omega (arith, length-change oneMoreServed (w .client) (clientTable s))))
     where
       answer : Answer
       answer = Served (s .head .clock) (w .number) (w .client)
 
-      table : (c : ℕ) → c < length (s .clientTable)
-          → getD (change oneMoreServed (w .client) (s .clientTable)) c zeroCounts
+      table : (c : ℕ) → c < length (clientTable s)
+          → getD (change oneMoreServed (w .client) (clientTable s)) c zeroCounts
           ≡ addedBy c (event tick answer) (countsSince period c es)
       table c h =
-          getD-change oneMoreServed (w .client) (s .clientTable) c h
-          ∙ one-served (eqb c (w .client)) (getD (s .clientTable) c zeroCounts)
+          getD-change oneMoreServed (w .client) (clientTable s) c h
+          ∙ one-served (eqb c (w .client)) (getD (clientTable s) c zeroCounts)
           ∙ ap (adding 0 (toNumber (eqb c (w .client))) 0) (C .counts-are c h)
           ∙ sym (rw (named-one c (w .client), named-none c))
 
@@ -276,8 +281,9 @@ counted-open setup s =
     record {
       period-is = refl;
       counts-are =
-          λ c h. getD-replicate (length (s .clientTable)) c zeroCounts zeroCounts
-          (omega (arith, length-replicate (length (s .clientTable)) zeroCounts));
+          rw (records-numbers (replicate (length (clientTable s)) zeroCounts))
+          (λ c h. getD-replicate (length (clientTable s)) c zeroCounts zeroCounts
+          (omega (arith, length-replicate (length (clientTable s)) zeroCounts)));
     }
 
 -- after any list of calls from an accepted open on, with no other accepted open in it
@@ -302,5 +308,5 @@ reported-counts period client es s T C a =
     R : ReportReady client s
     R = report-ready client s (accepted-none (report client) s a)
 
-    inside : client < length (s .clientTable)
+    inside : client < length (clientTable s)
     inside = omega (arith, R .exists, R .ready .shape .clients)

@@ -21,7 +21,7 @@ use Rattle.slots.proofs.Single.{end, slots, booked, bookings-booked}
 use Rattle.spec.specs.declared.types.Setup.{Setup}
 use Rattle.spec.specs.declared.types.Request.{Request}
 use Rattle.spec.specs.Every.{countIf}
-use Rattle.spec.specs.Tables.{zeroRequest, State, waiting, nextState}
+use Rattle.spec.specs.Tables.{zeroRequest, State, waiting, nextState, clientTable}
 use Rattle.spec.specs.Order.{removeAt}
 use Rattle.spec.specs.Chart.{capacityOf, roomTo, endOf, startsOf, dueBy, hasNoOverfull, Search}
 use Rattle.spec.specs.Victim.{isCandidate}
@@ -255,10 +255,10 @@ module _ (s : State) (es : List Event) (T : Traced es s) where
   unfolding tickAccepted
   tick-heads [] =
       sym (capacity-next (suc (s .head .clock)) (s .head .last) []
-      (countsAfter (s .head .setup .period) (suc (s .head .clock)) [] (s .clientTable)) s)
+      (countsAfter (s .head .setup .period) (suc (s .head .clock)) [] (clientTable s)) s)
   tick-heads (w ∷ ws) =
       sym (capacity-next (suc (s .head .clock)) (s .head .last) ws
-      (countsAfter (s .head .setup .period) (suc (s .head .clock)) ws (change oneMoreServed (w .client) (s .clientTable))) s)
+      (countsAfter (s .head .setup .period) (suc (s .head .clock)) ws (change oneMoreServed (w .client) (clientTable s))) s)
 
   follows-tick : Follows es s → Then Follows tick (tickAccepted (waiting s) s) es
   follows-tick B =
