@@ -9,9 +9,11 @@ use borrow.Author.Tests.{eq-eqb, ne-eqb}
 use lib.ListN.{length, getD, take, drop, set, List·getD-append}
 use lib.Seq.{take-suc, append-snoc, set-at, length-take-le, getD-take}
 use Rattle.spec.specs.declared.types.Setup.{Setup}
-use Rattle.spec.specs.Chart.{Segment, doTouch, joinLeft, segmentsOf}
+use Rattle.spec.specs.declared.types.Request.{Request}
+use Rattle.spec.specs.Tables.{deadlinesOf}
+use Rattle.spec.specs.Chart.{Segment, doTouch, joinLeft, segmentsOf, startsOf, endOf}
 use Rattle.columns.specs.Charted.{startSlot, startSlots, segment}
-use Rattle.columns.specs.Columns.{largest64}
+use Rattle.columns.specs.Widths.{largest64}
 use Rattle.columns.proofs.Laws.{rest-cons, rest-none}
 
 -- ---- start slots
@@ -107,3 +109,25 @@ module _ (setup : Setup) (s : List ℕ) (n k : ℕ) where
       → glue setup left right (segmentsOf setup (drop k (take n s))) ≡ segment left right ∷ segmentsOf setup (drop k (take n s))
   unfolding segmentsOf glue
   run-last left right h = rw (rest-none s n k h)
+
+-- ---- start slots of deadlines are those of requests
+start-same : (setup : Setup) (w : Request) (later : List ℕ) → startSlot setup (w .deadline) later ≡ endOf w later - 1
+start-same setup w [] = refl
+start-same setup w (s ∷ later) = refl
+
+pub starts-column : (setup : Setup) (ws : List Request) → startSlots setup (deadlinesOf ws) ≡ startsOf setup ws
+unfolding startSlots startsOf
+starts-column setup [] = refl
+starts-column setup (w ∷ ws) = rw (starts-column setup ws, start-same setup w (startsOf setup ws))
+
+-- no start slot is the largest number, as `segment_at` asks
+pub starts-below : (setup : Setup) (ds : List ℕ) (k : ℕ) → k < length ds → ((j : ℕ) → j < length ds → getD ds j 0 ≤ largest64)
+    → getD (startSlots setup ds) k 0 < largest64
+unfolding startSlots
+starts-below setup [] k h b = absurd (omega arith)
+starts-below setup (d ∷ ds) zero h b = go (startSlots setup ds)
+  where
+    go : (later : List ℕ) → startSlot setup d later < largest64
+    go [] = omega (arith, b 0 (omega arith))
+    go (s ∷ later) = omega (arith, b 0 (omega arith))
+starts-below setup (d ∷ ds) (suc k) h b = starts-below setup ds k (omega arith) (λ j i. b (suc j) (omega arith))

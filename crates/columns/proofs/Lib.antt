@@ -1,6 +1,3 @@
-pub mod ClientsChanged
-pub mod ClientsLayout
-pub mod Counting
+pub mod Changed
 pub mod Drawing
-pub mod Fields
 pub mod Laws

@@ -1,35 +1,12 @@
--- The client table as one list of numbers, a record after the other, and what is done to the records there. Assumes nothing.
-use Prim.Native.Nat.{ℕ, zero, suc}
+-- What is done to the records of a client table, as its numbers are lent. Assumes nothing.
+use Prim.Native.Nat.{ℕ, zero, suc, _+_, _-_}
 use mathlib.Core.Bool.{cond, _&&_}
 use mathlib.Core.List.{List, [], _∷_}
 use lib.Dec.{ltb}
 use Rattle.spec.specs.declared.types.Counts.{Counts}
 use Rattle.spec.specs.Calls.{isPeriodStart, oneMoreSubmitted, oneMoreServed, oneMoreDropped}
-use Rattle.columns.specs.Columns.{largest32}
-use Rattle.columns.specs.Counted.{restartedCounts}
-
--- "The client table has one record a client: submitted, served, dropped": how many numbers a record is
-abbrev pub width : ℕ
-width = 3
-
--- the record that three numbers are, and the numbers of a record ahead of others
-abbrev pub recordOf : ℕ → ℕ → ℕ → Counts
-recordOf submitted served dropped = record { submitted = submitted; served = served; dropped = dropped }
-
-abbrev pub recordThen : Counts → List ℕ → List ℕ
-recordThen k xs = k .submitted ∷ k .served ∷ k .dropped ∷ xs
-
--- the whole records that numbers hold
-unfoldable pub recordsOf : List ℕ → List Counts
-recordsOf [] = []
-recordsOf (a ∷ []) = []
-recordsOf (a ∷ b ∷ []) = []
-recordsOf (a ∷ b ∷ c ∷ xs) = recordOf a b c ∷ recordsOf xs
-
--- the numbers of records
-unfoldable pub numbersOf : List Counts → List ℕ
-numbersOf [] = []
-numbersOf (k ∷ cs) = recordThen k (numbersOf cs)
+use Rattle.spec.specs.Tables.{recordOf, recordThen}
+use Rattle.columns.specs.Widths.{largest32}
 
 -- the numbers with the record at an index changed; where there is no whole record nothing changes
 unfoldable pub changedAt : (Counts → Counts) → ℕ → List ℕ → List ℕ
@@ -62,6 +39,14 @@ moreServed = unlessFull (λ k. k .served) oneMoreServed
 
 abbrev pub moreDropped : Counts → Counts
 moreDropped = unlessFull (λ k. k .dropped) oneMoreDropped
+
+-- what was submitted and neither served nor dropped: in sound tables the client's waiting count
+abbrev pub waitingCount : Counts → ℕ
+waitingCount k = k .submitted - (k .served + k .dropped)
+
+-- "each client's submitted becomes its waiting count, served and dropped become 0."
+abbrev pub restartedCounts : Counts → Counts
+restartedCounts k = recordOf (waitingCount k) 0 0
 
 -- the numbers once the clock is this: at a period start all records are restartedCounts
 abbrev pub restartedNumbers : ℕ → ℕ → List ℕ → List ℕ

@@ -1,4 +1,3 @@
 pub mod Charted
 pub mod Clients
-pub mod Columns
-pub mod Counted
+pub mod Widths

@@ -5,7 +5,7 @@ ghost use mathlib.Core.List.{_∷_, _++_};
 ghost use Prim.Native.Nat.{ℕ, _+_, _-_, _<_, _≤_, min};
 ghost use lib.ListN.{length, getD, take, drop};
 ghost use Rattle.spec.specs.Chart.{segmentsOf};
-ghost use Rattle.columns.specs.Columns.{largest64};
+ghost use Rattle.columns.specs.Widths.{largest64};
 ghost use Rattle.columns.specs.Charted.{startSlots, segment};
 
 // One slot before the smaller of both; 0 stays 0.

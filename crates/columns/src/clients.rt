@@ -6,11 +6,10 @@ ghost use mathlib.Core.Bool.{_&&_};
 ghost use Prim.Native.Nat.{_+_, _*_, _<_};
 ghost use lib.Dec.{ltb};
 ghost use lib.ListN.{length, getD, replicate};
-ghost use Rattle.spec.specs.Tables.{zeroCounts};
+ghost use Rattle.spec.specs.Tables.{width, recordsOf, zeroCounts};
 ghost use Rattle.spec.specs.Calls.{isPeriodStart};
-ghost use Rattle.columns.specs.Counted.{waitingCount, restartedCounts};
-ghost use Rattle.columns.specs.Clients.{width, recordsOf, changedAt, changedAll, saturatingNext, moreSubmitted, moreServed};
-ghost use Rattle.columns.specs.Clients.{moreDropped, restartedNumbers};
+ghost use Rattle.columns.specs.Clients.{changedAt, changedAll, saturatingNext, moreSubmitted, moreServed, moreDropped};
+ghost use Rattle.columns.specs.Clients.{waitingCount, restartedCounts, restartedNumbers};
 
 // How many whole records the numbers hold.
 pub fn record_count(numbers: &[u32]) -> usize

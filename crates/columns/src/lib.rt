@@ -1,5 +1,4 @@
 // Columns of numbers: what is looked up, counted and drawn in them.
 pub mod chart;
 pub mod clients;
-pub mod counts;
 pub mod rows;

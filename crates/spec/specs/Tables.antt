@@ -79,6 +79,9 @@ pub record State : Type 0 where
   pub waitingTable : List Request
   pub clientNumbers : List ℕ
 
+abbrev pub stateOf : Head → List Request → List ℕ → State
+stateOf head ws numbers = record { head = head; waitingTable = ws; clientNumbers = numbers }
+
 -- the client table
 abbrev pub clientTable : State → List Counts
 clientTable s = recordsOf (s .clientNumbers)

@@ -8,7 +8,7 @@ use lib.ListN.{length, getD, take, drop, take-append-drop, length-set}
 use Rattle.spec.specs.declared.types.Setup.{Setup}
 use Rattle.spec.specs.Tables.{zeroSetup}
 use Rattle.columns.specs.Charted.{startSlots}
-use Rattle.columns.specs.Columns.{largest64}
+use Rattle.columns.specs.Widths.{largest64}
 use Rattle.columns.proofs.Drawing.{starts-none, starts-more, set-last, last-same}
 use Rattle.columns.proofs.chart.write_starts.Statement.{statement}
 use Rattle.columns.proofs.chart.write_starts.Tie as tie

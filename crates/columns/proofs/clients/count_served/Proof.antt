@@ -2,7 +2,7 @@
 use mathlib.Core.Path.{_∙_, ap}
 use borrow.Author.Needs.{needs}
 use Rattle.columns.specs.Clients.{moreServed}
-use Rattle.columns.proofs.ClientsChanged.{changedAt-same}
+use Rattle.columns.proofs.Changed.{changedAt-same}
 use Rattle.columns.proofs.clients.count_served.Statement.{statement}
 use Rattle.columns.proofs.clients.count_served.Tie as tie
 

@@ -4,8 +4,8 @@ use native.Mathlib.Omega.{arith}
 use borrow.Author.Needs.{needs}
 use lib.ListN.{List·getD-eq-default}
 use Rattle.spec.specs.Tables.{zeroCounts}
-use Rattle.columns.specs.Clients.{recordsOf}
-use Rattle.columns.proofs.ClientsLayout.{length-records}
+use Rattle.spec.specs.Tables.{recordsOf}
+use Rattle.spec.proofs.Laws.Layout.{length-records}
 use Rattle.columns.proofs.clients.counts_at.Statement.{statement}
 use Rattle.columns.proofs.clients.counts_at.Tie as tie
 

@@ -2,7 +2,7 @@
 use mathlib.Core.Path.{sym}
 use native.Mathlib.Omega.{arith}
 use borrow.Author.Needs.{needs}
-use Rattle.columns.proofs.ClientsLayout.{getD-records}
+use Rattle.spec.proofs.Laws.Layout.{getD-records}
 use Rattle.columns.proofs.clients.get.Statement.{statement}
 use Rattle.columns.proofs.clients.get.Tie as tie
 

@@ -2,9 +2,9 @@
 use Prim.Native.Nat.{ℕ, suc}
 use borrow.Author.Needs.{needs}
 use lib.Dec.{ltb}
-use Rattle.columns.specs.Columns.{largest32}
-use Rattle.columns.specs.Clients.{recordOf}
-use Rattle.columns.proofs.ClientsChanged.{cond-record}
+use Rattle.columns.specs.Widths.{largest32}
+use Rattle.spec.specs.Tables.{recordOf}
+use Rattle.columns.proofs.Changed.{cond-record}
 use Rattle.columns.proofs.clients.more_served.Statement.{statement}
 use Rattle.columns.proofs.clients.more_served.Tie as tie
 

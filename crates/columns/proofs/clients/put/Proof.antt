@@ -2,7 +2,7 @@
 use native.Mathlib.Omega.{arith}
 use borrow.Author.Needs.{needs}
 use lib.ListN.{length-set}
-use Rattle.columns.proofs.ClientsChanged.{put-changed}
+use Rattle.columns.proofs.Changed.{put-changed}
 use Rattle.columns.proofs.clients.put.Statement.{statement}
 use Rattle.columns.proofs.clients.put.Tie as tie
 

@@ -2,8 +2,8 @@
 use mathlib.Core.Path.{sym}
 use native.Mathlib.Omega.{arith}
 use borrow.Author.Needs.{needs}
-use Rattle.columns.proofs.ClientsLayout.{length-records}
-use Rattle.columns.proofs.ClientsChanged.{changedAt-none}
+use Rattle.spec.proofs.Laws.Layout.{length-records}
+use Rattle.columns.proofs.Changed.{changedAt-none}
 use Rattle.columns.proofs.clients.put_at.Statement.{statement}
 use Rattle.columns.proofs.clients.put_at.Tie as tie
 

@@ -1,6 +1,6 @@
 -- `columns::clients::record_count` meets its contract. Assumes nothing.
 use native.Mathlib.Omega.{arith}
-use Rattle.columns.proofs.ClientsLayout.{length-records}
+use Rattle.spec.proofs.Laws.Layout.{length-records}
 use Rattle.columns.proofs.clients.record_count.Statement.{statement}
 use Rattle.columns.proofs.clients.record_count.Tie as tie
 

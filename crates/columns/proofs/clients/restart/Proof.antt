@@ -4,10 +4,10 @@ use mathlib.Core.Path.{_≡_, refl, sym, ap, _∙_}
 use native.Mathlib.Omega.{arith}
 use borrow.Author.Needs.{needs}
 use lib.ListN.{length}
-use Rattle.columns.specs.Counted.{restartedCounts}
+use Rattle.columns.specs.Clients.{restartedCounts}
 use Rattle.columns.specs.Clients.{changedAt, changedAll}
-use Rattle.columns.proofs.ClientsLayout.{length-records}
-use Rattle.columns.proofs.ClientsChanged.{length-changedAt, changedAt-same, changedFrom, changed-start, changed-turn, changed-end}
+use Rattle.spec.proofs.Laws.Layout.{length-records}
+use Rattle.columns.proofs.Changed.{length-changedAt, changedAt-same, changedFrom, changed-start, changed-turn, changed-end}
 use Rattle.columns.proofs.clients.restart.Statement.{statement}
 use Rattle.columns.proofs.clients.restart.Tie as tie
 

@@ -3,7 +3,7 @@ use native.Mathlib.Omega.{arith}
 use native.Mathlib.Numerals.{add-one}
 use borrow.Author.Needs.{needs}
 use borrow.Author.Tests.{lt-ltb, le-ltb}
-use Rattle.columns.specs.Columns.{largest32}
+use Rattle.columns.specs.Widths.{largest32}
 use Rattle.columns.proofs.clients.saturating_next.Statement.{statement}
 use Rattle.columns.proofs.clients.saturating_next.Tie as tie
 

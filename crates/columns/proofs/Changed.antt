@@ -9,13 +9,11 @@ use borrow.Author.Tests.{lt-ltb}
 use lib.Dec.{ltb}
 use lib.ListN.{length, getD, set, drop, replicate}
 use Rattle.spec.specs.declared.types.Counts.{Counts}
-use Rattle.spec.specs.Tables.{zeroCounts}
+use Rattle.spec.specs.Tables.{zeroCounts, width, recordOf, recordThen, recordsOf, numbersOf}
 use Rattle.spec.specs.Calls.{change, isPeriodStart}
-use Rattle.columns.specs.Columns.{largest32}
-use Rattle.columns.specs.Counted.{restartedCounts, restartedAt}
-use Rattle.columns.specs.Clients.{width, recordOf, recordThen, recordsOf, numbersOf, changedAt, changedAll, unlessFull}
-use Rattle.columns.specs.Clients.{restartedNumbers}
-use Rattle.columns.proofs.ClientsLayout.{next-first, next-other, records-numbers, numbers-records}
+use Rattle.columns.specs.Widths.{largest32}
+use Rattle.columns.specs.Clients.{changedAt, changedAll, unlessFull, restartedCounts, restartedNumbers}
+use Rattle.spec.proofs.Laws.Layout.{next-first, next-other, records-numbers, numbers-records}
 
 module _ (f : Counts → Counts) where
   -- ---- as long as before
@@ -120,6 +118,10 @@ cond-record f true m n = refl
 cond-record f false m n = refl
 
 -- ---- a period's start
+-- the client table once the clock is this: at a period start all are restartedCounts
+abbrev pub restartedAt : ℕ → ℕ → List Counts → List Counts
+restartedAt period clock cs = cond (ltb 0 period && isPeriodStart period clock) (map restartedCounts cs) cs
+
 pub restarted-numbers : (period clock : ℕ) (cs : List Counts)
     → restartedNumbers period clock (numbersOf cs) ≡ numbersOf (restartedAt period clock cs)
 restarted-numbers period clock cs = go (ltb 0 period && isPeriodStart period clock)
