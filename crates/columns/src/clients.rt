@@ -1,10 +1,10 @@
 // The client table as one lent slice of numbers: client c's submitted, served and dropped are the numbers 3c, 3c + 1 and 3c + 2.
-// Only `get` and `put` know this layout.
+// Only `get` and `put` know where a record stands, and the two functions before them how many numbers it is.
 use spec::types::Counts;
 ghost use mathlib.Core.Path.{_≡_};
 ghost use mathlib.Core.Bool.{_&&_};
 ghost use Prim.Native.Nat.{_+_, _*_, _<_};
-ghost use lib.Dec.{ltb};
+ghost use lib.Dec.{ltb, eqb};
 ghost use lib.ListN.{length, getD, replicate};
 ghost use Rattle.spec.specs.Tables.{width, recordsOf, zeroCounts};
 ghost use Rattle.spec.specs.Calls.{isPeriodStart};
@@ -16,6 +16,14 @@ pub fn record_count(numbers: &[u32]) -> usize
     ensures { λ r. ⌜ r ≡ length (recordsOf (now (numbers .entry))) ⌝ }
 {
     numbers.len() / 3
+}
+
+// Whether so many numbers are one record for each of so many clients. By division, since a product of any number of clients might
+// not fit.
+pub fn are_records(count: usize, clients: u64) -> bool
+    ensures { λ r. ⌜ r ≡ eqb count (width * clients) ⌝ }
+{
+    (count % 3 == 0) & ((count / 3) as u64 == clients)
 }
 
 // The record at an index.

@@ -19,7 +19,7 @@ use Rattle.spec.specs.Calls.{unlessRefused, submitOf, tickOf, chartOutput}
 use Rattle.spec.proofs.Laws.Accepted.{chart-ready, waiting-length}
 use Rattle.spec.proofs.Calls.Refused.{Written, untouched, written, output-written, length-starts}
 use Rattle.columns.specs.Charted.{startSlots}
-use Rattle.columns.proofs.Fields.{starts-column}
+use Rattle.columns.proofs.Drawing.{starts-column}
 use Rattle.decide.specs.declared.types.Decision.{Decision}
 use Rattle.decide.specs.declared.types.Decision.the-variants.{Refuse, Keep, Drop, Serve, Idle}
 use Rattle.decide.specs.Decisions.{unless, submitChoice, submitDecision, tickChoice, tickDecision}

@@ -80,14 +80,14 @@ module _ {t : ℕ} (own : List Refusal) where
 
 -- ---- of a state, told what its tables call for: the first that matches of the call's whole list
 pub open-told : (setup : Setup) (s : State)
-    → openMatch setup (length (s .waitingTable)) (length (s .clientTable)) ≡ firstMatch (openRefusals setup s)
+    → openMatch setup (length (s .waitingTable)) (length (clientTable s)) ≡ firstMatch (openRefusals setup s)
 unfolding openMatch openRefusals
 open-told setup s =
-    rw (length-replicate (length (s .waitingTable)) zeroRequest, length-replicate (length (s .clientTable)) zeroCounts)
+    rw (length-replicate (length (s .waitingTable)) zeroRequest, length-replicate (length (clientTable s)) zeroCounts)
 
 module _ (s : State) {tables : ℕ} (found : tables ≡ tablesRefusal s) where
   pub submit-told : (client deadline : ℕ)
-      → submitMatch tables (s .head) (length (s .waitingTable)) (s .clientTable) client deadline
+      → submitMatch tables (s .head) (length (s .waitingTable)) (clientTable s) client deadline
       ≡ firstMatch (submitRefusals client deadline s)
   unfolding submitMatch submitRefusals
   submit-told client deadline =
@@ -147,10 +147,10 @@ module _ (client deadline : ℕ) (s : State) {tables : ℕ} (none : tables ≡ 0
           → n ≡ firstMatch list
       after7 e = after6 (match-next (refusal7 deadline s) _ (fails7 deadline s late near) e)
 
-      pub own8 : getD (s .clientTable) client zeroCounts .submitted ≡ mostCounted
+      pub own8 : getD (clientTable s) client zeroCounts .submitted ≡ mostCounted
           → 8 ≡ firstMatch list
       own8 e = after7 (match-here (refusal8 client s) _ (eq-eqb _ mostCounted e))
 
-      pub after8 : getD (s .clientTable) client zeroCounts .submitted ≢ mostCounted → {n : ℕ}
+      pub after8 : getD (clientTable s) client zeroCounts .submitted ≢ mostCounted → {n : ℕ}
           → n ≡ firstMatch (refusal9 s ∷ refusal10 s ∷ []) → n ≡ firstMatch list
       after8 countable e = after7 (match-next (refusal8 client s) _ (ne-eqb _ mostCounted countable) e)

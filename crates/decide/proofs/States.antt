@@ -16,7 +16,7 @@ use Rattle.spec.specs.Tables.{zeroCounts, State, waiting}
 use Rattle.spec.specs.Setup.{Refusal, firstMatch}
 use Rattle.spec.specs.Refusals.{submitRefusals, tickRefusals}
 use Rattle.spec.proofs.Laws.Accepted.{SubmitReady, waiting-length, tick-ready}
-use Rattle.columns.specs.Columns.{countOf, countsOf, largest32}
+use Rattle.columns.specs.Widths.{largest32}
 use Rattle.columns.proofs.Laws.{length-rows, getD-rows}
 use Rattle.decide.specs.declared.types.Decision.the-variants.{Refuse, Serve, Idle}
 use Rattle.decide.specs.Decisions.{submitChoice, submitDecision, tickChoice, tickDecision, tickBy}
@@ -60,7 +60,7 @@ module _ (client deadline : ℕ) (s : State) {t : ℕ} (found : t ≡ firstMatch
 module _
     {head : Head} {s : State} {client deadline : ℕ} (ready : SubmitReady client deadline s) (same : s .head ≡ head) where
   -- the client's submitted has room for one more
-  pub small : (su se dr : List ℕ) → s .clientTable ≡ countsOf su se dr → getD su client 0 < largest32
+  pub small : (su se dr : List ℕ) → clientTable s ≡ countsOf su se dr → getD su client 0 < largest32
   small su se dr counts =
       omega (
         arith,
@@ -71,7 +71,7 @@ module _
       inside : client < length (countsOf su se dr)
       inside = omega (arith, ready .exists, ready .ready .shape .clients, ap length counts)
 
-      own : getD (s .clientTable) client zeroCounts ≡ countOf (getD su client 0) (getD se client 0) (getD dr client 0)
+      own : getD (clientTable s) client zeroCounts ≡ countOf (getD su client 0) (getD se client 0) (getD dr client 0)
       own =
           let l = length-rows countOf su se dr in
           ap (λ (t : List Counts). getD t client zeroCounts) counts

@@ -15,7 +15,6 @@ use Rattle.spec.specs.Chart.{dueBy, hasNoOverfull}
 use Rattle.spec.specs.Setup.{Refusal, firstMatch}
 use Rattle.spec.specs.Refusals.{submitRefusals, tickRefusals}
 use Rattle.spec.specs.Calls.{newRequest, withNew, victimPlace}
-use Rattle.columns.specs.Columns.{countsOf}
 use Rattle.search.specs.Scans.{overfullFrom, latestOf, putAt, smallestRatioPlace}
 use Rattle.decide.specs.declared.types.Decision.{Decision}
 use Rattle.decide.specs.declared.types.Decision.the-variants.{Refuse, Keep, Drop, Serve, Idle}
@@ -46,7 +45,7 @@ pub record Found (client deadline : ℕ) (head : Head) (latest submitted served 
     : Type 0 where
   pub accepted : firstMatch (submitRefusals client deadline s) ≡ 0
   pub head-same : s .head ≡ head
-  pub counts-same : s .clientTable ≡ countsOf submitted served dropped
+  pub counts-same : clientTable s ≡ countsOf submitted served dropped
   pub placed : place ≡ dueBy deadline (waiting s)
   pub searched : found ≡ overfullFrom (s .head) place (deadline ∷ drop place (deadlinesOf (waiting s)))
   pub marked : 0 < found

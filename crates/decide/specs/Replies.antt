@@ -13,8 +13,8 @@ use Rattle.spec.specs.declared.types.Answer.the-variants as answer
 use Rattle.spec.specs.declared.types.Answer.the-variants.{Opened, Kept, Dropped, Served, Reported, Charted, Refused}
 use Rattle.spec.specs.Tables.{zeroCounts, openHead}
 use Rattle.spec.specs.Calls.{Outcome}
-use Rattle.columns.specs.Columns.{Holds, largest64}
-use Rattle.columns.specs.Counted.{oneAdded, waitingCount, restartedAt}
+use Rattle.columns.specs.Widths.{largest64}
+use Rattle.columns.specs.Clients.{oneAdded, waitingCount, restartedAt}
 use Rattle.decide.specs.declared.types.Decision.{Decision}
 use Rattle.decide.specs.declared.types.Decision.the-variants.{Refuse, Keep, Drop, Serve, Idle}
 use Rattle.decide.specs.declared.types.Edit.{Edit}
@@ -170,4 +170,4 @@ pub record Answers (o : Outcome) (submitted₀ served₀ dropped₀ : List ℕ) 
     Type 0 where
   pub answer-same : r .answer ≡ o .answer
   pub head-same : r .head ≡ o .after .head
-  pub counts-same : Holds (o .after .clientTable) submitted₀ served₀ dropped₀ submitted served dropped
+  pub counts-same : Holds (o .clientTable after) submitted₀ served₀ dropped₀ submitted served dropped

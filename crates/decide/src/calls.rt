@@ -5,7 +5,7 @@ use spec::types::Head;
 ghost use mathlib.Core.Path.{_≡_};
 ghost use Prim.Native.Nat.{_≤_, _<_};
 ghost use lib.ListN.{length, getD};
-ghost use Rattle.columns.specs.Columns.{largest32};
+ghost use Rattle.columns.specs.Widths.{largest32};
 ghost use Rattle.search.specs.Scans.{countsWith};
 ghost use Rattle.decide.specs.declared.types.Decision.the-variants.{Refuse};
 ghost use Rattle.decide.specs.Decisions.{choiceBy, tickBy};

@@ -6,7 +6,6 @@ use spec::bounds;
 use spec::types::Head;
 use spec::types::Setup;
 ghost use mathlib.Core.Path.{_≡_};
-ghost use Rattle.columns.specs.Columns.{countsOf};
 ghost use Rattle.decide.specs.Matches.{openMatch, submitMatch, tickMatch, reportMatch, chartMatch};
 
 // Open's, by the lengths of the tables.

@@ -14,7 +14,7 @@ use Rattle.spec.specs.Refusals.{reportRefusals, chartRefusals}
 use Rattle.spec.specs.Calls.{Outcome, reportAccepted, reportOf, chartAccepted, chartOf}
 use Rattle.spec.specs.Frames.{kindOf}
 use Rattle.spec.proofs.Laws.Accepted.{Decided, accepts, refuses, decided}
-use Rattle.columns.specs.Columns.{stateOf}
+use Rattle.spec.specs.Tables.{stateOf}
 use Rattle.decide.specs.declared.types.Reply.{Reply}
 use Rattle.queue.specs.Gives.{Gives}
 use Rattle.exports.specs.Numbers.{headOf, headNumbers, valueNumbers, written, Exported}

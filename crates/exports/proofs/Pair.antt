@@ -6,7 +6,7 @@ use Rattle.walk.proofs.Prelude.{ℕ, suc, refl, List, [], _∷_, URA, Name, Ty,
 use Rattle.walk.proofs.Prelude.{drop, number, lent, taken, so, Shape, Walk, vars, relends, gives, made, of-number, of-nothing, calls-for, given, mut-own, shr-own}
 use Rattle.spec.specs.Tables.{State}
 use Rattle.spec.specs.Calls.{Outcome}
-use Rattle.columns.specs.Columns.{stateOf}
+use Rattle.spec.specs.Tables.{stateOf}
 use Rattle.queue.specs.Gives.{Gives}
 use Rattle.exports.specs.Numbers.{headOf, Exported}
 use Rattle.table.proofs.Rows.{R}

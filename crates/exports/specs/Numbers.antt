@@ -8,7 +8,6 @@ use Rattle.spec.specs.declared.types.Request.{Request}
 use Rattle.spec.specs.declared.types.Answer.{Answer}
 use Rattle.spec.specs.Calls.{Outcome}
 use Rattle.spec.specs.Frames.{kindOf, valuesOf}
-use Rattle.columns.specs.Columns.{Holds}
 
 -- "The head, passed and handed back: clients, period, clock, last request number, waiting count." A number that the slice does
 -- not have is 0
@@ -40,4 +39,4 @@ pub record Exported (o : Outcome) (head₀ values₀ submitted₀ served₀ drop
   pub values-same : values ≡ written (valueNumbers (o .answer)) values₀
   pub head-same : head ≡ written (headNumbers (o .after .head)) head₀
   pub waiting-same : ws ≡ o .after .waitingTable
-  pub counts-same : Holds (o .after .clientTable) submitted₀ served₀ dropped₀ submitted served dropped
+  pub counts-same : Holds (o .clientTable after) submitted₀ served₀ dropped₀ submitted served dropped

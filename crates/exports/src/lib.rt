@@ -7,7 +7,7 @@ mod numbers;
 use spec::types::Request;
 ghost use mathlib.Core.Path.{_≡_};
 ghost use Rattle.spec.specs.Calls.{openOf, submitOf, tickOf, reportOf, chartOf, chartOutput};
-ghost use Rattle.columns.specs.Columns.{stateOf};
+ghost use Rattle.spec.specs.Tables.{stateOf};
 ghost use Rattle.exports.specs.Numbers.{headOf, Exported};
 
 // Open: every record of both tables becomes zero.

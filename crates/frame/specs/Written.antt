@@ -8,7 +8,7 @@ use Rattle.spec.specs.declared.types.Answer.the-variants.{Opened, Kept, Dropped
 use Rattle.spec.specs.Tables.{mostRecords}
 use Rattle.spec.specs.Chart.{Segment, segmentsOf}
 use Rattle.spec.specs.Frames.{field, lineOf, answerLine, segmentLines}
-use Rattle.columns.specs.Columns.{largest64}
+use Rattle.columns.specs.Widths.{largest64}
 
 -- the lines of segments, and their count's
 abbrev pub chartLines : List Segment → List ℕ

@@ -10,7 +10,7 @@ ghost use Prim.Native.Nat.{ℕ, _+_, _*_, _<_, _≤_};
 ghost use lib.ListN.{length, getD, take};
 ghost use Rattle.spec.specs.Chart.{segmentsOf};
 ghost use Rattle.spec.specs.Frames.{lineFeed, field, lineOf, answerLine, segmentLines};
-ghost use Rattle.columns.specs.Columns.{largest64};
+ghost use Rattle.columns.specs.Widths.{largest64};
 ghost use Rattle.frame.specs.Written.{longestLine, mostBytes, CanDraw, chartLines, replyBytes};
 
 // The characters of the longest line, a drop's or a served read's, with its line feed.

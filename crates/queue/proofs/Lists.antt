@@ -14,7 +14,6 @@ use Rattle.spec.specs.Lists.{Call, opening, submit, tick, report, chart, outcom
 use Rattle.spec.specs.Lists.{WithRefused, empty, own, refused as refused-among}
 use Rattle.spec.proofs.Demands.Demand1.{keeps-lengths, CountsGiven, counts-given}
 use Rattle.spec.proofs.Demands.Demand3.{Largest, largest-plan}
-use Rattle.columns.specs.Columns.{over}
 use Rattle.columns.proofs.Counting.{holds-rows}
 use Rattle.decide.specs.declared.types.Reply.{Reply}
 use Rattle.queue.specs.Gives.{Gives}
@@ -106,9 +105,9 @@ made-some c before = (
         record {
           head = o .after .head;
           waitingTable = o .after .waitingTable;
-          submitted = over (λ (k : Counts). k .submitted) (o .after .clientTable) (before .submitted);
-          served = over (λ (k : Counts). k .served) (o .after .clientTable) (before .served);
-          dropped = over (λ (k : Counts). k .dropped) (o .after .clientTable) (before .dropped);
+          submitted = over (λ (k : Counts). k .submitted) (o .clientTable after) (before .submitted);
+          served = over (λ (k : Counts). k .served) (o .clientTable after) (before .served);
+          dropped = over (λ (k : Counts). k .dropped) (o .clientTable after) (before .dropped);
         }
 
 -- so whatever calls are listed, there is a list of the library's calls that makes them

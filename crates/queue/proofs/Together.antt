@@ -21,7 +21,8 @@ use Rattle.spec.specs.Calls.{reportAccepted, reportOf, chartAccepted, chartOf, 
 use Rattle.spec.proofs.Laws.Accepted.{Decided as Settled, accepts, refuses as declines, decided as settled}
 use Rattle.spec.proofs.Laws.Accepted.{ChartReady, chart-ready}
 use Rattle.spec.proofs.Calls.Refused.{Written, untouched, written, output-written}
-use Rattle.columns.specs.Columns.{countOf, countsOf, stateOf, Holds, largest64}
+use Rattle.columns.specs.Widths.{largest64}
+use Rattle.spec.specs.Tables.{stateOf}
 use Rattle.columns.specs.Charted.{startSlots}
 use Rattle.columns.proofs.Laws.{length-rows}
 use Rattle.table.specs.Records.{exchanged, takenOut}
@@ -133,7 +134,7 @@ module _ (head : Head) (ws : List Request) (su se dr : List ℕ) where
         let b = chart-answers output s told a in
         given
         (ap (λ (t : State). t .waitingTable) (sym q))
-        (answers (b .0) (b .1) (holds-same (ap (λ (t : State). t .clientTable) q)))
+        (answers (b .0) (b .1) (holds-same (ap (λ (t : State). clientTable t) q)))
 
   -- ---- open
   module _ (setup : Setup) (accounts refusal cleared : ℕ) (shortest : accounts ≡ min (length su) (min (length se) (length dr)))

@@ -4,7 +4,6 @@ use mathlib.Core.Path.{_≡_}
 use mathlib.Core.List.{List}
 use Rattle.spec.specs.declared.types.Request.{Request}
 use Rattle.spec.specs.Calls.{Outcome}
-use Rattle.columns.specs.Columns.{Holds}
 use Rattle.decide.specs.declared.types.Reply.{Reply}
 
 -- the reply, the waiting table and the three columns of the client table at exit are the outcome's; entries of a column beyond
@@ -14,4 +13,4 @@ pub record Gives (o : Outcome) (submitted₀ served₀ dropped₀ : List ℕ) (r
   pub answer-same : r .answer ≡ o .answer
   pub head-same : r .head ≡ o .after .head
   pub waiting-same : ws ≡ o .after .waitingTable
-  pub counts-same : Holds (o .after .clientTable) submitted₀ served₀ dropped₀ submitted served dropped
+  pub counts-same : Holds (o .clientTable after) submitted₀ served₀ dropped₀ submitted served dropped

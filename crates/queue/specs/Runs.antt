@@ -8,7 +8,7 @@ use Rattle.spec.specs.declared.types.Head.{Head}
 use Rattle.spec.specs.declared.types.Request.{Request}
 use Rattle.spec.specs.Tables.{State}
 use Rattle.spec.specs.Lists.{Call, outcomeOf, Event, isRefused}
-use Rattle.columns.specs.Columns.{stateOf}
+use Rattle.spec.specs.Tables.{stateOf}
 use Rattle.decide.specs.declared.types.Reply.{Reply}
 use Rattle.queue.specs.Gives.{Gives}
 

@@ -18,7 +18,7 @@ ghost use mathlib.Core.Path.{_≡_};
 ghost use Rattle.spec.specs.Setup.{firstMatch};
 ghost use Rattle.spec.specs.Refusals.{submitRefusals};
 ghost use Rattle.spec.specs.Calls.{openOf, submitOf, tickOf, reportOf, chartOf, chartOutput};
-ghost use Rattle.columns.specs.Columns.{stateOf};
+ghost use Rattle.spec.specs.Tables.{stateOf};
 ghost use Rattle.decide.specs.Decisions.{submitChoice, submitDecision};
 ghost use Rattle.queue.specs.Gives.{Gives};
 

@@ -1,5 +1,5 @@
 -- Laws of miss ratios: products that fit, and the counts of a client once a new request is counted. Assumes nothing.
-use Prim.Native.Nat.{ℕ, _+_, _*_, _^_, _≤_, _<_, min}
+use Prim.Native.Nat.{ℕ, _+_, _*_, _^_, _≤_, _<_}
 use mathlib.Core.Path.{_≡_}
 use mathlib.Core.Logic.{_≢_}
 use mathlib.Core.List.{List}
@@ -9,21 +9,13 @@ use native.Mathlib.Omega.{arith}
 use lib.ListN.{length, getD}
 use lib.Seq.{set-out, getD-set-same, getD-set-other}
 use Rattle.spec.specs.declared.types.Counts.{Counts}
-use Rattle.spec.specs.Tables.{zeroCounts}
+use Rattle.spec.specs.Tables.{zeroCounts, recordOf}
 use Rattle.spec.specs.Calls.{change, oneMoreSubmitted}
-use Rattle.columns.specs.Columns.{countOf, countsOf}
-use Rattle.columns.proofs.Laws.{getD-rows}
 
 -- a product of two u32 fits u64
 pub product-fits : (a b : ℕ) → a < 2 ^ 32 → b < 2 ^ 32 → a * b < 2 ^ 64
 product-fits a b h k =
     omega (arith, mul-le-mul {n₁ = a} {m₁ = b} {n₂ = 4294967295} {m₂ = 4294967295} (omega arith) (omega arith))
-
--- a client that exists has the count of the column
-pub submitted-at : (su se dr : List ℕ) (client c : ℕ) (r : Counts) → r ≡ getD (countsOf su se dr) c zeroCounts
-    → c < min (length su) (min (length se) (length dr)) → c ≡ client → r .submitted ≡ getD su client 0
-submitted-at su se dr client c r e h s =
-    rw (e, getD-rows countOf su se dr c zeroCounts (omega arith) (omega arith) (omega arith), s)
 
 -- the counts r of client c, once a request of `client` is counted: where c is another, does not exist, or is that client
 module _ (client c : ℕ) (cs : List Counts) (r : Counts) (found : r ≡ getD cs c zeroCounts) where
@@ -36,7 +28,7 @@ module _ (client c : ℕ) (cs : List Counts) (r : Counts) (found : r ≡ getD cs
   counted-none h e = rw (← e, set-out cs c (oneMoreSubmitted (getD cs c zeroCounts)) h) found
 
   pub counted-same : c < length cs → c ≡ client
-      → countOf (r .submitted + 1) (r .served) (r .dropped) ≡ getD (change oneMoreSubmitted client cs) c zeroCounts
+      → recordOf (r .submitted + 1) (r .served) (r .dropped) ≡ getD (change oneMoreSubmitted client cs) c zeroCounts
   unfolding change
   counted-same h e =
       rw (← e, getD-set-same cs c (oneMoreSubmitted (getD cs c zeroCounts)) zeroCounts h, ← found, add-one)

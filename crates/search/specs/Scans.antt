@@ -11,7 +11,6 @@ use Rattle.spec.specs.Tables.{mostClients, zeroCounts}
 use Rattle.spec.specs.Chart.{roomTo}
 use Rattle.spec.specs.Victim.{hasSmallerRatio}
 use Rattle.spec.specs.Calls.{change, oneMoreSubmitted}
-use Rattle.columns.specs.Columns.{countsOf}
 use Rattle.search.specs.declared.victim.Latest.{Latest}
 
 -- no entry is larger than a later one
@@ -58,9 +57,8 @@ abbrev pub putAt : ℕ → ℕ → List ℕ → List ℕ
 putAt k x xs = take k xs ++ x ∷ drop k xs
 
 -- the counts of the client c, a new request of `client` counted in submitted already
-abbrev pub countsWith : ℕ → List ℕ → List ℕ → List ℕ → ℕ → Counts
-countsWith client submitted served dropped c =
-    getD (change oneMoreSubmitted client (countsOf submitted served dropped)) c zeroCounts
+abbrev pub countsWith : ℕ → List Counts → ℕ → Counts
+countsWith client cs c = getD (change oneMoreSubmitted client cs) c zeroCounts
 
 -- the better of two clients' last candidates: a smaller miss ratio, among equals the later place; 0 is the place of none
 unfoldable pub betterOf : Latest → Latest → Latest

@@ -7,7 +7,7 @@ ghost use mathlib.Core.List.{_∷_};
 ghost use Prim.Native.Nat.{_+_, _%_, _≤_};
 ghost use lib.ListN.{length, set, take, drop};
 ghost use Rattle.spec.specs.Tables.{mostClients, mostRecords, clockEnd, deadlinesOf, clientsOf};
-ghost use Rattle.columns.specs.Columns.{largest16};
+ghost use Rattle.columns.specs.Widths.{largest16};
 ghost use Rattle.search.specs.Scans.{placeBy, candidateCount, overfullFrom, latestOf};
 
 // How many of the first n records, whose deadlines ascend, have a deadline of at most this one, by halves; in any order of

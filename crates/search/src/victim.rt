@@ -1,12 +1,13 @@
 // The victim: of the clients that have a candidate, the one with the smallest miss ratio; among equals, the one whose last candidate
 // stands last.
-use columns::rows;
+use columns::clients;
 use spec::types::Counts;
 ghost use mathlib.Core.Path.{_≡_};
 ghost use Prim.Native.Nat.{_≤_, _<_};
 ghost use lib.ListN.{length, getD};
+ghost use Rattle.spec.specs.Tables.{zeroCounts, recordsOf};
 ghost use Rattle.spec.specs.Victim.{hasSmallerRatio};
-ghost use Rattle.columns.specs.Columns.{largest32};
+ghost use Rattle.columns.specs.Widths.{largest32};
 ghost use Rattle.search.specs.Scans.{countsWith, betterOf, smallestRatioPlace};
 
 // A client's last candidate: its place and 1, or 0 where it has none. Beside it the client's counts.
@@ -15,16 +16,16 @@ struct Latest {
     counts: Counts,
 }
 
-// The counts of client c, a new request of `client` counted in submitted already.
-fn counts_with(submitted: &[u32], served: &[u32], dropped: &[u32], client: u64, c: u64) -> Counts
-    requires { ⌜ getD (now submitted) client 0 < largest32 ⌝ }
-    ensures { λ r. ⌜ r ≡ countsWith client (now (submitted .entry)) (now (served .entry)) (now (dropped .entry)) c ⌝ }
+// The counts of client c in a client table by its numbers, a new request of `client` counted in submitted already.
+fn counts_with(numbers: &[u32], client: u64, c: u64) -> Counts
+    requires { ⌜ getD (recordsOf (now numbers)) client zeroCounts .submitted < largest32 ⌝ }
+    ensures { λ r. ⌜ r ≡ countsWith client (recordsOf (now (numbers .entry))) c ⌝ }
 {
-    let counts = rows::counts_at(submitted, served, dropped, c);
+    let counts = clients::counts_at(numbers, c);
     if c != client {
         return counts;
     }
-    if rows::shortest(submitted.len(), served.len(), dropped.len()) <= c as usize {
+    if clients::record_count(numbers) <= c as usize {
         return counts;
     }
     Counts {
@@ -63,17 +64,9 @@ fn better(best: Latest, next: Latest) -> Latest
 }
 
 // The victim's place, from each of the n clients' last candidate; 0 where no client has one.
-pub fn smallest_ratio_place(
-    latest: &[u16],
-    submitted: &[u32],
-    served: &[u32],
-    dropped: &[u32],
-    client: u64,
-    n: usize,
-) -> usize
-    requires { ⌜ (n ≤ length (now latest)) × (getD (now submitted) client 0 < largest32) ⌝ }
-    ensures { λ r. ⌜ r ≡ smallestRatioPlace
-        (countsWith client (now (submitted .entry)) (now (served .entry)) (now (dropped .entry))) (now (latest .entry)) n ⌝ }
+pub fn smallest_ratio_place(latest: &[u16], numbers: &[u32], client: u64, n: usize) -> usize
+    requires { ⌜ (n ≤ length (now latest)) × (getD (recordsOf (now numbers)) client zeroCounts .submitted < largest32) ⌝ }
+    ensures { λ r. ⌜ r ≡ smallestRatioPlace (countsWith client (recordsOf (now (numbers .entry)))) (now (latest .entry)) n ⌝ }
 {
     let none = Counts {
         submitted: 0,
@@ -86,7 +79,7 @@ pub fn smallest_ratio_place(
     };
     let mut c: usize = 0;
     while c < n {
-        let counts = counts_with(submitted, served, dropped, client, c as u64);
+        let counts = counts_with(numbers, client, c as u64);
         let next = Latest {
             at: latest[c],
             counts,

@@ -8,7 +8,7 @@ use Rattle.spec.specs.declared.types.Frame.the-variants.{Bad}
 use Rattle.spec.specs.declared.types.Head.{Head}
 use Rattle.spec.specs.declared.types.Request.{Request}
 use Rattle.spec.specs.Tables.{State}
-use Rattle.columns.specs.Columns.{stateOf}
+use Rattle.spec.specs.Tables.{stateOf}
 use Rattle.columns.proofs.Counting.{holds-own}
 use Rattle.decide.specs.declared.types.Reply.{Reply}
 use Rattle.queue.specs.Gives.{Gives}

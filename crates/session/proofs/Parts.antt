@@ -13,7 +13,6 @@ use Rattle.spec.specs.declared.types.Request.{Request}
 use Rattle.spec.specs.Tables.{State}
 use Rattle.spec.specs.Session.{Text, textOf, replies, atEnd, session, atStart as stateAtStart}
 use Rattle.spec.proofs.Laws.Every.{and-both}
-use Rattle.columns.specs.Columns.{rowsOf}
 use Rattle.frame.specs.Lines.{NoFeed, slice}
 use Rattle.frame.specs.Written.{mostBytes}
 use Rattle.session.specs.declared.types.Session.{Session}

@@ -14,7 +14,7 @@ use Rattle.spec.specs.Tables.{mostRecords, mostClients, State}
 use Rattle.spec.specs.Lists.{isRefused}
 use Rattle.spec.specs.Session.{textOf, replies}
 unfoldable pub use Rattle.spec.specs.Session.{stateAfter}
-use Rattle.columns.specs.Columns.{stateOf}
+use Rattle.spec.specs.Tables.{stateOf}
 use Rattle.session.specs.declared.types.Session.{Session}
 
 -- the state that a session holds in the lent tables: "lends the first part that open names, and of 256 client records as many as

@@ -12,7 +12,7 @@ use types::Session;
 ghost use mathlib.Core.Path.{_≡_};
 ghost use Prim.Native.Nat.{_≤_};
 ghost use lib.ListN.{length};
-ghost use Rattle.columns.specs.Columns.{stateOf};
+ghost use Rattle.spec.specs.Tables.{stateOf};
 ghost use Rattle.frame.specs.Digits.{digitTable};
 ghost use Rattle.session.specs.Answers.{Answered};
 ghost use Rattle.session.specs.Feeding.{Stepped, FedBy};

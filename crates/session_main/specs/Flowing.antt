@@ -21,7 +21,7 @@ use Rattle.libc.specs.Io.{Moved}
 use Rattle.spec.specs.declared.types.Request.{Request}
 use Rattle.session.specs.declared.types.Fed.{Fed}
 use Rattle.spec.specs.Session.{session as sessionOf}
-use Rattle.columns.specs.Columns.{largest64}
+use Rattle.columns.specs.Widths.{largest64}
 use Rattle.frame.specs.Written.{mostBytes}
 use Rattle.session.specs.Standing.{doFit}
 use Rattle.session.specs.Feeding.{owed}

@@ -1,5 +1,5 @@
 -- What the passes ask of tables whose lengths and head are not refused, and what they come to. Assumes nothing.
-use Prim.Native.Nat.{ℕ, _≤_}
+use Prim.Native.Nat.{ℕ, _*_, _≤_}
 use mathlib.Core.Path.{_≡_, ap, _∙_}
 use mathlib.Core.Logic.{_≢_}
 use mathlib.Core.Bool.{Bool, cond, _&&_}
@@ -9,21 +9,20 @@ use lib.ListN.{length, take, drop, replicate}
 use Rattle.spec.specs.declared.types.Head.{Head}
 use Rattle.spec.specs.declared.types.Request.{Request}
 use Rattle.spec.specs.Every.{every, everyFrom}
-use Rattle.spec.specs.Tables.{mostClients, mostRecords, State}
+use Rattle.spec.specs.Tables.{mostClients, mostRecords, width, recordsOf, State, stateOf}
 use Rattle.spec.specs.Sound.{isZeroRequest}
 use Rattle.spec.proofs.Laws.Sound.{Shaped, HeadWithin, head-facts}
-use Rattle.columns.specs.Columns.{countOf, countsOf, stateOf}
 use Rattle.sound.specs.Checks.{tallySize, talliedOf, doesBalance, Bounded, Countable, Passed, headRefusal, tablesRefusal}
-use Rattle.sound.proofs.Laws.{rows-reach, shape-facts}
+use Rattle.sound.proofs.Laws.{shape-facts}
 use Rattle.sound.proofs.Tally.{zero-countable}
 use Rattle.sound.proofs.Found.{head-refused, head-passed, found-sound, sound-refused}
 
-module _ (head : Head) (ws : List Request) (su se dr : List ℕ) where
+module _ (head : Head) (ws : List Request) (xs : List ℕ) where
   abbrev s : State
-  s = stateOf head ws su se dr
+  s = stateOf head ws xs
 
   abbrev pub Headed : ℕ
-  Headed = headRefusal head (length ws) (length (countsOf su se dr))
+  Headed = headRefusal head (length ws) (length xs)
 
   pub refused : Headed ≢ 0 → Headed ≡ tablesRefusal s
   refused h = head-refused s h
@@ -44,16 +43,13 @@ module _ (head : Head) (ws : List Request) (su se dr : List ℕ) where
         )
 
     pub balanced-asked : (tally : List ℕ) → length tally ≡ tallySize
-        → (head .setup .clients ≤ length su) × (head .setup .clients ≤ length se) × (head .setup .clients ≤ length dr) × (head .setup .clients ≤ mostClients)
-        × (length tally ≡ tallySize)
-    balanced-asked tally e =
-        let q = rows-reach countOf su se dr (head .setup .clients) (omega (arith, shaped .clients)) in
-        (q .0, q .1, q .2, headed .setup .most-clients, e)
+        → (width * head .setup .clients ≤ length xs) × (head .setup .clients ≤ mostClients) × (length tally ≡ tallySize)
+    balanced-asked tally e = (omega (arith, shaped .numbers), headed .setup .most-clients, e)
 
     pub contents-told : (tally : List ℕ) (next zero balanced : Bool) (r : ℕ)
         → Passed head (take (head .waiting) ws) (replicate tallySize 0) next tally
         → zero ≡ every isZeroRequest (drop (head .waiting) ws)
-        → balanced ≡ everyFrom (λ c k. doesBalance k (talliedOf tally c)) 0 (take (head .setup .clients) (countsOf su se dr))
+        → balanced ≡ everyFrom (λ c k. doesBalance k (talliedOf tally c)) 0 (take (head .setup .clients) (recordsOf xs))
         → r ≡ cond (next && (zero && balanced)) 0 5
         → r ≡ tablesRefusal s
     contents-told tally next zero balanced r n z b v =

@@ -8,7 +8,7 @@ use mathlib.Core.Logic.{_≢_}
 use native.Mathlib.Omega.{arith}
 use lib.ListN.{length, take, replicate}
 use Rattle.spec.specs.Every.{every, everyFrom}
-use Rattle.spec.specs.Tables.{State, waiting, behind}
+use Rattle.spec.specs.Tables.{State, waiting, behind, clientTable}
 use Rattle.spec.specs.Sound.{isHeadWithin, isZeroRequest, isSound}
 use Rattle.spec.specs.Setup.{firstMatch}
 use Rattle.spec.proofs.Laws.Every.{Value, is-true, is-false, value}
@@ -18,17 +18,17 @@ use Rattle.sound.proofs.Laws.{balanced-tally, shapeOf, shape-facts, sha
 use Rattle.sound.proofs.Pass.{sound-pass}
 
 abbrev pub headRefusalOf : State → ℕ
-headRefusalOf s = headRefusal (s .head) (length (s .waitingTable)) (length (s .clientTable))
+headRefusalOf s = headRefusal (s .head) (length (s .waitingTable)) (length (s .clientNumbers))
 
 -- ---- lengths that fit and a head within its bounds: the three passes find whether the state is sound
 module _ (s : State) (shaped : shapeOf s ≡ true) (headed : isHeadWithin (s .head) ≡ true) where
   pub found-sound : (tally : List ℕ) (next zero balanced : Bool)
       → Passed (s .head) (waiting s) (replicate tallySize 0) next tally
       → zero ≡ every isZeroRequest (behind s)
-      → balanced ≡ everyFrom (λ c k. doesBalance k (talliedOf tally c)) 0 (take (s .head .setup .clients) (s .clientTable))
+      → balanced ≡ everyFrom (λ c k. doesBalance k (talliedOf tally c)) 0 (take (s .head .setup .clients) (clientTable s))
       → (next && (zero && balanced)) ≡ isSound s
   found-sound tally true zero balanced p z b =
-      let q = b ∙ balanced-tally (waiting s) tally (s .head .setup .clients) (s .clientTable) (p .tallied refl)
+      let q = b ∙ balanced-tally (waiting s) tally (s .head .setup .clients) (clientTable s) (p .tallied refl)
       (shape-facts s shaped .clients) (head-facts (s .head) headed .setup .most-clients) in
       rw (sound-pass s, headed, sym (p .verdict), z, q)
   found-sound tally false zero balanced p z b = rw (sound-pass s, headed, sym (p .verdict))

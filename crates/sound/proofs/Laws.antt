@@ -1,6 +1,6 @@
 -- Laws of the passes: the tests of one record and of one client's counts, what one turn of a pass leaves to do, the clients with
 -- the count of the records, and the shape of the tables. Assumes nothing.
-use Prim.Native.Nat.{ℕ, zero, suc, _+_, _-_, _%_, _≤_, _<_}
+use Prim.Native.Nat.{ℕ, zero, suc, _+_, _-_, _%_, _≤_, _<_, _*_}
 use mathlib.Core.Path.{_≡_, refl, sym, ap, subst, _∙_}
 use mathlib.Core.Bool.{Bool, true, false, not, _&&_, _||_, and-eq-true-iff, and-false, and-assoc}
 use mathlib.Core.List.{List, [], _∷_}
@@ -18,7 +18,7 @@ use Rattle.spec.specs.declared.types.Head.{Head}
 use Rattle.spec.specs.declared.types.Request.{Request}
 use Rattle.spec.specs.declared.types.Counts.{Counts}
 use Rattle.spec.specs.Every.{isWithin, every, everyFrom}
-use Rattle.spec.specs.Tables.{mostClients, mostRecords, mostCounted, State}
+use Rattle.spec.specs.Tables.{mostClients, mostRecords, mostCounted, State, width}
 use Rattle.spec.specs.Order.{comesBefore}
 use Rattle.spec.specs.Chart.{roomTo}
 use Rattle.spec.specs.Sound.{waitingOf, isZeroRequest, isBalanced}
@@ -26,10 +26,9 @@ use Rattle.spec.specs.Refusals.{refusal4}
 use Rattle.spec.proofs.Laws.Every.{Value, is-true, is-false, value}
 use Rattle.spec.proofs.Laws.Order.{Compared, compared, before as ordered, after as unordered, earlier, alike, later, alike-later}
 use Rattle.spec.proofs.Laws.Room.{room-back}
+use Rattle.spec.proofs.Laws.Layout.{whole-records}
 use Rattle.spec.proofs.Laws.Sound.{within-test, Shaped}
 use Rattle.table.proofs.Laws.{not-not}
-use Rattle.columns.specs.Columns.{rowsOf}
-use Rattle.columns.proofs.Laws.{length-rows, getD-rows, rest-cons}
 use Rattle.sound.specs.Checks.{hasShape, isNext, doesBalance, tallySize, talliedOf, Tallied}
 use Rattle.sound.proofs.Tally.{tally-zero}
 
@@ -86,21 +85,6 @@ pub next-client : (head : Head) (i : ℕ) (before w : Request) → isNext head i
 unfolding isNext
 next-client head i before w e =
     let p = simp and-eq-true-iff at e in ltb-true (w .client) (head .setup .clients) (p .0 .0 .1)
-
--- ---- each column reaches as far as the rows do
-pub rows-reach : {A : Type 0} (f : ℕ → ℕ → ℕ → A) (xs ys zs : List ℕ) (n : ℕ) → n ≤ length (rowsOf f xs ys zs)
-    → (n ≤ length xs) × (n ≤ length ys) × (n ≤ length zs)
-rows-reach f xs ys zs n h = let e = length-rows f xs ys zs in (omega arith, omega arith, omega arith)
-
--- ---- the first n rows of three columns, from the index i on
-module _ {A : Type 0} (f : ℕ → ℕ → ℕ → A) (xs ys zs : List ℕ) (n i : ℕ) where
-  pub left-cons : n ≤ length xs → n ≤ length ys → n ≤ length zs → i < n
-      → drop i (take n (rowsOf f xs ys zs))
-      ≡ f (getD xs i 0) (getD ys i 0) (getD zs i 0) ∷ drop (i + 1) (take n (rowsOf f xs ys zs))
-  left-cons hx hy hz h =
-      rest-cons (rowsOf f xs ys zs) n i (f 0 0 0) h (omega (arith, length-rows f xs ys zs))
-      ∙ ap (λ (a : A). a ∷ drop (i + 1) (take n (rowsOf f xs ys zs)))
-      (getD-rows f xs ys zs i (f 0 0 0) (omega arith) (omega arith) (omega arith))
 
 -- ---- a pass with one verdict: that so far, b, and that on what is left make up the whole. A turn takes the next test into b. It
 -- ends where b fails, or where nothing is left
@@ -193,16 +177,18 @@ balanced-tally ws tally n cs t e h =
 
 -- ---- the shape of the tables
 abbrev pub shapeOf : State → Bool
-shapeOf s = hasShape (s .head) (length (s .waitingTable)) (length (s .clientTable))
+shapeOf s = hasShape (s .head) (length (s .waitingTable)) (length (s .clientNumbers))
 
 pub shape-facts : (s : State) → shapeOf s ≡ true → Shaped s
 unfolding hasShape
 shape-facts s e =
     let p = simp and-eq-true-iff at e in
+    let n = eqb-true (length (s .clientNumbers)) (width * s .head .setup .clients) (p .0 .1) in
     record {
       some-records = leb-true 1 (length (s .waitingTable)) (p .0 .0 .0);
       most-records = leb-true (length (s .waitingTable)) mostRecords (p .0 .0 .1);
-      clients = eqb-true (length (s .clientTable)) (s .head .setup .clients) (p .0 .1);
+      numbers = n;
+      clients = whole-records (s .clientNumbers) (s .head .setup .clients) n;
       waits = leb-true (s .head .waiting) (length (s .waitingTable)) (p .1);
     }
 
@@ -217,7 +203,7 @@ ltb-not a b = go (value (leb b a))
 pub shape-refused : (s : State) → refusal4 s .holds ≡ not (shapeOf s)
 unfolding hasShape
 shape-refused s =
-    go (isWithin 1 mostRecords (length (s .waitingTable))) (eqb (length (s .clientTable)) (s .head .setup .clients))
+    go (isWithin 1 mostRecords (length (s .waitingTable))) (eqb (length (s .clientNumbers)) (width * s .head .setup .clients))
     (leb (s .head .waiting) (length (s .waitingTable))) (ltb-not (length (s .waitingTable)) (s .head .waiting))
   where
     go : (a b c : Bool) {l : Bool} → l ≡ not c → (not a || not b || l) ≡ not (a && b && c)

@@ -10,7 +10,7 @@ use lib.Dec.{leb}
 use Rattle.spec.specs.declared.types.Head.{Head}
 use Rattle.spec.specs.declared.types.Request.{Request}
 use Rattle.spec.specs.Every.{every, everyFrom}
-use Rattle.spec.specs.Tables.{mostAhead, zeroRequest, State, waiting, behind}
+use Rattle.spec.specs.Tables.{mostAhead, zeroRequest, State, waiting, behind, clientTable}
 use Rattle.spec.specs.Order.{comesBefore, isInOrder}
 use Rattle.spec.specs.Chart.{roomTo, hasNoOverfull}
 use Rattle.spec.specs.Sound.{isHeadWithin, isAhead, isGiven, isClient, isZeroRequest, isBalanced, isSound}
@@ -124,7 +124,7 @@ isFoundSound s =
     isHeadWithin (s .head)
     && areNext (s .head) 0 zeroRequest (waiting s)
     && every isZeroRequest (behind s)
-    && everyFrom (isBalanced (waiting s)) 0 (s .clientTable)
+    && everyFrom (isBalanced (waiting s)) 0 (clientTable s)
 
 pub sound-pass : (s : State) → isSound s ≡ isFoundSound s
 unfolding isSound

@@ -9,17 +9,18 @@ use Rattle.spec.specs.declared.types.Head.{Head}
 use Rattle.spec.specs.declared.types.Request.{Request}
 use Rattle.spec.specs.declared.types.Counts.{Counts}
 use Rattle.spec.specs.Every.{isWithin}
-use Rattle.spec.specs.Tables.{mostClients, mostRecords, mostAhead, mostCounted, clockEnd, zeroRequest, State}
+use Rattle.spec.specs.Tables.{mostClients, mostRecords, mostAhead, mostCounted, clockEnd, zeroRequest, State, width}
 use Rattle.spec.specs.Order.{comesBefore}
 use Rattle.spec.specs.Chart.{roomTo}
 use Rattle.spec.specs.Setup.{firstMatch}
 use Rattle.spec.specs.Refusals.{refusal4, refusal5}
 use Rattle.spec.specs.Sound.{isGiven, isClient, isHeadWithin, waitingOf}
-use Rattle.columns.specs.Columns.{largest16}
+use Rattle.columns.specs.Widths.{largest16}
 
--- where refusal 4 does not hold: tables of these lengths fit the head
+-- where refusal 4 does not hold: a waiting table of so many records and a client table of so many numbers fit the head
 unfoldable pub hasShape : Head → ℕ → ℕ → Bool
-hasShape head records clients = isWithin 1 mostRecords records && eqb clients (head .setup .clients) && leb (head .waiting) records
+hasShape head records numbers =
+    isWithin 1 mostRecords records && eqb numbers (width * head .setup .clients) && leb (head .waiting) records
 
 -- the clauses of soundness that speak of waiting records, but for how far ahead a deadline is (`isNear`), of one record: its
 -- index, the record before it, the record
@@ -119,4 +120,4 @@ tablesRefusal s = firstMatch (refusal4 s ∷ refusal5 s ∷ [])
 
 -- what the lengths and the head call for, before any record is looked at: 4 or 5, or 0
 unfoldable pub headRefusal : Head → ℕ → ℕ → ℕ
-headRefusal head records clients = cond (hasShape head records clients) (cond (isHeadWithin head) 0 5) 4
+headRefusal head records numbers = cond (hasShape head records numbers) (cond (isHeadWithin head) 0 5) 4

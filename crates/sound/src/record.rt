@@ -1,4 +1,5 @@
 // The tests of one record, of one client's counts, and of the head.
+use columns::clients;
 use spec::bounds;
 use spec::types::Counts;
 use spec::types::Head;
@@ -104,11 +105,11 @@ pub(crate) fn is_head_within(head: Head) -> bool
         & (head.last <= bounds::NUMBER_END)
 }
 
-// Whether tables of these lengths fit the head.
-pub(crate) fn has_shape(head: Head, records: usize, clients: usize) -> bool
-    ensures { λ r. ⌜ r ≡ hasShape head records clients ⌝ }
+// Whether a waiting table of so many records and a client table of so many numbers fit the head.
+pub(crate) fn has_shape(head: Head, records: usize, numbers: usize) -> bool
+    ensures { λ r. ⌜ r ≡ hasShape head records numbers ⌝ }
 {
     ((1 <= records) & (records <= bounds::MOST_RECORDS))
-        & (clients as u64 == head.setup.clients)
+        & clients::are_records(numbers, head.setup.clients)
         & (head.waiting <= records as u64)
 }

@@ -1,16 +1,15 @@
 // The waiting records one after the other, then those behind them, then the clients: each record and each client is tested once.
+use columns::clients;
 use spec::bounds::MOST_CLIENTS;
-use spec::types::Counts;
 use spec::types::Head;
 use spec::types::Request;
-ghost use Prim.Native.Nat.{_+_, _-_, _%_, _≤_};
+ghost use Prim.Native.Nat.{_+_, _-_, _*_, _%_, _≤_};
 ghost use mathlib.Core.Path.{_≡_};
 ghost use mathlib.Core.Bool.{true, _&&_};
 ghost use lib.ListN.{length, take, drop};
 ghost use Rattle.spec.specs.Every.{every, everyFrom};
-ghost use Rattle.spec.specs.Tables.{mostClients};
+ghost use Rattle.spec.specs.Tables.{mostClients, width, recordsOf};
 ghost use Rattle.spec.specs.Sound.{isZeroRequest};
-ghost use Rattle.columns.specs.Columns.{countsOf};
 ghost use Rattle.sound.specs.Checks.{tallySize, talliedOf, doesBalance, Countable, Bounded, turn, turns, recordBefore};
 ghost use Rattle.sound.specs.Checks.{asked, Passed};
 
@@ -165,26 +164,15 @@ pub(crate) fn are_zero(t: &[Request], from: usize) -> bool
 }
 
 // Whether the counts of the first n clients balance with the four parts of the tally.
-pub(crate) fn are_balanced(
-    tally: &[u16],
-    submitted: &[u32],
-    served: &[u32],
-    dropped: &[u32],
-    n: usize,
-) -> bool
-    requires { ⌜ (n ≤ length (now submitted)) × (n ≤ length (now served)) × (n ≤ length (now dropped)) × (n ≤ mostClients)
-        × (length (now tally) ≡ tallySize) ⌝ }
+pub(crate) fn are_balanced(tally: &[u16], numbers: &[u32], n: usize) -> bool
+    requires { ⌜ (width * n ≤ length (now numbers)) × (n ≤ mostClients) × (length (now tally) ≡ tallySize) ⌝ }
     ensures { λ r. ⌜ r ≡ everyFrom (λ c k. doesBalance k (talliedOf (now (tally .entry)) c)) 0
-        (take n (countsOf (now (submitted .entry)) (now (served .entry)) (now (dropped .entry)))) ⌝ }
+        (take n (recordsOf (now (numbers .entry)))) ⌝ }
 {
     let mut balanced = true;
     let mut i = 0;
     while i < n {
-        let k = Counts {
-            submitted: submitted[i],
-            served: served[i],
-            dropped: dropped[i],
-        };
+        let k = clients::get(numbers, i);
         balanced = balanced
             & crate::record::does_balance(
                 k,

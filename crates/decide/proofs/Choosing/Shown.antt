@@ -16,7 +16,8 @@ use Rattle.spec.specs.Chart.{dueBy}
 use Rattle.spec.specs.Setup.{firstMatch}
 use Rattle.spec.specs.Refusals.{submitRefusals}
 use Rattle.spec.proofs.Laws.Accepted.{SubmitReady, submit-ready}
-use Rattle.columns.specs.Columns.{stateOf, largest32}
+use Rattle.columns.specs.Widths.{largest32}
+use Rattle.spec.specs.Tables.{stateOf}
 use Rattle.search.specs.Scans.{Sorted, placeBy, candidateCount, overfullFrom, latestOf, putAt}
 use Rattle.search.proofs.Fields.{field-take, due-column}
 use Rattle.search.proofs.Latest.{latest-parts}

@@ -25,8 +25,8 @@ use Rattle.spec.proofs.Laws.Every.{length-mapFrom, getD-mapFrom}
 use Rattle.spec.proofs.Laws.Sound.{Balanced}
 use Rattle.spec.proofs.Laws.Accepted.{TickReady, tick-ready, waiting-length}
 use Rattle.spec.proofs.Calls.Keeps.{Tidy, tidy, Ends, tidy-remove, tidy-restart}
-use Rattle.columns.specs.Columns.{countsOf, Holds, largest32}
-use Rattle.columns.specs.Counted.{oneAdded, restartedCounts, restartedAt}
+use Rattle.columns.specs.Widths.{largest32}
+use Rattle.columns.specs.Clients.{oneAdded, restartedCounts, restartedAt}
 use Rattle.columns.proofs.Fields.{Which, first, second, third, pick}
 use Rattle.columns.proofs.Counting.{fieldOf, oneMore, holds-own, holds-rows, holds-next, holds-more}
 use Rattle.decide.specs.declared.types.Decision.{Decision}
@@ -86,7 +86,7 @@ restarted-after {ws = ws} {cs = cs} period start p t =
 -- ---- what a call hands back
 -- the answer, the head and the columns, each by itself
 pub answers : {o : Outcome} {r : Reply} {su₀ se₀ dr₀ su se dr : List ℕ} → r .answer ≡ o .answer → r .head ≡ o .after .head
-    → Holds (o .after .clientTable) su₀ se₀ dr₀ su se dr → Answers o su₀ se₀ dr₀ r su se dr
+    → Holds (o .clientTable after) su₀ se₀ dr₀ su se dr → Answers o su₀ se₀ dr₀ r su se dr
 answers a h c = record { answer-same = a; head-same = h; counts-same = c }
 
 -- a call whose first match is t, refused or accepted: what it hands back, and the client table that the columns then hold
@@ -94,11 +94,11 @@ module _ (rs : List Refusal) (s : State) (o : Outcome) {t : ℕ} (found : t ≡ 
   pub unless-answers : {r accepted : Reply} {cs : List Counts}
       → (t ≡ 0 → Holds cs su se dr su₁ se₁ dr₁ → Answers o su se dr accepted su₁ se₁ dr₁)
       → r ≡ replyUnless t (s .head) accepted
-      → Holds (cond (eqb t 0) cs (s .clientTable)) su se dr su₁ se₁ dr₁
+      → Holds (cond (eqb t 0) cs (clientTable s)) su se dr su₁ se₁ dr₁
       → Answers (unlessRefused rs s o) su se dr r su₁ se₁ dr₁
   unless-answers {accepted = accepted} {cs = cs} goes e h = rw (← found, e) (go (eqb t 0) (same t 0) h)
     where
-      go : (b : Bool) → Same t 0 b → Holds (cond b cs (s .clientTable)) su se dr su₁ se₁ dr₁
+      go : (b : Bool) → Same t 0 b → Holds (cond b cs (clientTable s)) su se dr su₁ se₁ dr₁
           → Answers (cond b o (record { answer = answer.Refused t; after = s })) su se dr
           (cond b accepted (refusedWith (s .head) t)) su₁ se₁ dr₁
       go true (same-yes z) g = goes z g
@@ -106,7 +106,7 @@ module _ (rs : List Refusal) (s : State) (o : Outcome) {t : ℕ} (found : t ≡ 
 
 -- ---- open
 pub open-answers : (setup : Setup) (s : State) {refusal : ℕ} {r : Reply} {su se dr su₁ se₁ dr₁ : List ℕ}
-    → refusal ≡ firstMatch (openRefusals setup s) → s .clientTable ≡ countsOf su se dr
+    → refusal ≡ firstMatch (openRefusals setup s) → clientTable s ≡ countsOf su se dr
     → (r ≡ openReply refusal (s .head) setup) × Holds (openCounts refusal (countsOf su se dr)) su se dr su₁ se₁ dr₁
     → Answers (openOf setup s) su se dr r su₁ se₁ dr₁
 unfolding openOf openAccepted
@@ -132,7 +132,7 @@ module _ (s : State) (r : TickReady s) where
       → Tidy clock (s .head .last) (s .head .setup .clients) ws cs → length cs ≡ length (countsOf su₀ se₀ dr₀)
       → Holds cs su₀ se₀ dr₀ su se dr
       → Holds (restartedAt (s .head .setup .period) (raised clock) (countsOf su se dr)) su se dr su₁ se₁ dr₁
-      → Holds (oneLater ws cs s .clientTable) su₀ se₀ dr₀ su₁ se₁ dr₁
+      → Holds (oneLater ws cs clientTable s) su₀ se₀ dr₀ su₁ se₁ dr₁
   unfolding nextState
   later-holds ws cs t e h g =
       holds-next h same-length
@@ -147,7 +147,7 @@ module _ (s : State) (r : TickReady s) where
           tidy-restart (s .head .setup .period) (suc clock) clock (s .head .last) (s .head .setup .clients) ws cs t .counted
           ∙ sym (t .counted)
 
-  module _ {su se dr su₁ se₁ dr₁ : List ℕ} (counts : s .clientTable ≡ countsOf su se dr) where
+  module _ {su se dr su₁ se₁ dr₁ : List ℕ} (counts : clientTable s ≡ countsOf su se dr) where
     idle-answers : waiting s ≡ []
         → Holds (restartedAt (s .head .setup .period) (raised clock) (countsOf su se dr)) su se dr su₁ se₁ dr₁
         → Answers (tickAccepted [] s) su se dr
@@ -155,8 +155,8 @@ module _ (s : State) (r : TickReady s) where
     unfolding tickAccepted
     idle-answers e g =
         answers refl
-        (later-head [] (s .clientTable) (s .head .waiting) (sym (waiting-length s (r .ready .shape)) ∙ ap length e))
-        (later-holds [] (s .clientTable) (rw e at (tidy s (r .ready))) (ap length counts) (holds-same counts) g)
+        (later-head [] (clientTable s) (s .head .waiting) (sym (waiting-length s (r .ready .shape)) ∙ ap length e))
+        (later-holds [] (clientTable s) (rw e at (tidy s (r .ready))) (ap length counts) (holds-same counts) g)
 
     served-answers : (w : Request) (ws : List Request) → waiting s ≡ w ∷ ws
         → Holds (restartedAt (s .head .setup .period) (raised clock) (countsOf su (oneAdded (w .client) se) dr))
@@ -172,14 +172,14 @@ module _ (s : State) (r : TickReady s) where
         answers refl
         (later-head ws cs (s .head .waiting - 1) (omega (arith, waiting-length s (r .ready .shape), ap length e)))
         (later-holds ws cs
-        (tidy-remove oneMoreServed ends 0 clock (s .head .last) (s .head .setup .clients) (w ∷ ws) (s .clientTable) (omega arith) all)
-        (length-change oneMoreServed (w .client) (s .clientTable) ∙ ap length counts)
+        (tidy-remove oneMoreServed ends 0 clock (s .head .last) (s .head .setup .clients) (w ∷ ws) (clientTable s) (omega arith) all)
+        (length-change oneMoreServed (w .client) (clientTable s) ∙ ap length counts)
         (holds-counted all (ap length counts) (holds-same counts) second (w .client) (all .owned .0)) g)
       where
         cs : List Counts
-        cs = change oneMoreServed (w .client) (s .clientTable)
+        cs = change oneMoreServed (w .client) (clientTable s)
 
-        all : Tidy clock (s .head .last) (s .head .setup .clients) (w ∷ ws) (s .clientTable)
+        all : Tidy clock (s .head .last) (s .head .setup .clients) (w ∷ ws) (clientTable s)
         all = rw e at (tidy s (r .ready))
 
         ends : Ends oneMoreServed
@@ -187,7 +187,7 @@ module _ (s : State) (r : TickReady s) where
 
 -- no tick decides on Keep or Drop
 pub tick-answers : (s : State) {gone : Request} {decision : Decision} {r : Reply} {su se dr su₁ se₁ dr₁ : List ℕ}
-    → decision ≡ tickDecision s → s .clientTable ≡ countsOf su se dr
+    → decision ≡ tickDecision s → clientTable s ≡ countsOf su se dr
     → (decision ≡ Serve → gone ≡ getD (waiting s) 0 zeroRequest)
     → (r ≡ tickReply (s .head) gone decision)
     × Holds (tickCounts (s .head) decision (countsOf su (servedAfter gone decision se) dr)) su (servedAfter gone decision se) dr su₁ se₁ dr₁

@@ -19,7 +19,7 @@ use Rattle.spec.proofs.Laws.Every.{length-insert, length-remove, remove-insert,
 use Rattle.spec.proofs.Laws.Order.{place-most, length-put}
 use Rattle.spec.proofs.Laws.Accepted.{Ready, SubmitReady, submit-ready, tick-ready, waiting-length, table-held}
 use Rattle.spec.proofs.Calls.Victim.{victim-place}
-use Rattle.columns.specs.Columns.{largest64}
+use Rattle.columns.specs.Widths.{largest64}
 use Rattle.table.specs.Records.{exchanged, takenOut}
 use Rattle.decide.specs.declared.types.Decision.{Decision}
 use Rattle.decide.specs.declared.types.Decision.the-variants.{Drop, Serve}

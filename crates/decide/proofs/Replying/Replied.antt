@@ -25,8 +25,7 @@ use Rattle.spec.proofs.Laws.Sound.{Owned}
 use Rattle.spec.proofs.Laws.Accepted.{SubmitReady, submit-ready, report-ready, waiting-length}
 use Rattle.spec.proofs.Calls.Victim.{victim-place}
 use Rattle.spec.proofs.Calls.Keeps.{tidy, tidy-put}
-use Rattle.columns.specs.Columns.{countsOf, Holds}
-use Rattle.columns.specs.Counted.{oneAdded, waitingCount}
+use Rattle.columns.specs.Clients.{oneAdded, waitingCount}
 use Rattle.columns.proofs.Fields.{first, third}
 use Rattle.decide.specs.declared.types.Decision.{Decision}
 use Rattle.decide.specs.declared.types.Decision.the-variants.{Drop}
@@ -74,7 +73,7 @@ module _ (client deadline : ℕ) (s : State) (ready : SubmitReady client deadlin
         waiting-length s (ready .ready .shape),
       )
 
-  module _ (su se dr : List ℕ) (counts : s .clientTable ≡ countsOf su se dr) where
+  module _ (su se dr : List ℕ) (counts : clientTable s ≡ countsOf su se dr) where
     counted : Holds (countedIn client s) su se dr (oneAdded client su) se dr
     counted = holds-counted (tidy s (ready .ready)) (ap length counts) (holds-same counts) first client (ready .exists)
 
@@ -93,12 +92,12 @@ module _ (client deadline : ℕ) (s : State) (ready : SubmitReady client deadlin
         answers (rw given)
         (numbered-head (removeAt k all) (s .head) _ given (as-many k h))
         (holds-counted (tidy-put client deadline s ready)
-        (length-change oneMoreSubmitted client (s .clientTable) ∙ ap length counts) counted third _
+        (length-change oneMoreSubmitted client (clientTable s) ∙ ap length counts) counted third _
         (all-at (Owned (s .head .setup .clients)) all k zeroRequest h (tidy-put client deadline s ready .owned)))
 
 -- by the decision, where `gone` is the victim: what is handed back, and what becomes of the two columns
 pub submit-answers : (client deadline : ℕ) (s : State) {gone : Request} {decision : Decision} {r : Reply} {su se dr su₁ dr₁ : List ℕ}
-    → decision ≡ submitDecision client deadline s → s .clientTable ≡ countsOf su se dr
+    → decision ≡ submitDecision client deadline s → clientTable s ≡ countsOf su se dr
     → ((place victim : ℕ) → decision ≡ Drop place victim → gone ≡ requestAt victim client deadline s)
     → (r ≡ submitReply (s .head) gone decision) × (su₁ ≡ submittedAfter client decision su) × (dr₁ ≡ droppedAfter gone decision dr)
     → Answers (submitOf client deadline s) su se dr r su₁ se dr₁
@@ -119,17 +118,17 @@ submit-answers client deadline s {gone} {su = su} {se} {dr} e counts g (a, b, c)
 -- ---- a report and a chart
 -- the counts of a client balance, so that what is neither served nor dropped waits
 pub report-answers : (client : ℕ) (s : State) {refusal : ℕ} {r : Reply} {su se dr : List ℕ}
-    → refusal ≡ firstMatch (reportRefusals client s) → s .clientTable ≡ countsOf su se dr
+    → refusal ≡ firstMatch (reportRefusals client s) → clientTable s ≡ countsOf su se dr
     → r ≡ reportReply refusal (s .head) client (getD (countsOf su se dr) client zeroCounts)
     → Answers (reportOf client s) su se dr r su se dr
 unfolding reportOf reportAccepted
 report-answers client s {refusal} {su = su} {se} {dr} found counts e =
     unless-answers (reportRefusals client s) s (reportAccepted client s) found
-    {accepted = reportedWith (s .head) client own} {cs = s .clientTable}
+    {accepted = reportedWith (s .head) client own} {cs = clientTable s}
     (λ z g. answers (rw (← balance z)) refl g) (rw counts e) (go (eqb refusal 0))
   where
     own : Counts
-    own = getD (s .clientTable) client zeroCounts
+    own = getD (clientTable s) client zeroCounts
 
     balance : refusal ≡ 0 → waitingCount own ≡ waitingOf client (waiting s)
     balance z =
@@ -137,7 +136,7 @@ report-answers client s {refusal} {su = su} {se} {dr} found counts e =
         let b = r .ready .sound .balanced client (omega (arith, r .exists, r .ready .shape .clients)) in
         omega (arith, b)
 
-    go : (b : Bool) → Holds (cond b (s .clientTable) (s .clientTable)) su se dr su se dr
+    go : (b : Bool) → Holds (cond b (clientTable s) (clientTable s)) su se dr su se dr
     go true = holds-same counts
     go false = holds-same counts
 

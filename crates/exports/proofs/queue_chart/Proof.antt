@@ -5,7 +5,7 @@ use Rattle.walk.proofs.Prelude.{drop, lent, shown, so, Shape, Walk, proved, var
 use Rattle.queue.proofs.Values.{a-reply}
 use Rattle.spec.specs.declared.types.Head.{Head}
 use Rattle.spec.specs.Calls.{chartOf, chartOutput}
-use Rattle.columns.specs.Columns.{stateOf}
+use Rattle.spec.specs.Tables.{stateOf}
 use Rattle.table.proofs.Rows.{R}
 use Rattle.table.proofs.Heads.{the-head, a-head}
 use Rattle.exports.proofs.Calls.{Exports, cites-numbers}

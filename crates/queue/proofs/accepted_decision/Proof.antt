@@ -4,7 +4,8 @@
 use Rattle.walk.proofs.Prelude.{_≡_, refl, sym, _∙_, subst, ℕ, _+_, _<_, _≤_, _^_, List, [], _∷_, arith, length, replicate, length-replicate, lit<, URA, w16, w64, vint, SProp, Memory, Routine, Heap, Tables, Atoms, Fun, Given, _$_, !, agg, stop, from, addr, lit, of-opd, bin, and-then, no-more, uint-makes, uint-lawful, uint-copy, u16, u32, Room, tripleOf, id⊢}
 use Rattle.walk.proofs.Prelude.{heard, Param, number, loan, shown, taken, so, Shape, Walk, proved, var, vars, field-var, sets, empties, gives, takes-out, passed-on, made, fit, of-number, of-nothing, calls-for}
 use Rattle.walk.proofs.Slices.Arrays.{ends-array, array-lent, array-shared, repeats}
-use Rattle.columns.specs.Columns.{stateOf, largest16}
+use Rattle.columns.specs.Widths.{largest16}
+use Rattle.spec.specs.Tables.{stateOf}
 use Rattle.decide.proofs.Choosing.Chosen.{choice-found}
 use Rattle.decide.proofs.Choosing.Shown.{waits, few, clock, clients, rises, placed-within, candidates-within, found-all}
 use Rattle.queue.proofs.Values.{DecisionT, a-decision}

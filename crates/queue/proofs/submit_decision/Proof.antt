@@ -3,7 +3,7 @@
 use Rattle.walk.proofs.Prelude.{_≡_, refl, sym, _∙_, ℕ, List, [], _∷_, length, URA, w64, SProp, Memory, Routine, Heap, Tables, Atoms, Fun, tables, Given, _$_, !, lit, of-opd, bin, first, u32, tripleOf, id⊢}
 use Rattle.walk.proofs.Prelude.{drop, number, branches-then, skips-then, shown, taken, so, Shape, Walk, proved, var, vars, field-var, sets, gives, gives-within, passed-on, made, fit, of-number, calls-for}
 use Rattle.walk.proofs.Steps.{into-call}
-use Rattle.columns.specs.Columns.{stateOf}
+use Rattle.spec.specs.Tables.{stateOf}
 use Rattle.decide.proofs.Matching.{submit-told}
 use Rattle.decide.proofs.States.{submit-refused, submit-goes}
 use Rattle.queue.proofs.Values.{DecisionT, a-decision}

@@ -17,7 +17,7 @@ use Rattle.spec.specs.Setup.{Refusal, firstMatch, setupRefusals}
 use Rattle.spec.specs.Refusals.{openRefusals}
 use Rattle.spec.specs.Calls.{Outcome, unlessRefused}
 use Rattle.spec.proofs.Laws.Every.{Value, is-true, is-false, value, cond-true}
-use Rattle.columns.specs.Columns.{countsOf, stateOf}
+use Rattle.spec.specs.Tables.{stateOf}
 use Rattle.columns.proofs.Counting.{holds-rows}
 use Rattle.decide.specs.declared.types.Reply.{Reply}
 use Rattle.queue.specs.Gives.{Gives}
@@ -70,8 +70,8 @@ up-within most n = go (leb n most) refl
 
 -- so open is refused alike on tables as long as a frame names and on those that are lent
 pub open-match : (setup : Setup) (records : ℕ) (t u : State)
-    → length (t .waitingTable) ≡ upTo mostRecords records → length (t .clientTable) ≡ upTo mostClients (setup .clients)
-    → length (u .waitingTable) ≡ records → length (u .clientTable) ≡ setup .clients
+    → length (t .waitingTable) ≡ upTo mostRecords records → length (clientTable t) ≡ upTo mostClients (setup .clients)
+    → length (u .waitingTable) ≡ records → length (clientTable u) ≡ setup .clients
     → firstMatch (openRefusals setup t) ≡ firstMatch (openRefusals setup u)
 unfolding firstMatch setupRefusals openRefusals
 open-match setup records t u a b c d = go (value (leb (setup .clients) mostClients))
@@ -83,7 +83,7 @@ open-match setup records t u a b c d = go (value (leb (setup .clients) mostClien
 
 -- ---- what a call hands back, as a state
 pub gives-state : {o : Outcome} {su se dr : List ℕ} {r : Reply} {zs : List Request} {us vs ds : List ℕ}
-    → Gives o su se dr r zs us vs ds → length (o .after .clientTable) ≡ length (countsOf su se dr)
+    → Gives o su se dr r zs us vs ds → length (o .clientTable after) ≡ length (countsOf su se dr)
     → stateOf (r .head) zs us vs ds ≡ o .after
 gives-state g e =
     let counts = holds-rows (g .counts-same) e in

@@ -27,8 +27,8 @@ use Rattle.spec.proofs.Demands.Demand1.{keeps-lengths, Charts, chart-written}
 use Rattle.spec.proofs.Laws.Every.{all-at}
 use Rattle.spec.proofs.Laws.Sound.{Ahead}
 use Rattle.spec.proofs.Laws.Accepted.{Decided, accepts, refuses, decided, chart-ready, Ready, waiting-length}
-use Rattle.columns.specs.Columns.{largest64}
-use Rattle.columns.proofs.Fields.{starts-column, starts-below}
+use Rattle.columns.specs.Widths.{largest64}
+use Rattle.columns.proofs.Drawing.{starts-column, starts-below}
 use Rattle.sound.proofs.Laws.{shapeOf, shape-facts, shape-refused}
 use Rattle.frame.specs.Written.{CanDraw, replyBytes}
 use Rattle.session.specs.Answers.{outcomeFor, startsFor}
@@ -37,7 +37,7 @@ use Rattle.session.proofs.Laws.Lending.{alike}
 -- ---- frames that open no session
 -- the tables keep their shape, and what the call gives is the frame's reply
 pub record Plain (frame : Frame) (starts : List ℕ) (t : State) : Type 0 where
-  pub long : length (outcomeFor frame starts t .after .clientTable) ≡ length (t .clientTable)
+  pub long : length (outcomeFor frame starts t .clientTable after) ≡ length (clientTable t)
   pub clients : outcomeFor frame starts t .after .head .setup .clients ≡ t .head .setup .clients
   pub after : outcomeFor frame starts t .after ≡ reply frame t .after
   pub bytes : replyBytes (outcomeFor frame starts t .after .head .setup) (outcomeFor frame starts t .answer) (startsFor frame starts t) ≡ reply frame t .bytes
@@ -58,7 +58,7 @@ told a (accepts e) = a
 told {rs} {t} a (refuses e) = told-refused (firstMatch rs) t
 
 told-plain : (frame : Frame) (starts : List ℕ) (t : State) → reply frame t ≡ replyOf (outcomeFor frame starts t)
-    → length (outcomeFor frame starts t .after .clientTable) ≡ length (t .clientTable) → Told t (outcomeFor frame starts t)
+    → length (outcomeFor frame starts t .clientTable after) ≡ length (clientTable t) → Told t (outcomeFor frame starts t)
     → Plain frame starts t
 told-plain frame starts t e l a =
     record {

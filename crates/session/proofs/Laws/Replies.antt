@@ -21,7 +21,7 @@ use Rattle.spec.specs.Lists.{isRefused}
 use Rattle.spec.specs.Frames.{answerLine}
 use Rattle.spec.specs.Session.{reply, lent}
 use Rattle.spec.proofs.Laws.Accepted.{OpenReady, open-ready}
-use Rattle.columns.specs.Columns.{countOf, stateOf}
+use Rattle.spec.specs.Tables.{stateOf}
 use Rattle.columns.proofs.Laws.{length-rows}
 use Rattle.columns.proofs.Counting.{holds-own}
 use Rattle.frame.specs.Written.{CanDraw, replyBytes}
@@ -130,7 +130,7 @@ module _ (s : Session) (ws : List Request) (su se dr starts : List ℕ)
     records-lent : length (inCode .waitingTable) ≡ n
     records-lent = omega (arith, length-take n ws, up-most mostRecords records, facts .waiting-long)
 
-    clients-lent : length (inCode .clientTable) ≡ c
+    clients-lent : length (clientTable inCode) ≡ c
     clients-lent =
         omega (
           arith,
@@ -169,7 +169,7 @@ module _ (s : Session) (ws : List Request) (su se dr starts : List ℕ)
               (recordsAfter opening (r .answer) (s .records)) (drop n ws) (drop c su)
               (drop c se) (drop c dr) (rw (g .answer-same) (sym same-records))
               (ap (λ (x : Head). x .setup .clients) (g .head-same) ∙ sym same-clients)
-              ∙ gives-state g (length-replicate (length (inCode .clientTable)) zeroCounts)
+              ∙ gives-state g (length-replicate (length (clientTable inCode)) zeroCounts)
               ∙ rw (
                 records-lent,
                 clients-lent,

@@ -19,7 +19,7 @@ use Rattle.decide.proofs.refusals.open_refusal.Tie as tie
 
 -- "4. .. the waiting table has no records or more than 2,048": or else the client table decides
 by-owners : (clients : ℕ) (s : State) → not (isWithin 1 mostRecords (length (s .waitingTable))) ≡ false
-    → refusal4Open clients s .holds ≡ not (eqb (length (s .clientTable)) clients)
+    → refusal4Open clients s .holds ≡ not (eqb (length (clientTable s)) clients)
 by-owners clients s e = rw e
 
 setup-refusal-requires : tie.Need-setup-refusal-requires

@@ -12,7 +12,6 @@ use Rattle.spec.specs.declared.types.Counts.{Counts}
 use Rattle.spec.specs.Tables.{mostAhead, numberEnd, zeroRequest, State}
 use Rattle.spec.specs.Setup.{firstMatch}
 use Rattle.spec.specs.Refusals.{refusal9, refusal10}
-use Rattle.columns.specs.Columns.{countsOf}
 use Rattle.decide.specs.Matches.{told, submitMatch}
 use Rattle.decide.proofs.Matching.{tables-match, match-here, match-next, match-only, early7, late7, own6, own7, own8}
 use Rattle.decide.proofs.Matching.{after8}
@@ -77,7 +76,7 @@ returns-5 c =
 after-five : (c : tie.Else5) → let a = c .before .before .before .before .before .before .before .before .before .before .before .before .before .args in
     let s = state (a .head) (a .records) (now (a .submitted)) (now (a .served)) (now (a .dropped)) in
     (n : ℕ) → n ≡ firstMatch (refusal9 s ∷ refusal10 s ∷ [])
-    → n ≡ submitMatch (a .tables) (a .head) (a .records) (s .clientTable) (a .client) (a .deadline)
+    → n ≡ submitMatch (a .tables) (a .head) (a .records) (clientTable s) (a .client) (a .deadline)
 unfolding submitMatch
 after-five c n e =
     let m = c .before .before in
@@ -94,7 +93,7 @@ returns-6 c = after-five (c .before .before) 9 (match-here _ _ (eq-eqb _ numberE
 after-six : (c : tie.Else6) → let a = c .before .before .before .before .before .before .before .before .before .before .before .before .before .before .before .args in
     let s = state (a .head) (a .records) (now (a .submitted)) (now (a .served)) (now (a .dropped)) in
     (n : ℕ) → n ≡ firstMatch (refusal10 s ∷ [])
-    → n ≡ submitMatch (a .tables) (a .head) (a .records) (s .clientTable) (a .client) (a .deadline)
+    → n ≡ submitMatch (a .tables) (a .head) (a .records) (clientTable s) (a .client) (a .deadline)
 after-six c n e = after-five (c .before .before) n (match-next _ _ (ne-eqb _ numberEnd (c .if6 .left)) e)
 
 returns-7 : tie.Need-returns-7

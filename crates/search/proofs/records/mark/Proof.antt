@@ -9,7 +9,7 @@ use Rattle.spec.specs.declared.types.Request.{Request}
 use Rattle.spec.specs.Tables.{mostClients, zeroRequest, clientsOf}
 use Rattle.table.proofs.Rows.{R, a-request, client-fits}
 use Rattle.table.proofs.get as get
-use Rattle.columns.specs.Columns.{largest16}
+use Rattle.columns.specs.Widths.{largest16}
 use Rattle.search.specs.Scans.{latestOf}
 use Rattle.search.proofs.Scanning.{latest-next, latest-all}
 use Rattle.search.proofs.records.note as note

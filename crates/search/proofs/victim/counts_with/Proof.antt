@@ -1,9 +1,12 @@
 -- `search::victim::counts_with` meets its contract. Assumes nothing.
+use Prim.Native.Nat.{ℕ}
+use mathlib.Core.Path.{_≡_, _∙_, ap}
 use native.Mathlib.Omega.{arith}
 use borrow.Author.Needs.{needs}
-use Rattle.columns.specs.Columns.{countOf}
-use Rattle.columns.proofs.Laws.{length-rows}
-use Rattle.search.proofs.Counted.{submitted-at, counted-other, counted-none, counted-same}
+use lib.ListN.{getD}
+use Rattle.spec.specs.declared.types.Counts.{Counts}
+use Rattle.spec.specs.Tables.{zeroCounts, recordsOf}
+use Rattle.search.proofs.Counted.{counted-other, counted-none, counted-same}
 use Rattle.search.proofs.victim.counts_with.Statement.{statement}
 use Rattle.search.proofs.victim.counts_with.Tie as tie
 
@@ -11,34 +14,29 @@ counts-at-requires : tie.Need-counts-at-requires
 counts-at-requires c κs = search needs
 
 returns : tie.Need-returns
-returns c =
-    counted-other _ _ _ _ (c .before .counts-at .ensures) (c .if1 .taken)
+returns c = counted-other _ _ _ _ (c .before .counts-at .ensures) (c .if1 .taken)
 
-shortest-requires : tie.Need-shortest-requires
-shortest-requires c κs = search needs
+record-count-requires : tie.Need-record-count-requires
+record-count-requires c κs = search needs
 
 returns-2 : tie.Need-returns-2
 returns-2 c =
-    let a = c .before .before .before .before .before .before .before .args in
-    counted-none _ _ _ _ (c .before .before .before .counts-at .ensures)
-    (omega (arith, length-rows countOf (a .submitted .now) (a .served .now) (a .dropped .now))) (omega arith)
+    counted-none _ _ _ _ (c .before .before .before .counts-at .ensures) (omega (arith, c .before .record-count .ensures)) (omega arith)
 
-add-t13 : tie.Need-add-t13
-add-t13 c =
-    let a = c .before .before .before .before .before .before .before .before .args in
+add-t8 : tie.Need-add-t8
+add-t8 c =
+    let found = c .before .before .before .before .counts-at in
+    let a = c .before .before .before .before .before .before .args in
+    let same : a .c ≡ a .client = omega arith in
     omega (
       arith,
-      submitted-at (a .submitted .now) (a .served .now) (a .dropped .now) (a .client) (a .c)
-          (c .before .before .before .before .counts-at .result) (c .before .before .before .before .counts-at .ensures)
-          (omega arith) (omega arith),
+      ap (λ (k : Counts). k .submitted) (found .ensures)
+          ∙ ap (λ (i : ℕ). getD (recordsOf (a .numbers .now)) i zeroCounts .submitted) same,
     )
 
 returns-3 : tie.Need-returns-3
 returns-3 c =
-    let a = c .before .before .before .before .before .before .before .before .args in
-    counted-same _ _ _ _ (c .before .before .before .before .counts-at .ensures)
-    (omega (arith, length-rows countOf (a .submitted .now) (a .served .now) (a .dropped .now))) (omega arith)
+    counted-same _ _ _ _ (c .before .before .before .before .counts-at .ensures) (omega arith) (omega arith)
 
 pub counts-with-spec : {M : Type 1} → statement M
-counts-with-spec =
-    tie.close (tie.spec counts-at-requires returns shortest-requires returns-2 add-t13 returns-3)
+counts-with-spec = tie.close (tie.spec counts-at-requires returns record-count-requires returns-2 add-t8 returns-3)

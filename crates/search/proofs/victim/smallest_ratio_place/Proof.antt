@@ -3,17 +3,18 @@ use Prim.Native.Nat.{_-_, _≤_}
 use mathlib.Core.Path.{_≡_}
 use native.Mathlib.Omega.{arith}
 use borrow.Author.Needs.{needs}
+use Rattle.spec.specs.Tables.{recordsOf}
 use Rattle.search.specs.Scans.{countsWith, bestOf}
 use Rattle.search.proofs.Choosing.{best-none, best-next, best-last}
 use Rattle.search.proofs.victim.smallest_ratio_place.Statement.{statement}
 use Rattle.search.proofs.victim.smallest_ratio_place.Tie as tie
 
 abbrev Inv-loop : tie.InvT-loop
-Inv-loop latest submitted served dropped client n best₀ c₀ best c =
-    (c ≤ n) × (best ≡ bestOf (countsWith client submitted served dropped) latest c)
+Inv-loop latest numbers client n best₀ c₀ best c =
+    (c ≤ n) × (best ≡ bestOf (countsWith client (recordsOf numbers)) latest c)
 
 abbrev μ-loop : tie.MeasureT-loop
-μ-loop latest submitted served dropped client n best₀ c₀ best c = n - c
+μ-loop latest numbers client n best₀ c₀ best c = n - c
 
 loop-holds : tie.Need-loop-holds Inv-loop μ-loop
 loop-holds c = (omega arith, best-none _ _)
@@ -21,11 +22,11 @@ loop-holds c = (omega arith, best-none _ _)
 counts-with-requires : tie.Need-counts-with-requires Inv-loop μ-loop
 counts-with-requires c κs = search needs
 
-mul-t14 : tie.Need-mul-t14 Inv-loop μ-loop
-mul-t14 c = search needs
+mul-t12 : tie.Need-mul-t12 Inv-loop μ-loop
+mul-t12 c = search needs
 
-shared-slice-read-t16 : tie.Need-shared-slice-read-t16 Inv-loop μ-loop
-shared-slice-read-t16 c = search needs
+shared-slice-read-t14 : tie.Need-shared-slice-read-t14 Inv-loop μ-loop
+shared-slice-read-t14 c = search needs
 
 better-requires : tie.Need-better-requires Inv-loop μ-loop
 better-requires c κs = search needs
@@ -61,8 +62,8 @@ smallest-ratio-place-spec =
     μ-loop
     loop-holds
     counts-with-requires
-    mul-t14
-    shared-slice-read-t16
+    mul-t12
+    shared-slice-read-t14
     better-requires
     add-c
     loop-less

@@ -22,7 +22,7 @@ zeros-long = length-replicate {A = ℕ} 1024 0
 module _ {M : Type 1} (𝓤 : URA M) (H : Heap 𝓤) (A : Atoms 𝓤) (W : Given 𝓤 H A) (mem : Memory → SProp 𝓤) (run : Routine → Fun 𝓤) where
   abbrev shape : Shape W
   shape = record {
-    params = shown R ∷ shown u32 ∷ shown u32 ∷ shown u32 ∷ taken a-head ∷ [];
+    params = shown R ∷ shown u32 ∷ taken a-head ∷ [];
     result = u64;
     clauses = f.clauses 𝓤 H A mem run;
     code = f.Code.function;
@@ -36,38 +36,36 @@ module _ {M : Type 1} (𝓤 : URA M) (H : Heap 𝓤) (A : Atoms 𝓤) (W : Given
   }
 
   walk : (𝓣 : Tables 𝓤 H) → Walk shape 𝓣
-  walk 𝓣 known-next known-zero known-balanced known-verdict κs qs s₀ s₁ s₂ s₃ head head-is g Q leaves bs =
+  walk 𝓣 known-next known-zero known-balanced known-verdict κs qs s₀ s₁ head head-is g Q leaves bs =
       let ws : List Request = s₀ .list in
-      let su : List ℕ = s₁ .list in
-      let se : List ℕ = s₂ .list in
-      let dr : List ℕ = s₃ .list in
-      let l₆ : ℕ = bs .1 .1 .1 .1 .1 .1 .0 in
+      let xs : List ℕ = s₁ .list in
+      let l₄ : ℕ = bs .1 .1 .1 .1 .0 in
       let tally-room : Room u16 (length zeros) = subst (Room u16) (sym zeros-long) (lit< tt, lit< tt) in
       let waiting : Param 𝓤 H A = number W (head .waiting) (waiting-fits head head-is) in
       heard ! _ (λ asked.
-      takes-out ! 6 refl $ repeats ! u16 (uint-lawful 𝓤 H A W w16) (uint-copy 𝓤 H A W w16) (uint-makes 𝓤 H A W w16) 1024 0 (vint w16 0) (refl, lit< tt) l₆ (lit ! tt) (from ! (stop !)) (
+      takes-out ! 4 refl $ repeats ! u16 (uint-lawful 𝓤 H A W w16) (uint-copy 𝓤 H A W w16) (uint-makes 𝓤 H A W w16) 1024 0 (vint w16 0) (refl, lit< tt) l₄ (lit ! tt) (from ! (stop !)) (
       sets ! (of-opd ! (field-var ! refl refl refl)) refl (tt, fit (waiting-fits head head-is)) $
       sets ! (addr ! (from ! (stop !))) refl (tt, tt) $
       sets ! (agg ! (and-then ! (var ! refl) (and-then ! (big-lit ! (fit (lit< tt))) (no-more !)))) refl (tt, (tt, (fit (lit< tt), tt))) $
       -- let next = tables::are_next(waiting, &mut tally, head, n);
-      calls-for ! 𝓣 (1 ∷ 0 ∷ []) (passed-on W s₀ ∷ loan (array-lent W u16 1024 l₆ tt zeros tally-room zeros-long) ∷ the-head W head head-is ∷ waiting ∷ []) of-flag
-      (λ c. known-next) (λ c h. h) (so 𝓤 (next-asked head ws su se dr asked)) refl (λ c. vars ! (refl, (refl, (refl, (refl, tt))))) (λ _. refl) (λ next last₁ passed-next kept₁ _.
+      calls-for ! 𝓣 (1 ∷ 0 ∷ []) (passed-on W s₀ ∷ loan (array-lent W u16 1024 l₄ tt zeros tally-room zeros-long) ∷ the-head W head head-is ∷ waiting ∷ []) of-flag
+      (λ c. known-next) (λ c h. h) (so 𝓤 (next-asked head ws xs asked)) refl (λ c. vars ! (refl, (refl, (refl, (refl, tt))))) (λ _. refl) (λ next last₁ passed-next kept₁ _.
       let tally : List ℕ = last₁ .1 .0 in
       let size : length tally ≡ 1024 = kept₁ .1 .0 ∙ zeros-long in
       -- let zero = tables::are_zero(waiting, n);
       calls-for ! 𝓣 (1 ∷ []) (passed-on W s₀ ∷ waiting ∷ []) of-flag
-      (λ c. known-zero) (λ c h. h) (so 𝓤 (next-asked head ws su se dr asked .1)) refl (λ c. vars ! (refl, (refl, tt))) (λ _. refl) (λ zero last₂ told-zero kept₂ _.
+      (λ c. known-zero) (λ c h. h) (so 𝓤 (next-asked head ws xs asked .1)) refl (λ c. vars ! (refl, (refl, tt))) (λ _. refl) (λ zero last₂ told-zero kept₂ _.
       sets ! (addr ! (from ! (stop !))) refl (tt, tt) $
       sets ! (agg ! (and-then ! (var ! refl) (and-then ! (big-lit ! (fit (lit< tt))) (no-more !)))) refl (tt, (tt, (fit (lit< tt), tt))) $
       sets ! (of-opd ! (inner-var ! refl refl refl refl refl)) refl (tt, fit (clients-fit head head-is)) $
-      -- let balanced = tables::are_balanced(&tally, submitted, served, dropped, head.setup.clients as usize);
-      calls-for ! 𝓣 (0 ∷ 2 ∷ 3 ∷ 4 ∷ []) (loan (array-shared W u16 1024 l₆ tt tally (subst (Room u16) (sym (kept₁ .1 .0)) tally-room) size) ∷ passed-on W s₁ ∷ passed-on W s₂ ∷ passed-on W s₃ ∷ number W (head .setup .clients) (clients-fit head head-is) ∷ []) of-flag
-      (λ c. known-balanced) (λ c h. h) (so 𝓤 (balanced-asked head ws su se dr asked tally size)) refl (λ c. vars ! (refl, (refl, (refl, (refl, (refl, tt)))))) (λ _. refl) (λ balanced last₃ told-balanced kept₃ _.
+      -- let balanced = tables::are_balanced(&tally, numbers, head.setup.clients as usize);
+      calls-for ! 𝓣 (0 ∷ 2 ∷ []) (loan (array-shared W u16 1024 l₄ tt tally (subst (Room u16) (sym (kept₁ .1 .0)) tally-room) size) ∷ passed-on W s₁ ∷ number W (head .setup .clients) (clients-fit head head-is) ∷ []) of-flag
+      (λ c. known-balanced) (λ c h. h) (so 𝓤 (balanced-asked head ws xs asked tally size)) refl (λ c. vars ! (refl, (refl, (refl, tt)))) (λ _. refl) (λ balanced last₃ told-balanced kept₃ _.
       -- verdict(next, zero, balanced)
       calls-for ! 𝓣 [] (flag W next ∷ flag W zero ∷ flag W balanced ∷ []) (of-number w64)
       (λ c. known-verdict) (λ c h. h) (id⊢ 𝓤 (emp 𝓤)) refl (λ c. vars ! (refl, (refl, (refl, tt)))) (λ _. refl) (λ r last₄ told kept₄ r-is.
-      ends-array ! 6 u16 1024 l₆ tally $
-      gives ! refl refl $ leaves (vint w64 r) r tt tt (made W (of-number w64) r r-is) (so 𝓤 (contents-told head ws su se dr asked tally next zero balanced r passed-next told-zero told-balanced told))))))))
+      ends-array ! 4 u16 1024 l₄ tally $
+      gives ! refl refl $ leaves (vint w64 r) r tt tt (made W (of-number w64) r r-is) (so 𝓤 (contents-told head ws xs asked tally next zero balanced r passed-next told-zero told-balanced told))))))))
 
 pub contents-refusal-spec : {M : Type 1} → f.Statement.statement M
 unfolding f.Code.routine

@@ -13,7 +13,7 @@ has-shape-requires c κs = search needs
 -- behind the first test: the lengths fit
 shaped : (c : tie.Else1) →
     let a = c .before .before .args in
-    hasShape (a .head) (a .records) (a .clients) ≡ true
+    hasShape (a .head) (a .records) (a .numbers) ≡ true
 shaped c = sym (c .before .has-shape .ensures) ∙ not-false _ (c .if1 .left)
 
 returns : tie.Need-returns

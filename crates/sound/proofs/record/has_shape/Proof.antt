@@ -4,9 +4,12 @@ use Rattle.sound.specs.Checks.{hasShape}
 use Rattle.sound.proofs.record.has_shape.Statement.{statement}
 use Rattle.sound.proofs.record.has_shape.Tie as tie
 
+are-records-requires : tie.Need-are-records-requires
+are-records-requires c κs = search needs
+
 returns : tie.Need-returns
 unfolding hasShape
-returns c = search needs
+returns c = rw (c .before .are-records .ensures)
 
 pub has-shape-spec : {M : Type 1} → statement M
-has-shape-spec = tie.close (tie.spec returns)
+has-shape-spec = tie.close (tie.spec are-records-requires returns)

@@ -8,50 +8,34 @@ use borrow.Author.Needs.{needs}
 use denote.Ref.{now}
 use lib.ListN.{take, drop}
 use Rattle.spec.specs.declared.types.Counts.{Counts}
+use Rattle.spec.specs.Tables.{recordsOf}
 use Rattle.spec.specs.Every.{everyFrom}
-use Rattle.columns.specs.Columns.{countOf, countsOf}
-use Rattle.columns.proofs.Laws.{rest-none}
+use Rattle.columns.proofs.Laws.{rest-none, records-rest}
 use Rattle.sound.specs.Checks.{talliedOf, doesBalance}
-use Rattle.sound.proofs.Laws.{left-cons, verdict-end, from-turn}
+use Rattle.sound.proofs.Laws.{verdict-end, from-turn}
 use Rattle.sound.proofs.Tally.{four-parts}
 use Rattle.sound.proofs.tables.are_balanced.Statement.{statement}
 use Rattle.sound.proofs.tables.are_balanced.Tie as tie
 
-abbrev table : List ℕ → List ℕ → List ℕ → ℕ → List Counts
-table submitted served dropped n = take n (countsOf submitted served dropped)
+abbrev table : List ℕ → ℕ → List Counts
+table numbers n = take n (recordsOf numbers)
 
 abbrev test : List ℕ → ℕ → Counts → Bool
 test tally c k = doesBalance k (talliedOf tally c)
 
 -- the verdict so far, with that on the clients left, is that on all
 abbrev Inv-loop : tie.InvT-loop
-Inv-loop tally submitted served dropped n balanced₀ i₀ balanced i =
-    (balanced && everyFrom (test tally) i (drop i (table submitted served dropped n)))
-    ≡ everyFrom (test tally) 0 (table submitted served dropped n)
+Inv-loop tally numbers n balanced₀ i₀ balanced i =
+    (balanced && everyFrom (test tally) i (drop i (table numbers n))) ≡ everyFrom (test tally) 0 (table numbers n)
 
 abbrev μ-loop : tie.MeasureT-loop
-μ-loop tally submitted served dropped n balanced₀ i₀ balanced i = n - i
+μ-loop tally numbers n balanced₀ i₀ balanced i = n - i
 
 loop-holds : tie.Need-loop-holds Inv-loop μ-loop
 loop-holds c = refl
 
-mul-t10 : tie.Need-mul-t10 Inv-loop μ-loop
-mul-t10 c = search needs
-
-shared-slice-read-t12 : tie.Need-shared-slice-read-t12 Inv-loop μ-loop
-shared-slice-read-t12 c = search needs
-
-mul-t13 : tie.Need-mul-t13 Inv-loop μ-loop
-mul-t13 c = search needs
-
-shared-slice-read-t15 : tie.Need-shared-slice-read-t15 Inv-loop μ-loop
-shared-slice-read-t15 c = search needs
-
-mul-t16 : tie.Need-mul-t16 Inv-loop μ-loop
-mul-t16 c = search needs
-
-shared-slice-read-t18 : tie.Need-shared-slice-read-t18 Inv-loop μ-loop
-shared-slice-read-t18 c = search needs
+get-requires : tie.Need-get-requires Inv-loop μ-loop
+get-requires c κs = search needs
 
 mul-does-balance : tie.Need-mul-does-balance Inv-loop μ-loop
 mul-does-balance c = search needs
@@ -103,37 +87,25 @@ loop-less c = search needs
 
 loop-again : tie.Need-loop-again Inv-loop μ-loop
 loop-again c =
-    let a = c .before .before .before .before .before .before .before .before .before .before .before .before .before .before .args in
-    let l = c .before .before .before .before .before .before .before .before .before .loop in
-    rw (c .does-balance .ensures ∙ ap (doesBalance _) (four-parts (now (a .tally)) (l .i)))
-    (from-turn (l .balanced) _ _ _ _
-    (left-cons countOf (now (a .submitted)) (now (a .served)) (now (a .dropped)) (a .n) (l .i)
-    (omega arith) (omega arith) (omega arith) (omega arith))
+    let a = c .before .before .before .before .before .before .before .before .before .before .args in
+    let l = c .before .before .before .before .before .before .before .loop in
+    rw (c .does-balance .ensures ∙ ap (doesBalance _) (four-parts (now (a .tally)) (l .i)), c .before .before .before .before .before .get .ensures)
+    (from-turn (l .balanced) _ _ _ _ (records-rest (now (a .numbers)) (a .n) (l .i) (omega arith) (omega arith))
     (test (now (a .tally))) (l .i) (l .inv))
 
 returns : tie.Need-returns Inv-loop μ-loop
 unfolding everyFrom
 returns c =
-    let a = c .before .before .before .before .before .before .args in
+    let a = c .before .before .before .before .args in
     verdict-end _ _ _
     (λ _. ap (everyFrom (test (now (a .tally))) (c .before .loop .i))
-    (rest-none (countsOf (now (a .submitted)) (now (a .served)) (now (a .dropped))) (a .n) (c .before .loop .i)
-    (c .loop-test .left)))
+    (rest-none (recordsOf (now (a .numbers))) (a .n) (c .before .loop .i) (c .loop-test .left)))
     (c .before .loop .inv)
 
 pub are-balanced-spec : {M : Type 1} → statement M
-are-balanced-spec =
-    tie.close
-    (tie.spec
-    Inv-loop
-    μ-loop
+are-balanced-spec = tie.close (tie.spec Inv-loop μ-loop
     loop-holds
-    mul-t10
-    shared-slice-read-t12
-    mul-t13
-    shared-slice-read-t15
-    mul-t16
-    shared-slice-read-t18
+    get-requires
     mul-does-balance
     shared-slice-read-does-balance
     add-does-balance
