@@ -1,20 +1,23 @@
--- Laws of the waiting table as a list of records: a record moved by one, one exchanged for another, the first entries replaced.
+-- Laws of the waiting table as a list of records: a record moved by one, one put in for another, one put in or taken out, the first
+-- entries replaced.
 -- Assumes nothing.
 use Prim.Native.Nat.{ℕ, zero, suc, _+_, _-_, _≤_, _<_, _^_, zero-le}
 use mathlib.Core.Path.{_≡_, refl, sym, ap, _∙_}
 use mathlib.Core.Bool.{Bool, true, false, cond, not, _&&_, true≢false}
 use mathlib.Core.Logic.{_≢_}
 use mathlib.Core.List.{List, [], _∷_, _++_, map}
-use native.Mathlib.Nat.{zero-add, add-zero, suc-add}
+use native.Mathlib.Nat.{zero-add, add-zero, suc-add, le-of-lt}
 use native.Mathlib.Numerals.{add-one}
 use native.Mathlib.Omega.{arith}
-use lib.Dec.{T, ltb, eqb, ltb→lt, eqb→eq, eqb-refl, T-not}
+use borrow.Author.Tests.{lt-ltb, le-ltb, le-leb, lt-leb}
+use lib.Dec.{T, ltb, leb, eqb, ltb→lt, nltb→le, leb→le, nleb→lt, eqb→eq, eqb-refl, T-not}
 use lib.ListN.{length, getD, set, take, drop, length-set, List·getD-map, length-map, length-drop, take-append-drop}
-use lib.Seq.{getD-take, paste-suc, length-paste, take-all, length-take-le}
+use lib.Seq.{getD-take, paste-suc, length-paste, take-all, length-take-le, take-append-seam, drop-append-seam}
 use Rattle.spec.specs.declared.types.Request.{Request}
 use Rattle.spec.specs.Tables.{zeroRequest}
 use Rattle.spec.specs.Order.{insertAt, removeAt}
-use Rattle.table.specs.Records.{Shifted, areIn, exchanged, takenOut}
+use Rattle.spec.proofs.Laws.Every.{length-remove}
+use Rattle.table.specs.Records.{Shifted, areIn, replaced, takenOut, inserted, removed, removedOut}
 
 -- a test denied twice holds
 pub not-not : (b : Bool) → T (not (not b)) → T b
@@ -157,7 +160,7 @@ module _ (a i : ℕ) (ys : List Request) (h : a ≤ i) (k : i < length ys) where
       go true t = rw (far, add-zero) at t
       go false t = rw (far, add-zero) at t
 
--- ---- an exchange
+-- ---- one put in for another
 
 -- a record written over another is put in where that one was taken out
 set-insert : (k : ℕ) (r : Request) (ws : List Request) → k < length ws → set ws k r ≡ insertAt k r (removeAt k ws)
@@ -168,8 +171,8 @@ set-insert (suc k) r (w ∷ ws) h = ap (λ (l : List Request). w ∷ l) (set-ins
 
 -- nothing changes where one of the places is not in the table
 pub untouched : (out at : ℕ) (r : Request) (ys : List Request) → T (not (areIn out at ys))
-    → (r ≡ takenOut out at r ys) × (ys ≡ exchanged out at r ys)
-unfolding takenOut exchanged
+    → (r ≡ takenOut out at r ys) × (ys ≡ replaced out at r ys)
+unfolding takenOut replaced
 untouched out at r ys h = go (areIn out at ys) h
   where
     go : (b : Bool) → T (not b)
@@ -185,10 +188,10 @@ both-in out at ys h = go (ltb out (length ys)) (ltb at (length ys)) (ltb→lt ou
     go false c f g i = absurd i
 
 -- otherwise the shift leaves `at` to be written
-pub replaced : (out at : ℕ) (r : Request) (ys zs : List Request) → T (areIn out at ys) → Shifted out at ys zs
-    → length zs ≡ length ys → (getD ys out zeroRequest ≡ takenOut out at r ys) × (set zs at r ≡ exchanged out at r ys)
-unfolding takenOut exchanged
-replaced out at r ys zs h s l = go (areIn out at ys) h
+pub puts-for : (out at : ℕ) (r : Request) (ys zs : List Request) → T (areIn out at ys) → Shifted out at ys zs
+    → length zs ≡ length ys → (getD ys out zeroRequest ≡ takenOut out at r ys) × (set zs at r ≡ replaced out at r ys)
+unfolding takenOut replaced
+puts-for out at r ys zs h s l = go (areIn out at ys) h
   where
     put-in : set zs at r ≡ insertAt at r (removeAt out ys)
     put-in =
@@ -198,6 +201,72 @@ replaced out at r ys zs h s l = go (areIn out at ys) h
         × (set zs at r ≡ cond b (insertAt at r (removeAt out ys)) ys)
     go true i = (refl, put-in)
     go false i = absurd i
+
+-- ---- one put in among the first, or taken out of them
+pub insert-front : (k : ℕ) (r : Request) (ws zs : List Request) → k ≤ length ws → insertAt k r (ws ++ zs) ≡ insertAt k r ws ++ zs
+insert-front zero r ws zs h = refl
+insert-front (suc k) r [] zs h = absurd (omega arith)
+insert-front (suc k) r (w ∷ ws) zs h = ap (λ (l : List Request). w ∷ l) (insert-front k r ws zs (omega arith))
+
+pub remove-front : (k : ℕ) (ws zs : List Request) → k < length ws → removeAt k (ws ++ zs) ≡ removeAt k ws ++ zs
+unfolding removeAt
+remove-front k [] zs h = absurd (omega arith)
+remove-front zero (w ∷ ws) zs h = refl
+remove-front (suc k) (w ∷ ws) zs h = ap (λ (l : List Request). w ∷ l) (remove-front k ws zs (omega arith))
+
+-- one put in behind the first
+insert-seam : (k : ℕ) (r : Request) (ws zs : List Request) → length ws ≡ k → insertAt k r (ws ++ zs) ≡ ws ++ r ∷ zs
+insert-seam k r ws zs e = rw (← e, take-append-seam ws zs, drop-append-seam ws zs)
+
+-- an insert is refused, or puts r in for the record behind the first n
+module _ (n at : ℕ) (r : Request) (ys : List Request) where
+  pub not-inserted : n < at → ys ≡ inserted n at r ys
+  unfolding inserted
+  not-inserted h = rw (lt-leb at n h)
+
+  pub inserts : at ≤ n → replaced n at r ys ≡ inserted n at r ys
+  unfolding inserted replaced removeAt
+  inserts h = go (ltb n (length ys)) (ltb→lt n (length ys)) (nltb→le n (length ys))
+    where
+      go : (b : Bool) → (T b → n < length ys) → (T (not b) → length ys ≤ n) → replaced n at r ys ≡ inserted n at r ys
+      go true f g =
+          rw (lt-ltb n (length ys) (f tt), lt-ltb at (length ys) (omega (arith, f tt)), le-leb at n h)
+          (insert-front at r (take n ys) (drop (suc n) ys) (omega (arith, length-take-le n ys (le-of-lt (f tt)))))
+      go false f g = rw (le-ltb n (length ys) (g tt), le-leb at n h)
+
+-- a remove finds none, or puts a zero record in for the one that it takes out
+module _ (n at : ℕ) (ys : List Request) where
+  pub not-removed : n ≤ at → (zeroRequest ≡ removedOut n at ys) × (ys ≡ removed n at ys)
+  unfolding removedOut removed
+  not-removed h = rw (le-ltb at n h) (refl, refl)
+
+  pub removes : at < n → (takenOut at (n - 1) zeroRequest ys ≡ removedOut n at ys)
+      × (replaced at (n - 1) zeroRequest ys ≡ removed n at ys)
+  unfolding takenOut replaced removedOut removed
+  removes h = go (leb n (length ys)) (leb→le n (length ys)) (nleb→lt n (length ys))
+    where
+      one-less : n ≤ length ys → length (removeAt at (take n ys)) ≡ n - 1
+      one-less l =
+          omega (arith, length-take-le n ys l, length-remove at (take n ys) (omega (arith, length-take-le n ys l)))
+
+      taken : n ≤ length ys → insertAt (n - 1) zeroRequest (removeAt at ys) ≡ removeAt at (take n ys) ++ zeroRequest ∷ drop n ys
+      taken l =
+          ap (λ (ws : List Request). insertAt (n - 1) zeroRequest (removeAt at ws)) (sym (take-append-drop n ys))
+          ∙ ap (insertAt (n - 1) zeroRequest) (remove-front at (take n ys) (drop n ys) (omega (arith, length-take-le n ys l)))
+          ∙ insert-seam (n - 1) zeroRequest (removeAt at (take n ys)) (drop n ys) (one-less l)
+
+      go : (b : Bool) → (T b → n ≤ length ys) → (T (not b) → length ys < n)
+          → (takenOut at (n - 1) zeroRequest ys ≡ removedOut n at ys) × (replaced at (n - 1) zeroRequest ys ≡ removed n at ys)
+      go true f g =
+          rw (lt-ltb at (length ys) (omega (arith, f tt)), lt-ltb (n - 1) (length ys) (omega (arith, f tt)), lt-ltb at n h, le-leb n (length ys) (f tt))
+          (refl, taken (f tt))
+      go false f g =
+          rw (le-ltb (n - 1) (length ys) (omega (arith, g tt)), lt-ltb at n h, lt-leb n (length ys) (g tt)) (none (ltb at (length ys)))
+        where
+          none : (b : Bool) → (cond (b && false) (getD ys at zeroRequest) zeroRequest ≡ zeroRequest)
+              × (cond (b && false) (insertAt (n - 1) zeroRequest (removeAt at ys)) ys ≡ ys)
+          none true = (refl, refl)
+          none false = (refl, refl)
 
 -- ---- the first entries replaced one after the other by those of another list
 abbrev pub filled : {A : Type 0} → List A → List A → ℕ → List A

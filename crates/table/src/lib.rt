@@ -1,4 +1,5 @@
-// The waiting table, a lent slice of request records: read one, write one, exchange one for another, clear, copy deadlines out.
+// The waiting table, a lent slice of request records: read one, write one, put one in, take one out, put one in for another, clear,
+// copy deadlines out.
 mod moves;
 
 use spec::types::Request;
@@ -7,7 +8,7 @@ ghost use mathlib.Core.Path.{_≡_};
 ghost use mathlib.Core.List.{_++_};
 ghost use lib.ListN.{length, getD, set, take, drop, replicate};
 ghost use Rattle.spec.specs.Tables.{zeroRequest, deadlinesOf};
-ghost use Rattle.table.specs.Records.{exchanged, takenOut};
+ghost use Rattle.table.specs.Records.{replaced, takenOut, inserted, removed, removedOut};
 
 // One record.
 pub fn get(t: &[Request], i: usize) -> Request
@@ -25,12 +26,23 @@ pub(crate) fn put(t: &mut [Request], i: usize, r: Request)
     t[i] = r;
 }
 
+// The record that stands where none waits: its fields are zero.
+pub fn zero() -> Request
+    ensures { λ r. ⌜ r ≡ zeroRequest ⌝ }
+{
+    Request {
+        deadline: 0,
+        number: 0,
+        client: 0,
+    }
+}
+
 // r is put in at `at` for the record at `out`, which is handed back; those between move by one. Where one of the places is not
 // in the table, nothing changes and r is handed back.
-pub fn exchange(t: &mut [Request], out: usize, at: usize, r: Request) -> Request
+pub fn replace(t: &mut [Request], out: usize, at: usize, r: Request) -> Request
     ensures { λ g. ⌜
         (g ≡ takenOut out at r (now (t .entry)))
-        × (now (t .exit) ≡ exchanged out at r (now (t .entry)))
+        × (now (t .exit) ≡ replaced out at r (now (t .entry)))
         ⌝ }
 {
     let n = t.len();
@@ -44,15 +56,31 @@ pub fn exchange(t: &mut [Request], out: usize, at: usize, r: Request) -> Request
     gone
 }
 
-// The record that stands where none waits: its fields are zero.
-pub fn zero() -> Request
-    ensures { λ r. ⌜ r ≡ zeroRequest ⌝ }
+// Of n waiting records at the table's front, r is put in at `at`; those from there on move by one, over the record behind them.
+// Nothing changes where `at` is further back than that record, or no record is behind them.
+pub fn insert(t: &mut [Request], n: usize, at: usize, r: Request)
+    ensures { λ _. ⌜ now (t .exit) ≡ inserted n at r (now (t .entry)) ⌝ }
 {
-    Request {
-        deadline: 0,
-        number: 0,
-        client: 0,
+    if n < at {
+        return;
     }
+    replace(t, n, at, r);
+}
+
+// Of n waiting records at the table's front, the one at `at` is taken out and handed back; those behind it move by one, and a zero
+// record stands behind them. Where `at` is not among them, or they are not all in the table, nothing changes and a zero record is
+// handed back.
+pub fn remove(t: &mut [Request], n: usize, at: usize) -> Request
+    ensures { λ g. ⌜
+        (g ≡ removedOut n at (now (t .entry)))
+        × (now (t .exit) ≡ removed n at (now (t .entry)))
+        ⌝ }
+{
+    let empty = zero();
+    if n <= at {
+        return empty;
+    }
+    replace(t, at, n - 1, empty)
 }
 
 // The first n records become zero.

@@ -1,5 +1,5 @@
--- `table::exchange` meets its contract: a walk with an early return and three calls, `get`, `move_between` and `put`. Two laws on
--- lists say what is left (`Laws.antt`'s `untouched` and `replaced`).
+-- `table::replace` meets its contract: a walk with an early return and three calls, `get`, `move_between` and `put`. Two laws on
+-- lists say what is left (`Laws.antt`'s `untouched` and `puts-for`).
 -- Assumes nothing.
 use Rattle.walk.proofs.Prelude.{refl, sym, _∙_, subst, ℕ, _<_, List, [], _∷_, length, set, getD, length-set, T, URA, w64, SProp, Memory, Routine, Heap, Tables, Atoms, Fun, Given, ‵, _$_, !, rewrite, of-opd, un, tripleOf}
 use Rattle.walk.proofs.Prelude.{drop, lent, taken, so, Shape, Walk, proved, Lent-at, var, vars, field-var, sets, relends, empties, gives, gives-within, fit, of-nothing, calls-for, calls-giving, branches-out, number, mut-of, shr-of, made, of-number, copies, computes}
@@ -7,11 +7,11 @@ use Rattle.spec.specs.declared.types.Request.{Request}
 use Rattle.spec.specs.Tables.{zeroRequest}
 use Rattle.table.specs.Records.{areIn}
 use Rattle.table.proofs.Rows.{R, mach, lawful, a-request, request}
-use Rattle.table.proofs.Laws.{not-not, untouched, both-in, replaced}
+use Rattle.table.proofs.Laws.{not-not, untouched, both-in, puts-for}
 use Rattle.table.proofs.get as get
 use Rattle.table.proofs.moves.move_between as move-between
 use Rattle.table.proofs.put as put
-use Rattle.table.proofs.exchange as f
+use Rattle.table.proofs.replace as f
 
 module _ {M : Type 1} (𝓤 : URA M) (H : Heap 𝓤) (A : Atoms 𝓤) (W : Given 𝓤 H A) (mem : Memory → SProp 𝓤) (run : Routine → Fun 𝓤) where
   abbrev shape : Shape W
@@ -55,11 +55,11 @@ module _ {M : Type 1} (𝓤 : URA M) (H : Heap 𝓤) (A : Atoms 𝓤) (W : Given
       calls-for ! 𝓣 (0 ∷ []) (mut-of W t (zs .0) (len .0) ∷ number W at (at-is .1) ∷ request W r r-is ∷ []) of-nothing (λ c. known-put) (λ c h. h) (so 𝓤 (subst (λ (m : ℕ). at < m) (sym (len .0)) (within .1))) refl (λ c. vars ! (refl, (refl, (refl, tt)))) (λ ws. refl) (λ u last is-set kept _.
       rewrite ! 0 (λ (zs : List Request). ‵ (Lent-at t zs)) is-set refl $
       copies ! refl refl (lawful 𝓤 H A W .typed gone _ is .0) $ gives ! refl refl $
-      leaves (mach gone) gone (set (zs .0) at r, tt) (length-set (zs .0) at r ∙ len .0, tt) (made W a-request gone is) (so 𝓤 (replaced out at r ys (zs .0) both moved (len .0)))))))
+      leaves (mach gone) gone (set (zs .0) at r, tt) (length-set (zs .0) at r ∙ len .0, tt) (made W a-request gone is) (so 𝓤 (puts-for out at r ys (zs .0) both moved (len .0)))))))
 
-pub exchange-spec : {M : Type 1} → f.Statement.statement M
+pub replace-spec : {M : Type 1} → f.Statement.statement M
 unfolding f.Code.routine
-exchange-spec 𝓤 H 𝓜 𝓖 𝓡 =
+replace-spec 𝓤 H 𝓜 𝓖 𝓡 =
     proved 𝓤 H 𝓜 𝓖 𝓡 (shape 𝓤 H) (walk 𝓤 H) f.Code.env f.Key.name (f.Code.unfolded 𝓤 H 𝓜 𝓡) (
       (get.Symbol.routine, f.Code.calls-table·get, get.Met.met 𝓤 H 𝓜 𝓖 𝓡),
       (
