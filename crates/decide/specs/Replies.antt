@@ -2,45 +2,55 @@
 use Prim.Native.Nat.{ℕ, suc, _-_, min}
 use mathlib.Core.Path.{_≡_}
 use mathlib.Core.Bool.{cond}
-use mathlib.Core.List.{List}
+use mathlib.Core.List.{List, _∷_}
 use lib.Dec.{ltb, eqb}
-use lib.ListN.{length, replicate}
+use lib.ListN.{length, getD, replicate}
 use Rattle.spec.specs.declared.types.Setup.{Setup}
 use Rattle.spec.specs.declared.types.Head.{Head}
 use Rattle.spec.specs.declared.types.Request.{Request}
 use Rattle.spec.specs.declared.types.Counts.{Counts}
 use Rattle.spec.specs.declared.types.Answer.the-variants as answer
 use Rattle.spec.specs.declared.types.Answer.the-variants.{Opened, Kept, Dropped, Served, Reported, Charted, Refused}
-use Rattle.spec.specs.Tables.{zeroCounts, openHead}
+use Rattle.spec.specs.Tables.{zeroRequest, zeroCounts, openHead}
+use Rattle.spec.specs.Order.{insertAt, removeAt}
 use Rattle.spec.specs.Calls.{Outcome}
 use Rattle.columns.specs.Widths.{largest64}
 use Rattle.columns.specs.Clients.{oneAdded, waitingCount, restartedAt}
+use Rattle.table.specs.Records.{areIn, inserted, removed, removedOut}
 use Rattle.decide.specs.declared.types.Decision.{Decision}
 use Rattle.decide.specs.declared.types.Decision.the-variants.{Refuse, Keep, Drop, Serve, Idle}
-use Rattle.decide.specs.declared.types.Edit.{Edit}
 use Rattle.decide.specs.declared.types.Reply.{Reply}
 
 -- ---- the waiting table
-abbrev pub edit : ℕ → ℕ → Edit
-edit out at = record { out = out; at = at }
+-- a place among the waiting records and the new one, as it is where the one at `other` is left out
+abbrev pub placeWithout : ℕ → ℕ → ℕ
+placeWithout place other = cond (ltb other place) (place - 1) place
 
--- "Otherwise one record is taken out": the new request goes in at `place`, and out goes the one that then stands at `victim`.
--- Where that is the new one, nothing changes: no table has a place `records`
-abbrev pub dropEdit : ℕ → ℕ → ℕ → Edit
-dropEdit records place victim =
-    cond (eqb victim place) (edit records 0) (cond (ltb victim place) (edit victim (place - 1)) (edit (victim - 1) place))
+-- "Otherwise one record is taken out": the new request goes in at `place`, and out goes the one that then stands at `victim`. The
+-- table is as it was where one of the places is not there
+unfoldable pub withoutVictim : ℕ → ℕ → Request → List Request → List Request
+withoutVictim place victim new ys = cond (areIn place victim (new ∷ ys)) (removeAt victim (insertAt place new ys)) ys
 
--- "takes it out": the first record goes out, and a zero record goes in behind those that wait; where none waits, nothing changes
-abbrev pub serveEdit : ℕ → ℕ → Edit
-serveEdit records waiting = cond (eqb waiting 0) (edit records 0) (edit 0 (waiting - 1))
+-- the victim; the new request itself where one of the places is not there
+unfoldable pub victimAt : ℕ → ℕ → Request → List Request → Request
+victimAt place victim new ys = cond (areIn place victim (new ∷ ys)) (getD (insertAt place new ys) victim zeroRequest) new
 
--- the change of a table of so many records, of which the first ones wait
-abbrev pub editOf : Decision → ℕ → ℕ → Edit
-editOf (Keep place) waiting records = edit waiting place
-editOf (Drop place victim) waiting records = dropEdit records place victim
-editOf Serve waiting records = serveEdit records waiting
-editOf (Refuse number) waiting records = edit records 0
-editOf Idle waiting records = edit records 0
+-- the waiting table after a decision: a submit "puts the record in chart order", or also takes one out; a tick "takes it out", the
+-- first waiting record
+abbrev pub tableAfter : Head → Request → Decision → List Request → List Request
+tableAfter head new (Refuse number) ys = ys
+tableAfter head new (Keep place) ys = inserted (head .waiting) place new ys
+tableAfter head new (Drop place victim) ys = withoutVictim place victim new ys
+tableAfter head new Serve ys = removed (head .waiting) 0 ys
+tableAfter head new Idle ys = ys
+
+-- the record that went out; the new one where none did
+abbrev pub goneAfter : Head → Request → Decision → List Request → Request
+goneAfter head new (Refuse number) ys = new
+goneAfter head new (Keep place) ys = new
+goneAfter head new (Drop place victim) ys = victimAt place victim new ys
+goneAfter head new Serve ys = removedOut (head .waiting) 0 ys
+goneAfter head new Idle ys = new
 
 -- ---- the client table, the head and the answer
 -- one more, up to the largest number

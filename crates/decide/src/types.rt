@@ -1,4 +1,4 @@
-// What a call has to do, how it changes the waiting table, and what it hands back.
+// What a call has to do, and what it hands back.
 use spec::types::Answer;
 use spec::types::Head;
 
@@ -11,12 +11,6 @@ pub enum Decision {
     Drop { place: usize, victim: usize },
     Serve,
     Idle,
-}
-
-// What a change of the waiting table is: the record at `out` is taken out, then another put in at `at`.
-pub struct Edit {
-    pub out: usize,
-    pub at: usize,
 }
 
 // What a call hands back: the head, and beside it the answer.

@@ -25,21 +25,19 @@ use Rattle.columns.specs.Widths.{largest64}
 use Rattle.spec.specs.Tables.{stateOf}
 use Rattle.columns.specs.Charted.{startSlots}
 use Rattle.columns.proofs.Laws.{length-rows}
-use Rattle.table.specs.Records.{exchanged, takenOut}
 use Rattle.sound.specs.Checks.{tablesRefusal}
 use Rattle.decide.specs.declared.types.Reply.{Reply}
-use Rattle.decide.specs.declared.types.Edit.{Edit}
 use Rattle.decide.specs.declared.types.Decision.{Decision}
 use Rattle.decide.specs.Decisions.{submitDecision, tickDecision, tickBy}
 use Rattle.decide.specs.Matches.{openMatch, tickMatch, reportMatch, chartMatch}
-use Rattle.decide.specs.Replies.{editOf, raised, numberedRequest, openReply, openCounts, submitReply, submittedAfter}
+use Rattle.decide.specs.Replies.{tableAfter, goneAfter, raised, numberedRequest, openReply, openCounts, submitReply, submittedAfter}
 use Rattle.decide.specs.Replies.{droppedAfter, tickReply, servedAfter, tickCounts, reportReply, chartReply, Answers}
 use Rattle.decide.proofs.Carried.{charted}
 use Rattle.decide.proofs.Matching.{open-told, tick-told, report-told, chart-told}
 use Rattle.decide.proofs.States.{tick-decided}
 use Rattle.decide.proofs.Replying.Counted.{answers, holds-same, open-answers, tick-answers}
 use Rattle.decide.proofs.Replying.Replied.{submit-answers, report-answers, chart-answers}
-use Rattle.decide.proofs.Replying.Edited.{submit-edited, submit-taken, new-fits, tick-table, tick-gone}
+use Rattle.decide.proofs.Replying.Edited.{submit-table, submit-gone, new-fits, tick-table, tick-gone}
 use Rattle.queue.specs.Gives.{Gives}
 
 -- so many records where no refusal was found, else none: within any bound that holds of so many then
@@ -173,54 +171,46 @@ module _ (head : Head) (ws : List Request) (su se dr : List ℕ) where
     opened ws′ r su′ se′ dr′ w a = given (w ∙ zeros) (open-answers setup s open-refusal refl a)
 
   -- ---- tick
-  pub ticked : (tables refusal : ℕ) (decision : Decision) (e : Edit) (gone : Request) (ws′ : List Request) (r : Reply)
+  pub ticked : (tables refusal : ℕ) (decision : Decision) (gone : Request) (ws′ : List Request) (r : Reply)
       (su′ se′ dr′ : List ℕ)
       → tables ≡ tablesRefusal s
       → refusal ≡ tickMatch tables head
       → decision ≡ tickBy refusal (head .waiting)
-      → e ≡ editOf decision (head .waiting) (length ws)
-      → (gone ≡ takenOut (e .out) (e .at) zeroRequest ws) × (ws′ ≡ exchanged (e .out) (e .at) zeroRequest ws)
+      → (gone ≡ goneAfter head zeroRequest decision ws) × (ws′ ≡ tableAfter head zeroRequest decision ws)
       → (r ≡ tickReply head gone decision)
       × Holds (tickCounts head decision (countsOf su (servedAfter gone decision se) dr)) su (servedAfter gone decision se) dr su′ se′ dr′
       → Gives (tickOf s) su se dr r ws′ su′ se′ dr′
-  ticked tables refusal decision e gone ws′ r su′ se′ dr′ found refuses decides edits moved a =
+  ticked tables refusal decision gone ws′ r su′ se′ dr′ found refuses decides moved a =
       given
-      (moved .1 ∙ ap (λ (x : Edit). exchanged (x .out) (x .at) zeroRequest ws) same-edit ∙ tick-table s)
+      (moved .1 ∙ ap (λ (d : Decision). tableAfter head zeroRequest d ws) decided ∙ tick-table s zeroRequest)
       (tick-answers s decided refl
       (λ serves.
       moved .0
-      ∙ ap (λ (x : Edit). takenOut (x .out) (x .at) zeroRequest ws) same-edit
-      ∙ tick-gone s (sym decided ∙ serves)) a)
+      ∙ ap (λ (d : Decision). goneAfter head zeroRequest d ws) decided
+      ∙ tick-gone s zeroRequest (sym decided ∙ serves)) a)
     where
       decided : decision ≡ tickDecision s
       decided = decides ∙ tick-decided s (refuses ∙ tick-told s found)
 
-      same-edit : e ≡ editOf (tickDecision s) (head .waiting) (length ws)
-      same-edit = edits ∙ ap (λ (d : Decision). editOf d (head .waiting) (length ws)) decided
-
   -- ---- submit
-  pub submitted-gives : (client deadline : ℕ) (decision : Decision) (e : Edit) (new gone : Request) (ws′ : List Request)
+  pub submitted-gives : (client deadline : ℕ) (decision : Decision) (new gone : Request) (ws′ : List Request)
       (r : Reply) (su′ dr′ : List ℕ)
       → decision ≡ submitDecision client deadline s
-      → e ≡ editOf decision (head .waiting) (length ws)
       → new ≡ numberedRequest head client deadline
-      → (gone ≡ takenOut (e .out) (e .at) new ws) × (ws′ ≡ exchanged (e .out) (e .at) new ws)
+      → (gone ≡ goneAfter head new decision ws) × (ws′ ≡ tableAfter head new decision ws)
       → (r ≡ submitReply head gone decision)
       × (su′ ≡ submittedAfter client decision su)
       × (dr′ ≡ droppedAfter gone decision dr)
       → Gives (submitOf client deadline s) su se dr r ws′ su′ se dr′
-  submitted-gives client deadline decision e new gone ws′ r su′ dr′ decides edits news moved a =
+  submitted-gives client deadline decision new gone ws′ r su′ dr′ decides news moved a =
       given
-      (moved .1 ∙ ap (λ (x : Edit). exchanged (x .out) (x .at) new ws) same-edit ∙ submit-edited client deadline s new made)
+      (moved .1 ∙ ap (λ (d : Decision). tableAfter head new d ws) decides ∙ submit-table client deadline s new made)
       (submit-answers client deadline s decides refl
       (λ place victim drops.
       moved .0
-      ∙ ap (λ (x : Edit). takenOut (x .out) (x .at) new ws) same-edit
-      ∙ submit-taken client deadline s new made place victim (sym decides ∙ drops)) a)
+      ∙ ap (λ (d : Decision). goneAfter head new d ws) decides
+      ∙ submit-gone client deadline s new made place victim (sym decides ∙ drops)) a)
     where
-      same-edit : e ≡ editOf (submitDecision client deadline s) (head .waiting) (length ws)
-      same-edit = edits ∙ ap (λ (d : Decision). editOf d (head .waiting) (length ws)) decides
-
       made : firstMatch (submitRefusals client deadline s) ≡ 0 → new ≡ newRequest client deadline s
       made z =
           let h : head .last < largest64 = new-fits client deadline s z in

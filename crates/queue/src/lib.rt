@@ -20,6 +20,7 @@ ghost use Rattle.spec.specs.Refusals.{submitRefusals};
 ghost use Rattle.spec.specs.Calls.{openOf, submitOf, tickOf, reportOf, chartOf, chartOutput};
 ghost use Rattle.spec.specs.Tables.{stateOf};
 ghost use Rattle.decide.specs.Decisions.{submitChoice, submitDecision};
+ghost use Rattle.decide.specs.Replies.{withoutVictim, victimAt, tableAfter, goneAfter};
 ghost use Rattle.queue.specs.Gives.{Gives};
 
 // Open: the clock, the last number, the waiting count and every record of both tables become zero.
@@ -112,6 +113,50 @@ fn submit_decision(
     accepted_decision(waiting, submitted, served, dropped, head, client, deadline)
 }
 
+// A drop: `new` goes in at `place`, and the record that then stands at `victim` goes out and is handed back, as one change.
+fn drop_at(waiting: &mut [Request], place: usize, victim: usize, new: Request) -> Request
+    ensures { λ r. ⌜
+        (r ≡ victimAt place victim new (now (waiting .entry)))
+        × (now (waiting .exit) ≡ withoutVictim place victim new (now (waiting .entry)))
+        ⌝ }
+{
+    if victim == place {
+        return new;
+    }
+    let out = edits::place_without(victim, place);
+    let at = edits::place_without(place, victim);
+    table::replace(waiting, out, at, new)
+}
+
+// What a decision does to the waiting table: `new` is put in, put in for another or left, or the first record taken out. The record
+// that went out is handed back, or `new` where none did.
+fn apply(waiting: &mut [Request], decision: Decision, head: Head, new: Request) -> Request
+    ensures { λ r. ⌜
+        (r ≡ goneAfter head new decision (now (waiting .entry)))
+        × (now (waiting .exit) ≡ tableAfter head new decision (now (waiting .entry)))
+        ⌝ }
+{
+    let n = head.waiting as usize;
+    match decision {
+        Decision::Refuse { number: _ } => {
+            return new;
+        }
+        Decision::Keep { place } => {
+            table::insert(waiting, n, place, new);
+            return new;
+        }
+        Decision::Drop { place, victim } => {
+            return drop_at(waiting, place, victim, new);
+        }
+        Decision::Serve => {
+            return table::remove(waiting, n, 0);
+        }
+        Decision::Idle => {
+            return new;
+        }
+    }
+}
+
 // Submit: the new request is put in chart order; where not all can finish, one is dropped.
 pub fn submit(
     head: Head,
@@ -129,9 +174,8 @@ pub fn submit(
         r (now (waiting .exit)) (now (submitted .exit)) (now (served .exit)) (now (dropped .exit)) ⌝ }
 {
     let decision = submit_decision(waiting, submitted, served, dropped, head, client, deadline);
-    let edit = edits::edit_of(decision, head, waiting.len());
     let new = edits::new_request(head, client, deadline);
-    let gone = table::exchange(waiting, edit.out, edit.at, new);
+    let gone = apply(waiting, decision, head, new);
     replies::submit_reply(head, submitted, served, dropped, decision, client, gone)
 }
 
@@ -152,9 +196,8 @@ pub fn tick(
     let tables = check::tables_refusal(waiting, submitted, served, dropped, head);
     let refusal = refusals::tick_refusal(tables, head);
     let decision = calls::tick_decision(refusal, head);
-    let edit = edits::edit_of(decision, head, waiting.len());
     let zero = table::zero();
-    let gone = table::exchange(waiting, edit.out, edit.at, zero);
+    let gone = apply(waiting, decision, head, zero);
     replies::tick_reply(head, submitted, served, dropped, decision, gone)
 }
 

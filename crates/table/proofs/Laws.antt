@@ -169,6 +169,21 @@ set-insert k r [] h = absurd (omega arith)
 set-insert zero r (w ∷ ws) h = refl
 set-insert (suc k) r (w ∷ ws) h = ap (λ (l : List Request). w ∷ l) (set-insert k r ws (omega arith))
 
+-- whether two places are in the table
+module _ (out at : ℕ) (ys : List Request) where
+  pub are-in : out < length ys → at < length ys → areIn out at ys ≡ true
+  are-in h k = rw (lt-ltb out (length ys) h, lt-ltb at (length ys) k)
+
+  pub first-out : length ys ≤ out → areIn out at ys ≡ false
+  first-out h = rw (le-ltb out (length ys) h)
+
+  pub second-out : length ys ≤ at → areIn out at ys ≡ false
+  second-out h = rw (le-ltb at (length ys) h) (go (ltb out (length ys)))
+    where
+      go : (b : Bool) → (b && false) ≡ false
+      go true = refl
+      go false = refl
+
 -- nothing changes where one of the places is not in the table
 pub untouched : (out at : ℕ) (r : Request) (ys : List Request) → T (not (areIn out at ys))
     → (r ≡ takenOut out at r ys) × (ys ≡ replaced out at r ys)
@@ -230,7 +245,7 @@ module _ (n at : ℕ) (r : Request) (ys : List Request) where
     where
       go : (b : Bool) → (T b → n < length ys) → (T (not b) → length ys ≤ n) → replaced n at r ys ≡ inserted n at r ys
       go true f g =
-          rw (lt-ltb n (length ys) (f tt), lt-ltb at (length ys) (omega (arith, f tt)), le-leb at n h)
+          rw (are-in n at ys (f tt) (omega (arith, f tt)), lt-ltb n (length ys) (f tt), le-leb at n h)
           (insert-front at r (take n ys) (drop (suc n) ys) (omega (arith, length-take-le n ys (le-of-lt (f tt)))))
       go false f g = rw (le-ltb n (length ys) (g tt), le-leb at n h)
 
@@ -258,15 +273,10 @@ module _ (n at : ℕ) (ys : List Request) where
       go : (b : Bool) → (T b → n ≤ length ys) → (T (not b) → length ys < n)
           → (takenOut at (n - 1) zeroRequest ys ≡ removedOut n at ys) × (replaced at (n - 1) zeroRequest ys ≡ removed n at ys)
       go true f g =
-          rw (lt-ltb at (length ys) (omega (arith, f tt)), lt-ltb (n - 1) (length ys) (omega (arith, f tt)), lt-ltb at n h, le-leb n (length ys) (f tt))
+          rw (are-in at (n - 1) ys (omega (arith, f tt)) (omega (arith, f tt)), lt-ltb at n h, le-leb n (length ys) (f tt))
           (refl, taken (f tt))
       go false f g =
-          rw (le-ltb (n - 1) (length ys) (omega (arith, g tt)), lt-ltb at n h, lt-leb n (length ys) (g tt)) (none (ltb at (length ys)))
-        where
-          none : (b : Bool) → (cond (b && false) (getD ys at zeroRequest) zeroRequest ≡ zeroRequest)
-              × (cond (b && false) (insertAt (n - 1) zeroRequest (removeAt at ys)) ys ≡ ys)
-          none true = (refl, refl)
-          none false = (refl, refl)
+          rw (second-out at (n - 1) ys (omega (arith, g tt)), lt-ltb at n h, lt-leb n (length ys) (g tt)) (refl, refl)
 
 -- ---- the first entries replaced one after the other by those of another list
 abbrev pub filled : {A : Type 0} → List A → List A → ℕ → List A
