@@ -35,22 +35,30 @@ withoutVictim place victim new ys = cond (areIn place victim (new ∷ ys)) (remo
 unfoldable pub victimAt : ℕ → ℕ → Request → List Request → Request
 victimAt place victim new ys = cond (areIn place victim (new ∷ ys)) (getD (insertAt place new ys) victim zeroRequest) new
 
--- the waiting table after a decision: a submit "puts the record in chart order", or also takes one out; a tick "takes it out", the
--- first waiting record
+-- a submit "puts the record in chart order", or also takes one out: the waiting table after it, and the record that went out, the
+-- new one where none did. No submit decides on the last two
 abbrev pub tableAfter : Head → Request → Decision → List Request → List Request
 tableAfter head new (Refuse number) ys = ys
 tableAfter head new (Keep place) ys = inserted (head .waiting) place new ys
 tableAfter head new (Drop place victim) ys = withoutVictim place victim new ys
-tableAfter head new Serve ys = removed (head .waiting) 0 ys
+tableAfter head new Serve ys = ys
 tableAfter head new Idle ys = ys
 
--- the record that went out; the new one where none did
-abbrev pub goneAfter : Head → Request → Decision → List Request → Request
-goneAfter head new (Refuse number) ys = new
-goneAfter head new (Keep place) ys = new
-goneAfter head new (Drop place victim) ys = victimAt place victim new ys
-goneAfter head new Serve ys = removedOut (head .waiting) 0 ys
-goneAfter head new Idle ys = new
+abbrev pub goneAfter : Request → Decision → List Request → Request
+goneAfter new (Refuse number) ys = new
+goneAfter new (Keep place) ys = new
+goneAfter new (Drop place victim) ys = victimAt place victim new ys
+goneAfter new Serve ys = new
+goneAfter new Idle ys = new
+
+-- a tick "serves the first waiting record ..; with none waiting it answers idle": how many records wait of which it takes the first
+-- out, none where it serves none. No tick decides on Keep or Drop
+abbrev pub serving : Head → Decision → ℕ
+serving head (Refuse number) = 0
+serving head (Keep place) = 0
+serving head (Drop place victim) = 0
+serving head Serve = head .waiting
+serving head Idle = 0
 
 -- ---- the client table, the head and the answer
 -- one more, up to the largest number

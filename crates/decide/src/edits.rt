@@ -1,10 +1,12 @@
-// The places at which a drop changes the waiting table, how many records a call goes through, and the record that a submit puts in.
+// At which places a drop and a tick change the waiting table, how many records a call goes through, and the record that a submit puts
+// in.
+use crate::types::Decision;
 use spec::types::Head;
 use spec::types::Request;
 ghost use mathlib.Core.Path.{_≡_};
 ghost use mathlib.Core.Bool.{cond};
 ghost use lib.Dec.{eqb};
-ghost use Rattle.decide.specs.Replies.{placeWithout, raised, numberedRequest};
+ghost use Rattle.decide.specs.Replies.{placeWithout, serving, raised, numberedRequest};
 
 // A place among the waiting records and the new one, as it is where the one at `other` is left out.
 pub fn place_without(place: usize, other: usize) -> usize
@@ -14,6 +16,22 @@ pub fn place_without(place: usize, other: usize) -> usize
         return place - 1;
     }
     place
+}
+
+// Of so many waiting records a tick serves the first; of none where it serves none.
+pub fn serving(decision: Decision, head: Head) -> usize
+    ensures { λ r. ⌜ r ≡ serving head decision ⌝ }
+{
+    match decision {
+        Decision::Serve => head.waiting as usize,
+        Decision::Refuse { number: _ } => 0,
+        Decision::Keep { place: _ } => 0,
+        Decision::Drop {
+            place: _,
+            victim: _,
+        } => 0,
+        Decision::Idle => 0,
+    }
 }
 
 // So many records of the table, or none where the call is refused.

@@ -25,12 +25,13 @@ use Rattle.columns.specs.Widths.{largest64}
 use Rattle.spec.specs.Tables.{stateOf}
 use Rattle.columns.specs.Charted.{startSlots}
 use Rattle.columns.proofs.Laws.{length-rows}
+use Rattle.table.specs.Records.{removed, removedOut}
 use Rattle.sound.specs.Checks.{tablesRefusal}
 use Rattle.decide.specs.declared.types.Reply.{Reply}
 use Rattle.decide.specs.declared.types.Decision.{Decision}
 use Rattle.decide.specs.Decisions.{submitDecision, tickDecision, tickBy}
 use Rattle.decide.specs.Matches.{openMatch, tickMatch, reportMatch, chartMatch}
-use Rattle.decide.specs.Replies.{tableAfter, goneAfter, raised, numberedRequest, openReply, openCounts, submitReply, submittedAfter}
+use Rattle.decide.specs.Replies.{tableAfter, goneAfter, serving, raised, numberedRequest, openReply, openCounts, submitReply, submittedAfter}
 use Rattle.decide.specs.Replies.{droppedAfter, tickReply, servedAfter, tickCounts, reportReply, chartReply, Answers}
 use Rattle.decide.proofs.Carried.{charted}
 use Rattle.decide.proofs.Matching.{open-told, tick-told, report-told, chart-told}
@@ -171,33 +172,35 @@ module _ (head : Head) (ws : List Request) (su se dr : List ℕ) where
     opened ws′ r su′ se′ dr′ w a = given (w ∙ zeros) (open-answers setup s open-refusal refl a)
 
   -- ---- tick
-  pub ticked : (tables refusal : ℕ) (decision : Decision) (gone : Request) (ws′ : List Request) (r : Reply)
+  pub ticked : (tables refusal : ℕ) (decision : Decision) (n : ℕ) (gone : Request) (ws′ : List Request) (r : Reply)
       (su′ se′ dr′ : List ℕ)
       → tables ≡ tablesRefusal s
       → refusal ≡ tickMatch tables head
       → decision ≡ tickBy refusal (head .waiting)
-      → (gone ≡ goneAfter head zeroRequest decision ws) × (ws′ ≡ tableAfter head zeroRequest decision ws)
+      → n ≡ serving head decision
+      → (gone ≡ removedOut n 0 ws) × (ws′ ≡ removed n 0 ws)
       → (r ≡ tickReply head gone decision)
       × Holds (tickCounts head decision (countsOf su (servedAfter gone decision se) dr)) su (servedAfter gone decision se) dr su′ se′ dr′
       → Gives (tickOf s) su se dr r ws′ su′ se′ dr′
-  ticked tables refusal decision gone ws′ r su′ se′ dr′ found refuses decides moved a =
+  ticked tables refusal decision n gone ws′ r su′ se′ dr′ found refuses decides counts moved a =
       given
-      (moved .1 ∙ ap (λ (d : Decision). tableAfter head zeroRequest d ws) decided ∙ tick-table s zeroRequest)
+      (moved .1 ∙ ap (λ (k : ℕ). removed k 0 ws) served ∙ tick-table s)
       (tick-answers s decided refl
       (λ serves.
-      moved .0
-      ∙ ap (λ (d : Decision). goneAfter head zeroRequest d ws) decided
-      ∙ tick-gone s zeroRequest (sym decided ∙ serves)) a)
+      moved .0 ∙ ap (λ (k : ℕ). removedOut k 0 ws) served ∙ tick-gone s (sym decided ∙ serves)) a)
     where
       decided : decision ≡ tickDecision s
       decided = decides ∙ tick-decided s (refuses ∙ tick-told s found)
+
+      served : n ≡ serving head (tickDecision s)
+      served = counts ∙ ap (serving head) decided
 
   -- ---- submit
   pub submitted-gives : (client deadline : ℕ) (decision : Decision) (new gone : Request) (ws′ : List Request)
       (r : Reply) (su′ dr′ : List ℕ)
       → decision ≡ submitDecision client deadline s
       → new ≡ numberedRequest head client deadline
-      → (gone ≡ goneAfter head new decision ws) × (ws′ ≡ tableAfter head new decision ws)
+      → (gone ≡ goneAfter new decision ws) × (ws′ ≡ tableAfter head new decision ws)
       → (r ≡ submitReply head gone decision)
       × (su′ ≡ submittedAfter client decision su)
       × (dr′ ≡ droppedAfter gone decision dr)
@@ -208,7 +211,7 @@ module _ (head : Head) (ws : List Request) (su se dr : List ℕ) where
       (submit-answers client deadline s decides refl
       (λ place victim drops.
       moved .0
-      ∙ ap (λ (d : Decision). goneAfter head new d ws) decides
+      ∙ ap (λ (d : Decision). goneAfter new d ws) decides
       ∙ submit-gone client deadline s new made place victim (sym decides ∙ drops)) a)
     where
       made : firstMatch (submitRefusals client deadline s) ≡ 0 → new ≡ newRequest client deadline s

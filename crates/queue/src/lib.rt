@@ -128,28 +128,27 @@ fn drop_at(waiting: &mut [Request], place: usize, victim: usize, new: Request) -
     table::replace(waiting, out, at, new)
 }
 
-// What a decision does to the waiting table: `new` is put in, put in for another or left, or the first record taken out. The record
-// that went out is handed back, or `new` where none did.
-fn apply(waiting: &mut [Request], decision: Decision, head: Head, new: Request) -> Request
+// What a submit does to the waiting table: `new` is put in, or put in for another, or nothing changes. The record that went out is
+// handed back, or `new` where none did. No submit decides on the last two.
+fn put_in(waiting: &mut [Request], decision: Decision, head: Head, new: Request) -> Request
     ensures { λ r. ⌜
-        (r ≡ goneAfter head new decision (now (waiting .entry)))
+        (r ≡ goneAfter new decision (now (waiting .entry)))
         × (now (waiting .exit) ≡ tableAfter head new decision (now (waiting .entry)))
         ⌝ }
 {
-    let n = head.waiting as usize;
     match decision {
         Decision::Refuse { number: _ } => {
             return new;
         }
         Decision::Keep { place } => {
-            table::insert(waiting, n, place, new);
+            table::insert(waiting, head.waiting as usize, place, new);
             return new;
         }
         Decision::Drop { place, victim } => {
             return drop_at(waiting, place, victim, new);
         }
         Decision::Serve => {
-            return table::remove(waiting, n, 0);
+            return new;
         }
         Decision::Idle => {
             return new;
@@ -175,7 +174,7 @@ pub fn submit(
 {
     let decision = submit_decision(waiting, submitted, served, dropped, head, client, deadline);
     let new = edits::new_request(head, client, deadline);
-    let gone = apply(waiting, decision, head, new);
+    let gone = put_in(waiting, decision, head, new);
     replies::submit_reply(head, submitted, served, dropped, decision, client, gone)
 }
 
@@ -196,8 +195,8 @@ pub fn tick(
     let tables = check::tables_refusal(waiting, submitted, served, dropped, head);
     let refusal = refusals::tick_refusal(tables, head);
     let decision = calls::tick_decision(refusal, head);
-    let zero = table::zero();
-    let gone = apply(waiting, decision, head, zero);
+    let n = edits::serving(decision, head);
+    let gone = table::remove(waiting, n, 0);
     replies::tick_reply(head, submitted, served, dropped, decision, gone)
 }
 

@@ -24,7 +24,7 @@ use Rattle.table.proofs.Laws.{are-in, first-out, second-out, insert-front, remo
 use Rattle.decide.specs.declared.types.Decision.{Decision}
 use Rattle.decide.specs.declared.types.Decision.the-variants.{Drop, Serve}
 use Rattle.decide.specs.Decisions.{submitDecision, tickDecision}
-use Rattle.decide.specs.Replies.{placeWithout, withoutVictim, victimAt, tableAfter, goneAfter}
+use Rattle.decide.specs.Replies.{placeWithout, withoutVictim, victimAt, tableAfter, goneAfter, serving}
 use Rattle.decide.proofs.Carried.{Carried, refuses, accepts, Submits, keeps, drops, submit-carried}
 use Rattle.decide.proofs.Carried.{Ticks, idles, serves, tick-carried}
 
@@ -215,11 +215,11 @@ module _
       go (accepts z drops) = rw (new z) (dropped-table client deadline s (submit-ready client deadline s z))
 
   pub submit-gone : (place victim : ℕ) → submitDecision client deadline s ≡ Drop place victim
-      → goneAfter (s .head) r (submitDecision client deadline s) (s .waitingTable) ≡ requestAt victim client deadline s
+      → goneAfter r (submitDecision client deadline s) (s .waitingTable) ≡ requestAt victim client deadline s
   submit-gone place victim = go (submit-carried client deadline s)
     where
       go : {d : Decision} {o : Outcome} → Carried (submitRefusals client deadline s) s (Submits client deadline s) d o
-          → d ≡ Drop place victim → goneAfter (s .head) r d (s .waitingTable) ≡ requestAt victim client deadline s
+          → d ≡ Drop place victim → goneAfter r d (s .waitingTable) ≡ requestAt victim client deadline s
       go (refuses n) e = absurd (let z : _≡_ {A = ℕ} 0 1 = cc in omega arith)
       go (accepts z keeps) e = absurd (let z : _≡_ {A = ℕ} 0 1 = cc in omega arith)
       go (accepts z drops) e =
@@ -254,23 +254,28 @@ module _ (s : State) (w : Request) (ws : List Request) (first : waiting s ≡ w 
       rw (lt-ltb 0 waits (omega (arith, some)), le-leb waits (length (s .waitingTable)) (ready .shape .waits))
       (sym (getD-take waits (s .waitingTable) 0 zeroRequest (omega (arith, some))))
 
-module _ (s : State) (r : Request) where
-  pub tick-table : tableAfter (s .head) r (tickDecision s) (s .waitingTable) ≡ tickOf s .after .waitingTable
-  unfolding tickAccepted nextState
-  tick-table = go (tick-carried s)
-    where
-      go : {d : Decision} {o : Outcome} → Carried (tickRefusals s) s (Ticks s) d o
-          → tableAfter (s .head) r d (s .waitingTable) ≡ o .after .waitingTable
-      go (refuses n) = refl
-      go (accepts z (idles e)) = table-held s (tick-ready s z .ready) ∙ ap (holding (length (s .waitingTable))) e
-      go (accepts z (serves w ws e)) = served-table s w ws e (tick-ready s z .ready)
+-- where none is served, the table stays
+none-removed : (ys : List Request) → removed 0 0 ys ≡ ys
+unfolding removed
+none-removed ys = refl
 
-  pub tick-gone : tickDecision s ≡ Serve
-      → goneAfter (s .head) r (tickDecision s) (s .waitingTable) ≡ getD (waiting s) 0 zeroRequest
-  tick-gone = go (tick-carried s)
-    where
-      go : {d : Decision} {o : Outcome} → Carried (tickRefusals s) s (Ticks s) d o → d ≡ Serve
-          → goneAfter (s .head) r d (s .waitingTable) ≡ getD (waiting s) 0 zeroRequest
-      go (refuses n) e = absurd (let z : _≡_ {A = ℕ} 0 1 = cc in omega arith)
-      go (accepts z (idles i)) e = absurd (let z : _≡_ {A = ℕ} 0 1 = cc in omega arith)
-      go (accepts z (serves w ws i)) e = served-gone s w ws i (tick-ready s z .ready)
+pub tick-table : (s : State) → removed (serving (s .head) (tickDecision s)) 0 (s .waitingTable) ≡ tickOf s .after .waitingTable
+unfolding tickAccepted nextState
+tick-table s = go (tick-carried s)
+  where
+    go : {d : Decision} {o : Outcome} → Carried (tickRefusals s) s (Ticks s) d o
+        → removed (serving (s .head) d) 0 (s .waitingTable) ≡ o .after .waitingTable
+    go (refuses n) = none-removed (s .waitingTable)
+    go (accepts z (idles e)) =
+        none-removed (s .waitingTable) ∙ table-held s (tick-ready s z .ready) ∙ ap (holding (length (s .waitingTable))) e
+    go (accepts z (serves w ws e)) = served-table s w ws e (tick-ready s z .ready)
+
+pub tick-gone : (s : State) → tickDecision s ≡ Serve
+    → removedOut (serving (s .head) (tickDecision s)) 0 (s .waitingTable) ≡ getD (waiting s) 0 zeroRequest
+tick-gone s = go (tick-carried s)
+  where
+    go : {d : Decision} {o : Outcome} → Carried (tickRefusals s) s (Ticks s) d o → d ≡ Serve
+        → removedOut (serving (s .head) d) 0 (s .waitingTable) ≡ getD (waiting s) 0 zeroRequest
+    go (refuses n) e = absurd (let z : _≡_ {A = ℕ} 0 1 = cc in omega arith)
+    go (accepts z (idles i)) e = absurd (let z : _≡_ {A = ℕ} 0 1 = cc in omega arith)
+    go (accepts z (serves w ws i)) e = served-gone s w ws i (tick-ready s z .ready)

@@ -9,7 +9,7 @@ use Rattle.table.proofs.Heads.{a-head, the-head}
 use Rattle.table.proofs.Rows.{R, request, a-request}
 use Rattle.queue.proofs.submit_decision as submit-decision
 use Rattle.decide.proofs.edits.new_request as new-request
-use Rattle.queue.proofs.apply as apply
+use Rattle.queue.proofs.put_in as put-in
 use Rattle.decide.proofs.replies.submit_reply as submit-reply
 use Rattle.queue.proofs.submit as f
 
@@ -24,13 +24,13 @@ module _ {M : Type 1} (𝓤 : URA M) (H : Heap 𝓤) (A : Atoms 𝓤) (W : Given
     callees =
         (submit-decision.Symbol.name, tripleOf 𝓤 H A submit-decision.signature (submit-decision.spec 𝓤 H A mem run))
         ∷ (new-request.Symbol.name, tripleOf 𝓤 H A new-request.signature (new-request.spec 𝓤 H A mem run))
-        ∷ (apply.Symbol.name, tripleOf 𝓤 H A apply.signature (apply.spec 𝓤 H A mem run))
+        ∷ (put-in.Symbol.name, tripleOf 𝓤 H A put-in.signature (put-in.spec 𝓤 H A mem run))
         ∷ (submit-reply.Symbol.name, tripleOf 𝓤 H A submit-reply.signature (submit-reply.spec 𝓤 H A mem run))
         ∷ [];
   }
 
   walk : (𝓣 : Tables 𝓤 H) → Walk shape 𝓣
-  walk 𝓣 known-submit-decision known-new-request known-apply known-submit-reply κs qs head head-is waiting submitted served dropped client client-is deadline deadline-is g Q leaves bs =
+  walk 𝓣 known-submit-decision known-new-request known-put-in known-submit-reply κs qs head head-is waiting submitted served dropped client client-is deadline deadline-is g Q leaves bs =
       let ws : List Request = waiting .list in
       let su : List ℕ = submitted .list in
       let se : List ℕ = served .list in
@@ -42,8 +42,8 @@ module _ {M : Type 1} (𝓤 : URA M) (H : Heap 𝓤) (A : Atoms 𝓤) (W : Given
       -- let new = edits::new_request(head, client, deadline);
       calls-for ! 𝓣 [] (the-head W head head-is ∷ number W client (client-is .1) ∷ number W deadline (deadline-is .1) ∷ []) a-request (λ c. known-new-request) (λ c h. h) (id⊢ 𝓤 _) refl (λ c. vars ! (refl, (refl, (refl, tt)))) (λ _. refl) (λ new last₂ news kept₂ new-is.
       relends ! waiting refl $
-      -- let gone = apply(waiting, decision, head, new);
-      calls-for ! 𝓣 (0 ∷ []) (mut-of W waiting ws refl ∷ given W a-decision decision decision-is ∷ the-head W head head-is ∷ request W new new-is ∷ []) a-request (λ c. known-apply) (λ c h. h) (id⊢ 𝓤 _) refl (λ c. vars ! (refl, (refl, (refl, (refl, tt))))) (λ _. refl) (λ gone last₃ moved kept₃ gone-is.
+      -- let gone = put_in(waiting, decision, head, new);
+      calls-for ! 𝓣 (0 ∷ []) (mut-of W waiting ws refl ∷ given W a-decision decision decision-is ∷ the-head W head head-is ∷ request W new new-is ∷ []) a-request (λ c. known-put-in) (λ c h. h) (id⊢ 𝓤 _) refl (λ c. vars ! (refl, (refl, (refl, (refl, tt))))) (λ _. refl) (λ gone last₃ moved kept₃ gone-is.
       relends ! submitted refl $ relends ! served refl $ relends ! dropped refl $
       -- replies::submit_reply(head, submitted, served, dropped, decision, client, gone)
       calls-for ! 𝓣 (1 ∷ 2 ∷ 3 ∷ []) (the-head W head head-is ∷ mut-of W submitted su refl ∷ shr-of W served se refl ∷ mut-of W dropped dr refl ∷ given W a-decision decision decision-is ∷ number W client (client-is .1) ∷ request W gone gone-is ∷ []) a-reply (λ c. known-submit-reply) (λ c h. h) (id⊢ 𝓤 _) refl (λ c. vars ! (refl, (refl, (refl, (refl, (refl, (refl, (refl, tt)))))))) (λ _. refl) (λ r last₄ told kept₄ r-is. gives ! refl refl $
@@ -58,7 +58,7 @@ submit-spec 𝓤 H 𝓜 𝓖 𝓡 =
       (
         (new-request.Symbol.routine, f.Code.calls-decide·edits·new-request, new-request.Met.met 𝓤 H 𝓜 𝓖 𝓡),
         (
-          (apply.Symbol.routine, f.Code.calls-queue·apply, apply.Met.met 𝓤 H 𝓜 𝓖 𝓡),
+          (put-in.Symbol.routine, f.Code.calls-queue·put-in, put-in.Met.met 𝓤 H 𝓜 𝓖 𝓡),
           ((submit-reply.Symbol.routine, f.Code.calls-decide·replies·submit-reply, submit-reply.Met.met 𝓤 H 𝓜 𝓖 𝓡), tt),
         ),
       ),

@@ -1,9 +1,8 @@
 -- `queue::tick` meets its contract: a walk of six calls.
 -- Assumes nothing.
-use Rattle.walk.proofs.Prelude.{ℕ, refl, List, [], _∷_, URA, w64, SProp, emp, id⊢, Memory, Routine, Heap, Tables, Atoms, Fun, tables, Given, _$_, !, u32, tripleOf}
-use Rattle.walk.proofs.Prelude.{drop, number, lent, so, Shape, Walk, proved, calls-giving, vars, relends, gives, mut-of, shr-of, made, of-number, taken, given, calls-for}
+use Rattle.walk.proofs.Prelude.{ℕ, refl, List, [], _∷_, lit<, URA, w64, SProp, id⊢, Memory, Routine, Heap, Tables, Atoms, Fun, tables, Given, _$_, !, lit, and-then, no-more, u32, tripleOf}
+use Rattle.walk.proofs.Prelude.{drop, number, lent, so, Shape, Walk, proved, var, vars, relends, gives, mut-of, shr-of, made, of-number, taken, given, calls-for}
 use Rattle.spec.specs.declared.types.Request.{Request}
-use Rattle.spec.specs.Tables.{zeroRequest}
 use Rattle.table.proofs.Rows.{R, a-request, request}
 use Rattle.table.proofs.Heads.{the-head, a-head}
 use Rattle.queue.proofs.Values.{ReplyT, a-reply, a-decision}
@@ -11,8 +10,8 @@ use Rattle.queue.proofs.Together.{ticked}
 use Rattle.sound.proofs.check.tables_refusal as tables-refusal
 use Rattle.decide.proofs.refusals.tick_refusal as tick-refusal
 use Rattle.decide.proofs.calls.tick_decision as tick-decision
-use Rattle.table.proofs.zero as zero
-use Rattle.queue.proofs.apply as apply
+use Rattle.decide.proofs.edits.serving as serving
+use Rattle.table.proofs.remove as remove
 use Rattle.decide.proofs.replies.tick_reply as tick-reply
 use Rattle.queue.proofs.tick as f
 
@@ -28,14 +27,14 @@ module _ {M : Type 1} (𝓤 : URA M) (H : Heap 𝓤) (A : Atoms 𝓤) (W : Given
         (tables-refusal.Symbol.name, tripleOf 𝓤 H A tables-refusal.signature (tables-refusal.spec 𝓤 H A mem run))
         ∷ (tick-refusal.Symbol.name, tripleOf 𝓤 H A tick-refusal.signature (tick-refusal.spec 𝓤 H A mem run))
         ∷ (tick-decision.Symbol.name, tripleOf 𝓤 H A tick-decision.signature (tick-decision.spec 𝓤 H A mem run))
-        ∷ (zero.Symbol.name, tripleOf 𝓤 H A zero.signature (zero.spec 𝓤 H A mem run))
-        ∷ (apply.Symbol.name, tripleOf 𝓤 H A apply.signature (apply.spec 𝓤 H A mem run))
+        ∷ (serving.Symbol.name, tripleOf 𝓤 H A serving.signature (serving.spec 𝓤 H A mem run))
+        ∷ (remove.Symbol.name, tripleOf 𝓤 H A remove.signature (remove.spec 𝓤 H A mem run))
         ∷ (tick-reply.Symbol.name, tripleOf 𝓤 H A tick-reply.signature (tick-reply.spec 𝓤 H A mem run))
         ∷ [];
   }
 
   walk : (𝓣 : Tables 𝓤 H) → Walk shape 𝓣
-  walk 𝓣 known-tables-refusal known-tick-refusal known-tick-decision known-zero known-apply known-tick-reply κs qs head head-is s₀ s₁ s₂ s₃ g Q leaves bs =
+  walk 𝓣 known-tables-refusal known-tick-refusal known-tick-decision known-serving known-remove known-tick-reply κs qs head head-is s₀ s₁ s₂ s₃ g Q leaves bs =
       let ws : List Request = s₀ .list in
       let su : List ℕ = s₁ .list in
       let se : List ℕ = s₂ .list in
@@ -51,21 +50,21 @@ module _ {M : Type 1} (𝓤 : URA M) (H : Heap 𝓤) (A : Atoms 𝓤) (W : Given
       calls-for ! 𝓣 [] (number W tables (tables-is .1) ∷ the-head W head head-is ∷ []) (of-number w64) (λ c. known-tick-refusal) (λ c h. h) (id⊢ 𝓤 _) refl (λ c. vars ! (refl, (refl, tt))) (λ _. refl) (λ refusal last₂ refuses kept₂ refusal-is.
       -- let decision = calls::tick_decision(refusal, head);
       calls-for ! 𝓣 [] (number W refusal (refusal-is .1) ∷ the-head W head head-is ∷ []) a-decision (λ c. known-tick-decision) (λ c h. h) (id⊢ 𝓤 _) refl (λ c. vars ! (refl, (refl, tt))) (λ _. refl) (λ decision last₃ decides kept₃ decision-is.
-      -- let zero = table::zero();
-      calls-giving ! 𝓣 [] [] a-request zeroRequest (λ c. known-zero) (λ c h. h) (id⊢ 𝓤 (emp 𝓤)) refl (λ c. vars ! tt) (λ ws. refl) (λ _ zero-is.
+      -- let n = edits::serving(decision, head);
+      calls-for ! 𝓣 [] (given W a-decision decision decision-is ∷ the-head W head head-is ∷ []) (of-number w64) (λ c. known-serving) (λ c h. h) (id⊢ 𝓤 _) refl (λ c. vars ! (refl, (refl, tt))) (λ _. refl) (λ n last₄ counts kept₄ n-is.
       relends ! s₀ refl $
-      -- let gone = apply(waiting, decision, head, zero);
-      calls-for ! 𝓣 (0 ∷ []) (mut-of W s₀ ws refl ∷ given W a-decision decision decision-is ∷ the-head W head head-is ∷ request W zeroRequest zero-is ∷ []) a-request (λ c. known-apply) (λ c h. h) (id⊢ 𝓤 _) refl (λ c. vars ! (refl, (refl, (refl, (refl, tt))))) (λ _. refl) (λ gone last₄ moved kept₄ gone-is.
-      let ws₁ : List Request = last₄ .0 in
+      -- let gone = table::remove(waiting, n, 0);
+      calls-for ! 𝓣 (0 ∷ []) (mut-of W s₀ ws refl ∷ number W n (n-is .1) ∷ number W 0 (lit< tt) ∷ []) a-request (λ c. known-remove) (λ c h. h) (id⊢ 𝓤 _) refl (λ c. and-then ! (var ! refl) (and-then ! (var ! refl) (and-then ! (lit ! tt) (no-more !)))) (λ _. refl) (λ gone last₅ moved kept₅ gone-is.
+      let ws₁ : List Request = last₅ .0 in
       relends ! s₁ refl $
       relends ! s₂ refl $
       relends ! s₃ refl $
       -- replies::tick_reply(head, submitted, served, dropped, decision, gone)
-      calls-for ! 𝓣 (1 ∷ 2 ∷ 3 ∷ []) (the-head W head head-is ∷ mut-of W s₁ su refl ∷ mut-of W s₂ se refl ∷ mut-of W s₃ dr refl ∷ given W a-decision decision decision-is ∷ request W gone gone-is ∷ []) a-reply (λ c. known-tick-reply) (λ c h. h) (id⊢ 𝓤 _) refl (λ c. vars ! (refl, (refl, (refl, (refl, (refl, (refl, tt))))))) (λ _. refl) (λ r last₅ told kept₅ r-is.
-      let su₁ : List ℕ = last₅ .1 .0 in
-      let se₁ : List ℕ = last₅ .1 .1 .0 in
-      let dr₁ : List ℕ = last₅ .1 .1 .1 .0 in
-      gives ! refl refl $ leaves (a-reply .val r) r (last₄ .0, (last₅ .1 .0, (last₅ .1 .1 .0, (last₅ .1 .1 .1 .0, tt)))) (kept₄ .0, (kept₅ .0, (kept₅ .1 .0, (kept₅ .1 .1 .0, tt)))) (made W a-reply r r-is) (so 𝓤 (ticked head ws su se dr tables refusal decision gone ws₁ r su₁ se₁ dr₁ found refuses decides moved told))))))))
+      calls-for ! 𝓣 (1 ∷ 2 ∷ 3 ∷ []) (the-head W head head-is ∷ mut-of W s₁ su refl ∷ mut-of W s₂ se refl ∷ mut-of W s₃ dr refl ∷ given W a-decision decision decision-is ∷ request W gone gone-is ∷ []) a-reply (λ c. known-tick-reply) (λ c h. h) (id⊢ 𝓤 _) refl (λ c. vars ! (refl, (refl, (refl, (refl, (refl, (refl, tt))))))) (λ _. refl) (λ r last₆ told kept₆ r-is.
+      let su₁ : List ℕ = last₆ .1 .0 in
+      let se₁ : List ℕ = last₆ .1 .1 .0 in
+      let dr₁ : List ℕ = last₆ .1 .1 .1 .0 in
+      gives ! refl refl $ leaves (a-reply .val r) r (last₅ .0, (last₆ .1 .0, (last₆ .1 .1 .0, (last₆ .1 .1 .1 .0, tt)))) (kept₅ .0, (kept₆ .0, (kept₆ .1 .0, (kept₆ .1 .1 .0, tt)))) (made W a-reply r r-is) (so 𝓤 (ticked head ws su se dr tables refusal decision n gone ws₁ r su₁ se₁ dr₁ found refuses decides counts moved told))))))))
 
 pub tick-spec : {M : Type 1} → f.Statement.statement M
 unfolding f.Code.routine
@@ -77,9 +76,9 @@ tick-spec 𝓤 H 𝓜 𝓖 𝓡 =
         (
           (tick-decision.Symbol.routine, f.Code.calls-decide·calls·tick-decision, tick-decision.Met.met 𝓤 H 𝓜 𝓖 𝓡),
           (
-            (zero.Symbol.routine, f.Code.calls-table·zero, zero.Met.met 𝓤 H 𝓜 𝓖 𝓡),
+            (serving.Symbol.routine, f.Code.calls-decide·edits·serving, serving.Met.met 𝓤 H 𝓜 𝓖 𝓡),
             (
-              (apply.Symbol.routine, f.Code.calls-queue·apply, apply.Met.met 𝓤 H 𝓜 𝓖 𝓡),
+              (remove.Symbol.routine, f.Code.calls-table·remove, remove.Met.met 𝓤 H 𝓜 𝓖 𝓡),
               ((tick-reply.Symbol.routine, f.Code.calls-decide·replies·tick-reply, tick-reply.Met.met 𝓤 H 𝓜 𝓖 𝓡), tt),
             ),
           ),
