@@ -9,7 +9,7 @@ use borrow.Author.Tests.{le-ltb, lt-ltb, lt-leb, eq-eqb, ne-eqb}
 use lib.Dec.{eqb}
 use lib.ListN.{length, getD, length-replicate}
 use Rattle.spec.specs.declared.types.Setup.{Setup}
-use Rattle.spec.specs.Tables.{mostAhead, mostCounted, zeroRequest, zeroCounts, State}
+use Rattle.spec.specs.Tables.{mostAhead, mostCounted, zeroRequest, zeroCounts, State, clientTable}
 use Rattle.spec.specs.Setup.{Refusal, firstMatch}
 use Rattle.spec.specs.Refusals.{openRefusals, submitRefusals, tickRefusals, reportRefusals, chartRefusals, refusal4}
 use Rattle.spec.specs.Refusals.{refusal5, refusal6, refusal7, refusal8, refusal9, refusal10, refusal11, refusal12}
@@ -80,14 +80,14 @@ module _ {t : ℕ} (own : List Refusal) where
 
 -- ---- of a state, told what its tables call for: the first that matches of the call's whole list
 pub open-told : (setup : Setup) (s : State)
-    → openMatch setup (length (s .waitingTable)) (length (clientTable s)) ≡ firstMatch (openRefusals setup s)
+    → openMatch setup (length (s .waitingTable)) (length (s .clientNumbers)) ≡ firstMatch (openRefusals setup s)
 unfolding openMatch openRefusals
 open-told setup s =
-    rw (length-replicate (length (s .waitingTable)) zeroRequest, length-replicate (length (clientTable s)) zeroCounts)
+    rw (length-replicate (length (s .waitingTable)) zeroRequest, length-replicate {A = ℕ} (length (s .clientNumbers)) 0)
 
 module _ (s : State) {tables : ℕ} (found : tables ≡ tablesRefusal s) where
   pub submit-told : (client deadline : ℕ)
-      → submitMatch tables (s .head) (length (s .waitingTable)) (clientTable s) client deadline
+      → submitMatch tables (s .head) (length (s .waitingTable)) (s .clientNumbers) client deadline
       ≡ firstMatch (submitRefusals client deadline s)
   unfolding submitMatch submitRefusals
   submit-told client deadline =

@@ -1,4 +1,4 @@
--- What a refusal that was found says of a decision, and an accepted submit of the columns that show the state. Assumes nothing.
+-- What a refusal that was found says of a decision, and an accepted submit of the client table. Assumes nothing.
 use Prim.Native.Nat.{ℕ, _<_}
 use mathlib.Core.Path.{_≡_, refl, sym, ap, _∙_}
 use mathlib.Core.Logic.{_≢_}
@@ -12,12 +12,11 @@ use Rattle.slots.proofs.Laws.Tests.{Same, same-yes, same-no, same}
 use Rattle.spec.specs.declared.types.Head.{Head}
 use Rattle.spec.specs.declared.types.Request.{Request}
 use Rattle.spec.specs.declared.types.Counts.{Counts}
-use Rattle.spec.specs.Tables.{zeroCounts, State, waiting}
+use Rattle.spec.specs.Tables.{zeroCounts, State, waiting, clientTable}
 use Rattle.spec.specs.Setup.{Refusal, firstMatch}
 use Rattle.spec.specs.Refusals.{submitRefusals, tickRefusals}
 use Rattle.spec.proofs.Laws.Accepted.{SubmitReady, waiting-length, tick-ready}
 use Rattle.columns.specs.Widths.{largest32}
-use Rattle.columns.proofs.Laws.{length-rows, getD-rows}
 use Rattle.decide.specs.declared.types.Decision.the-variants.{Refuse, Serve, Idle}
 use Rattle.decide.specs.Decisions.{submitChoice, submitDecision, tickChoice, tickDecision, tickBy}
 
@@ -56,23 +55,11 @@ module _ (client deadline : ℕ) (s : State) {t : ℕ} (found : t ≡ firstMatch
   unfolding submitDecision
   submit-goes z = sym (goes-on (submitChoice client deadline s) Refuse (submitRefusals client deadline s) found z)
 
--- ---- what an accepted submit says of the columns
-module _
-    {head : Head} {s : State} {client deadline : ℕ} (ready : SubmitReady client deadline s) (same : s .head ≡ head) where
-  -- the client's submitted has room for one more
-  pub small : (su se dr : List ℕ) → clientTable s ≡ countsOf su se dr → getD su client 0 < largest32
-  small su se dr counts =
-      omega (
-        arith,
-        ap (λ (k : Counts). k .submitted) own,
-        ready .ready .sound .balanced client (omega (arith, ready .exists, ready .ready .shape .clients)) .1,
-      )
-    where
-      inside : client < length (countsOf su se dr)
-      inside = omega (arith, ready .exists, ready .ready .shape .clients, ap length counts)
-
-      own : getD (clientTable s) client zeroCounts ≡ countOf (getD su client 0) (getD se client 0) (getD dr client 0)
-      own =
-          let l = length-rows countOf su se dr in
-          ap (λ (t : List Counts). getD t client zeroCounts) counts
-          ∙ getD-rows countOf su se dr client zeroCounts (omega (arith, inside)) (omega (arith, inside)) (omega (arith, inside))
+-- ---- what an accepted submit says of the client's submitted: it has room for one more
+pub small : {client deadline : ℕ} (s : State) → SubmitReady client deadline s
+    → getD (clientTable s) client zeroCounts .submitted < largest32
+small {client} s ready =
+    omega (
+      arith,
+      ready .ready .sound .balanced client (omega (arith, ready .exists, ready .ready .shape .clients)) .1,
+    )

@@ -41,11 +41,11 @@ submitDecision client deadline s = unless (submitRefusals client deadline s) (su
 
 -- what the searches find of an accepted submit in a state: the new request's place; the first overfull deadline, 0 where there is
 -- none; and, where there is one, of each client the last candidate, the waiting requests that are due by it and the new one
-pub record Found (client deadline : ℕ) (head : Head) (latest submitted served dropped : List ℕ) (place found : ℕ) (s : State)
+pub record Found (client deadline : ℕ) (head : Head) (latest numbers : List ℕ) (place found : ℕ) (s : State)
     : Type 0 where
   pub accepted : firstMatch (submitRefusals client deadline s) ≡ 0
   pub head-same : s .head ≡ head
-  pub counts-same : clientTable s ≡ countsOf submitted served dropped
+  pub numbers-same : s .clientNumbers ≡ numbers
   pub placed : place ≡ dueBy deadline (waiting s)
   pub searched : found ≡ overfullFrom (s .head) place (deadline ∷ drop place (deadlinesOf (waiting s)))
   pub marked : 0 < found

@@ -7,8 +7,7 @@ use lib.Dec.{eqb}
 use lib.ListN.{replicate}
 use Rattle.spec.specs.declared.types.Setup.{Setup}
 use Rattle.spec.specs.declared.types.Head.{Head}
-use Rattle.spec.specs.declared.types.Counts.{Counts}
-use Rattle.spec.specs.Tables.{zeroRequest, zeroCounts, openHead, State}
+use Rattle.spec.specs.Tables.{zeroRequest, openHead, State, stateOf}
 use Rattle.spec.specs.Setup.{Refusal, firstMatch}
 use Rattle.spec.specs.Refusals.{openRefusals, refusal6, refusal7, refusal8, refusal9, refusal10}
 use Rattle.spec.specs.Refusals.{refusal11, refusal12}
@@ -18,25 +17,25 @@ abbrev pub ofTables : ℕ → Refusal
 ofTables tables = record { number = tables; holds = not (eqb tables 0) }
 
 -- a state with this head, so many waiting records and this client table: all that a call's own refusals ask of a state
-abbrev pub told : Head → ℕ → List Counts → State
-told head records cs = record { head = head; waitingTable = replicate records zeroRequest; clientTable = cs }
+abbrev pub told : Head → ℕ → List ℕ → State
+told head records numbers = stateOf head (replicate records zeroRequest) numbers
 
 -- what open is told: the setup given, and the lengths of both tables
 abbrev pub openTold : Setup → ℕ → ℕ → State
-openTold setup records accounts = told (openHead setup) records (replicate accounts zeroCounts)
+openTold setup records numbers = told (openHead setup) records (replicate numbers 0)
 
 unfoldable pub openMatch : Setup → ℕ → ℕ → ℕ
-openMatch setup records accounts = firstMatch (openRefusals setup (openTold setup records accounts))
+openMatch setup records numbers = firstMatch (openRefusals setup (openTold setup records numbers))
 
-unfoldable pub submitMatch : ℕ → Head → ℕ → List Counts → ℕ → ℕ → ℕ
-submitMatch tables head records cs client deadline =
+unfoldable pub submitMatch : ℕ → Head → ℕ → List ℕ → ℕ → ℕ → ℕ
+submitMatch tables head records numbers client deadline =
     firstMatch
     (ofTables tables
-    ∷ refusal6 client (told head records cs)
-    ∷ refusal7 deadline (told head records cs)
-    ∷ refusal8 client (told head records cs)
-    ∷ refusal9 (told head records cs)
-    ∷ refusal10 (told head records cs)
+    ∷ refusal6 client (told head records numbers)
+    ∷ refusal7 deadline (told head records numbers)
+    ∷ refusal8 client (told head records numbers)
+    ∷ refusal9 (told head records numbers)
+    ∷ refusal10 (told head records numbers)
     ∷ [])
 
 unfoldable pub tickMatch : ℕ → Head → ℕ

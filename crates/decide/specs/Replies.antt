@@ -11,11 +11,11 @@ use Rattle.spec.specs.declared.types.Request.{Request}
 use Rattle.spec.specs.declared.types.Counts.{Counts}
 use Rattle.spec.specs.declared.types.Answer.the-variants as answer
 use Rattle.spec.specs.declared.types.Answer.the-variants.{Opened, Kept, Dropped, Served, Reported, Charted, Refused}
-use Rattle.spec.specs.Tables.{zeroRequest, zeroCounts, openHead}
+use Rattle.spec.specs.Tables.{zeroRequest, openHead}
 use Rattle.spec.specs.Order.{insertAt, removeAt}
 use Rattle.spec.specs.Calls.{Outcome}
 use Rattle.columns.specs.Widths.{largest64}
-use Rattle.columns.specs.Clients.{oneAdded, waitingCount, restartedAt}
+use Rattle.columns.specs.Clients.{changedAt, moreSubmitted, moreServed, moreDropped, waitingCount, restartedNumbers}
 use Rattle.table.specs.Records.{areIn, inserted, removed, removedOut}
 use Rattle.decide.specs.declared.types.Decision.{Decision}
 use Rattle.decide.specs.declared.types.Decision.the-variants.{Refuse, Keep, Drop, Serve, Idle}
@@ -125,8 +125,8 @@ abbrev pub openReply : ℕ → Head → Setup → Reply
 openReply refusal head setup = replyUnless refusal head (record { head = openHead setup; answer = Opened })
 
 -- ".. and every record to zero."
-abbrev pub openCounts : ℕ → List Counts → List Counts
-openCounts refusal cs = cond (eqb refusal 0) (replicate (length cs) zeroCounts) cs
+abbrev pub openNumbers : ℕ → List ℕ → List ℕ
+openNumbers refusal xs = cond (eqb refusal 0) (replicate (length xs) 0) xs
 
 abbrev pub reportReply : ℕ → Head → ℕ → Counts → Reply
 reportReply refusal head client k = replyUnless refusal head (reportedWith head client k)
@@ -134,8 +134,7 @@ reportReply refusal head client k = replyUnless refusal head (reportedWith head 
 abbrev pub chartReply : ℕ → Head → Reply
 chartReply refusal head = replyUnless refusal head (record { head = head; answer = Charted (head .waiting) })
 
--- a submit, and the columns submitted and dropped after it. `gone` is the record that went out; no submit decides on the last
--- two
+-- a submit, and the client table's numbers after it. `gone` is the record that went out; no submit decides on the last two
 abbrev pub submitReply : Head → Request → Decision → Reply
 submitReply head gone (Refuse number) = refusedWith head number
 submitReply head gone (Keep place) = keptWith head place
@@ -143,21 +142,14 @@ submitReply head gone (Drop place victim) = droppedWith head gone
 submitReply head gone Serve = refusedWith head 0
 submitReply head gone Idle = refusedWith head 0
 
-abbrev pub submittedAfter : ℕ → Decision → List ℕ → List ℕ
-submittedAfter client (Refuse number) su = su
-submittedAfter client (Keep place) su = oneAdded client su
-submittedAfter client (Drop place victim) su = oneAdded client su
-submittedAfter client Serve su = su
-submittedAfter client Idle su = su
+abbrev pub submitNumbers : ℕ → Request → Decision → List ℕ → List ℕ
+submitNumbers client gone (Refuse number) xs = xs
+submitNumbers client gone (Keep place) xs = changedAt moreSubmitted client xs
+submitNumbers client gone (Drop place victim) xs = changedAt moreDropped (gone .client) (changedAt moreSubmitted client xs)
+submitNumbers client gone Serve xs = xs
+submitNumbers client gone Idle xs = xs
 
-abbrev pub droppedAfter : Request → Decision → List ℕ → List ℕ
-droppedAfter gone (Refuse number) dr = dr
-droppedAfter gone (Keep place) dr = dr
-droppedAfter gone (Drop place victim) dr = oneAdded (gone .client) dr
-droppedAfter gone Serve dr = dr
-droppedAfter gone Idle dr = dr
-
--- a tick; the column served before a period may start, and the client table then. No tick decides on Keep or Drop
+-- a tick, and the client table's numbers after it. No tick decides on Keep or Drop
 abbrev pub tickReply : Head → Request → Decision → Reply
 tickReply head gone (Refuse number) = refusedWith head number
 tickReply head gone (Keep place) = refusedWith head 0
@@ -169,23 +161,16 @@ tickReply head gone Serve =
     }
 tickReply head gone Idle = record { head = laterHead head (head .waiting); answer = answer.Idle (head .clock) }
 
-abbrev pub servedAfter : Request → Decision → List ℕ → List ℕ
-servedAfter gone (Refuse number) se = se
-servedAfter gone (Keep place) se = se
-servedAfter gone (Drop place victim) se = se
-servedAfter gone Serve se = oneAdded (gone .client) se
-servedAfter gone Idle se = se
+abbrev pub tickNumbers : Head → Request → Decision → List ℕ → List ℕ
+tickNumbers head gone (Refuse number) xs = xs
+tickNumbers head gone (Keep place) xs = xs
+tickNumbers head gone (Drop place victim) xs = xs
+tickNumbers head gone Serve xs =
+    restartedNumbers (head .setup .period) (raised (head .clock)) (changedAt moreServed (gone .client) xs)
+tickNumbers head gone Idle xs = restartedNumbers (head .setup .period) (raised (head .clock)) xs
 
-abbrev pub tickCounts : Head → Decision → List Counts → List Counts
-tickCounts head (Refuse number) cs = cs
-tickCounts head (Keep place) cs = cs
-tickCounts head (Drop place victim) cs = cs
-tickCounts head Serve cs = restartedAt (head .setup .period) (raised (head .clock)) cs
-tickCounts head Idle cs = restartedAt (head .setup .period) (raised (head .clock)) cs
-
--- what a call hands back and leaves in the columns of the client table is what the outcome says
-pub record Answers (o : Outcome) (submitted₀ served₀ dropped₀ : List ℕ) (r : Reply) (submitted served dropped : List ℕ) :
-    Type 0 where
+-- what a call hands back, and what it leaves of the client table, is what the outcome says
+pub record Answers (o : Outcome) (r : Reply) (numbers : List ℕ) : Type 0 where
   pub answer-same : r .answer ≡ o .answer
   pub head-same : r .head ≡ o .after .head
-  pub counts-same : Holds (o .clientTable after) submitted₀ served₀ dropped₀ submitted served dropped
+  pub numbers-same : numbers ≡ o .after .clientNumbers

@@ -5,6 +5,7 @@ use spec::types::Head;
 ghost use mathlib.Core.Path.{_≡_};
 ghost use Prim.Native.Nat.{_≤_, _<_};
 ghost use lib.ListN.{length, getD};
+ghost use Rattle.spec.specs.Tables.{zeroCounts, recordsOf};
 ghost use Rattle.columns.specs.Widths.{largest32};
 ghost use Rattle.search.specs.Scans.{countsWith};
 ghost use Rattle.decide.specs.declared.types.Decision.the-variants.{Refuse};
@@ -22,23 +23,21 @@ pub fn refuse(number: u64) -> Decision
 pub fn submit_choice(
     head: Head,
     latest: &[u16],
-    submitted: &[u32],
-    served: &[u32],
-    dropped: &[u32],
+    numbers: &[u32],
     client: u64,
     place: usize,
     found: u64,
 ) -> Decision
-    requires { ⌜ (head .setup .clients ≤ length (now latest)) × (getD (now submitted) client 0 < largest32) ⌝ }
+    requires { ⌜ (head .setup .clients ≤ length (now latest)) × (getD (recordsOf (now numbers)) client zeroCounts .submitted < largest32) ⌝ }
     ensures { λ r. ⌜ r ≡ choiceBy (head .setup .clients)
-        (countsWith client (now (submitted .entry)) (now (served .entry)) (now (dropped .entry)))
+        (countsWith client (recordsOf (now (numbers .entry))))
         (now (latest .entry)) place found ⌝ }
 {
     if found == 0 {
         return Decision::Keep { place };
     }
     let clients = head.setup.clients as usize;
-    let victim = victim::smallest_ratio_place(latest, submitted, served, dropped, client, clients);
+    let victim = victim::smallest_ratio_place(latest, numbers, client, clients);
     Decision::Drop { place, victim }
 }
 

@@ -1,6 +1,6 @@
 // The refusals, first match wins: each function gives the number of the first that matches, or 0. `tables` is what the tables
 // call for, 4 or 5 or 0, however it was found: refusals 4 and 5 stand first in every list but open's.
-use columns::rows;
+use columns::clients;
 use sound::record;
 use spec::bounds;
 use spec::types::Head;
@@ -9,8 +9,8 @@ ghost use mathlib.Core.Path.{_≡_};
 ghost use Rattle.decide.specs.Matches.{openMatch, submitMatch, tickMatch, reportMatch, chartMatch};
 
 // Open's, by the lengths of the tables.
-pub fn open_refusal(setup: Setup, records: usize, accounts: usize) -> u64
-    ensures { λ r. ⌜ r ≡ openMatch setup records accounts ⌝ }
+pub fn open_refusal(setup: Setup, records: usize, numbers: usize) -> u64
+    ensures { λ r. ⌜ r ≡ openMatch setup records numbers ⌝ }
 {
     let bad = record::setup_refusal(setup);
     if bad != 0 {
@@ -19,7 +19,7 @@ pub fn open_refusal(setup: Setup, records: usize, accounts: usize) -> u64
     if !((1 <= records) & (records <= bounds::MOST_RECORDS)) {
         return 4;
     }
-    if accounts as u64 != setup.clients {
+    if !clients::are_records(numbers, setup.clients) {
         return 4;
     }
     0
@@ -30,14 +30,11 @@ pub fn submit_refusal(
     tables: u64,
     head: Head,
     records: usize,
-    submitted: &[u32],
-    served: &[u32],
-    dropped: &[u32],
+    numbers: &[u32],
     client: u64,
     deadline: u64,
 ) -> u64
-    ensures { λ r. ⌜ r ≡ submitMatch tables head records
-        (countsOf (now (submitted .entry)) (now (served .entry)) (now (dropped .entry))) client deadline ⌝ }
+    ensures { λ r. ⌜ r ≡ submitMatch tables head records (now (numbers .entry)) client deadline ⌝ }
 {
     if tables != 0 {
         return tables;
@@ -51,7 +48,7 @@ pub fn submit_refusal(
     if bounds::MOST_AHEAD < deadline - head.clock {
         return 7;
     }
-    if rows::counts_at(submitted, served, dropped, client).submitted == bounds::MOST_COUNTED {
+    if clients::counts_at(numbers, client).submitted == bounds::MOST_COUNTED {
         return 8;
     }
     if head.last == bounds::NUMBER_END {

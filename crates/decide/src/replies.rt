@@ -1,10 +1,9 @@
-// What a call hands back, and what it leaves in the columns of the client table. Nothing is asked of the caller: in sound
+// What a call hands back, and what it leaves in the client table, lent as its numbers. Nothing is asked of the caller: in sound
 // tables no number is at its largest, and where tables are not sound the call was refused.
 use crate::edits;
 use crate::types::Decision;
 use crate::types::Reply;
-use columns::counts;
-use columns::rows;
+use columns::clients;
 use spec::types::Answer;
 use spec::types::Head;
 use spec::types::Request;
@@ -12,11 +11,10 @@ use spec::types::Setup;
 ghost use mathlib.Core.Path.{_≡_};
 ghost use Prim.Native.Nat.{_-_};
 ghost use lib.ListN.{getD};
-ghost use Rattle.spec.specs.Tables.{zeroCounts};
-ghost use Rattle.columns.specs.Clients.{restartedAt};
+ghost use Rattle.spec.specs.Tables.{zeroCounts, recordsOf};
+ghost use Rattle.columns.specs.Clients.{restartedNumbers};
 ghost use Rattle.decide.specs.Replies.{raised, refusedWith, numberedHead, keptWith, droppedWith, laterHead, openReply};
-ghost use Rattle.decide.specs.Replies.{openCounts, submitReply, submittedAfter, droppedAfter, tickReply, servedAfter};
-ghost use Rattle.decide.specs.Replies.{tickCounts, reportReply, chartReply};
+ghost use Rattle.decide.specs.Replies.{openNumbers, submitReply, submitNumbers, tickReply, tickNumbers, reportReply, chartReply};
 
 // A refused call's.
 fn refused(head: Head, number: u64) -> Reply
@@ -27,23 +25,14 @@ fn refused(head: Head, number: u64) -> Reply
 }
 
 // Open: every count of the client table is 0.
-pub fn open_reply(
-    head: Head,
-    submitted: &mut [u32],
-    served: &mut [u32],
-    dropped: &mut [u32],
-    refusal: u64,
-    setup: Setup,
-) -> Reply
+pub fn open_reply(head: Head, numbers: &mut [u32], refusal: u64, setup: Setup) -> Reply
     ensures { λ r. ⌜ (r ≡ openReply refusal head setup)
-        × Holds (openCounts refusal (countsOf (now (submitted .entry)) (now (served .entry)) (now (dropped .entry))))
-        (now (submitted .entry)) (now (served .entry)) (now (dropped .entry))
-        (now (submitted .exit)) (now (served .exit)) (now (dropped .exit)) ⌝ }
+        × (now (numbers .exit) ≡ openNumbers refusal (now (numbers .entry))) ⌝ }
 {
     if refusal != 0 {
         return refused(head, refusal);
     }
-    counts::clear_table(submitted, served, dropped);
+    clients::clear(numbers);
     let opened = Head {
         setup,
         clock: 0,
@@ -107,29 +96,26 @@ fn dropped_one(head: Head, gone: Request) -> Reply
 // went out of the table, or the new one. A submit decides on neither of the last two.
 pub fn submit_reply(
     head: Head,
-    submitted: &mut [u32],
-    served: &[u32],
-    dropped: &mut [u32],
+    numbers: &mut [u32],
     decision: Decision,
     client: u64,
     gone: Request,
 ) -> Reply
     ensures { λ r. ⌜ (r ≡ submitReply head gone decision)
-        × (now (submitted .exit) ≡ submittedAfter client decision (now (submitted .entry)))
-        × (now (dropped .exit) ≡ droppedAfter gone decision (now (dropped .entry))) ⌝ }
+        × (now (numbers .exit) ≡ submitNumbers client gone decision (now (numbers .entry))) ⌝ }
 {
     match decision {
         Decision::Refuse { number } => refused(head, number),
         Decision::Keep { place } => {
-            counts::add_one(submitted, client);
+            clients::count_submitted(numbers, client);
             kept(head, place)
         }
         Decision::Drop {
             place: _,
             victim: _,
         } => {
-            counts::add_one(submitted, client);
-            counts::add_one(dropped, gone.client);
+            clients::count_submitted(numbers, client);
+            clients::count_dropped(numbers, gone.client);
             dropped_one(head, gone)
         }
         Decision::Serve => refused(head, 0),
@@ -148,22 +134,14 @@ fn one_less(n: u64) -> u64
 }
 
 // A slot passes: the clock rises by 1, and at a period's start the counts are restartedCounts.
-fn pass_slot(
-    head: Head,
-    submitted: &mut [u32],
-    served: &mut [u32],
-    dropped: &mut [u32],
-    waits: u64,
-) -> Head
+fn pass_slot(head: Head, numbers: &mut [u32], waits: u64) -> Head
     ensures { λ r. ⌜ (r ≡ laterHead head waits)
-        × Holds (restartedAt (head .setup .period) (raised (head .clock))
-        (countsOf (now (submitted .entry)) (now (served .entry)) (now (dropped .entry))))
-        (now (submitted .entry)) (now (served .entry)) (now (dropped .entry))
-        (now (submitted .exit)) (now (served .exit)) (now (dropped .exit)) ⌝ }
+        × (now (numbers .exit)
+        ≡ restartedNumbers (head .setup .period) (raised (head .clock)) (now (numbers .entry))) ⌝ }
 {
     let clock = edits::raised(head.clock);
     let setup = head.setup;
-    counts::restart_at(setup.period, clock, submitted, served, dropped);
+    clients::restart_at(setup.period, clock, numbers);
     Head {
         setup,
         clock,
@@ -173,35 +151,25 @@ fn pass_slot(
 }
 
 // Tick: `gone` is the record that is served.
-pub fn tick_reply(
-    head: Head,
-    submitted: &mut [u32],
-    served: &mut [u32],
-    dropped: &mut [u32],
-    decision: Decision,
-    gone: Request,
-) -> Reply
+pub fn tick_reply(head: Head, numbers: &mut [u32], decision: Decision, gone: Request) -> Reply
     ensures { λ r. ⌜ (r ≡ tickReply head gone decision)
-        × Holds (tickCounts head decision
-        (countsOf (now (submitted .entry)) (servedAfter gone decision (now (served .entry))) (now (dropped .entry))))
-        (now (submitted .entry)) (servedAfter gone decision (now (served .entry))) (now (dropped .entry))
-        (now (submitted .exit)) (now (served .exit)) (now (dropped .exit)) ⌝ }
+        × (now (numbers .exit) ≡ tickNumbers head gone decision (now (numbers .entry))) ⌝ }
 {
     match decision {
         Decision::Serve => {
-            counts::add_one(served, gone.client);
+            clients::count_served(numbers, gone.client);
             let left = one_less(head.waiting);
             let answer = Answer::Served {
                 slot: head.clock,
                 number: gone.number,
                 client: gone.client,
             };
-            let head = pass_slot(head, submitted, served, dropped, left);
+            let head = pass_slot(head, numbers, left);
             Reply { head, answer }
         }
         Decision::Idle => {
             let answer = Answer::Idle { slot: head.clock };
-            let head = pass_slot(head, submitted, served, dropped, head.waiting);
+            let head = pass_slot(head, numbers, head.waiting);
             Reply { head, answer }
         }
         Decision::Refuse { number } => refused(head, number),
@@ -214,22 +182,15 @@ pub fn tick_reply(
 }
 
 // Report's. What a client submitted and was neither served nor dropped waits.
-pub fn report_reply(
-    head: Head,
-    submitted: &[u32],
-    served: &[u32],
-    dropped: &[u32],
-    refusal: u64,
-    client: u64,
-) -> Reply
+pub fn report_reply(head: Head, numbers: &[u32], refusal: u64, client: u64) -> Reply
     ensures { λ r. ⌜ r ≡ reportReply refusal head client
-        (getD (countsOf (now (submitted .entry)) (now (served .entry)) (now (dropped .entry))) client zeroCounts) ⌝ }
+        (getD (recordsOf (now (numbers .entry))) client zeroCounts) ⌝ }
 {
     if refusal != 0 {
         return refused(head, refusal);
     }
-    let k = rows::counts_at(submitted, served, dropped, client);
-    let waiting = counts::waiting_count(k);
+    let k = clients::counts_at(numbers, client);
+    let waiting = clients::waiting_count(k);
     let answer = Answer::Reported {
         client,
         submitted: k.submitted as u64,

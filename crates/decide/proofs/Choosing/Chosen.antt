@@ -17,7 +17,7 @@ use Rattle.slots.proofs.Laws.Tests.{Same, same-yes, same-no, same, le, gt, orde
 use Rattle.spec.specs.declared.types.Head.{Head}
 use Rattle.spec.specs.declared.types.Request.{Request}
 use Rattle.spec.specs.declared.types.Counts.{Counts}
-use Rattle.spec.specs.Tables.{mostClients, zeroRequest, zeroCounts, State, waiting, deadlinesOf, clientsOf}
+use Rattle.spec.specs.Tables.{mostClients, zeroRequest, zeroCounts, State, waiting, deadlinesOf, clientsOf, recordsOf}
 use Rattle.spec.specs.Order.{placeOf, putInOrder}
 use Rattle.spec.specs.Chart.{roomTo, dueBy, hasNoOverfull, Search}
 use Rattle.spec.specs.Victim.{isCandidate, hasSmallerRatio}
@@ -329,8 +329,8 @@ place-last client deadline s r {found} e some = go (chosen client deadline s r) 
 
 -- ---- by what the searches found
 module _
-    {client deadline : ℕ} {head : Head} {latest su se dr : List ℕ} {place found : ℕ} {s : State}
-    (f : Found client deadline head latest su se dr place found s) where
+    {client deadline : ℕ} {head : Head} {latest numbers : List ℕ} {place found : ℕ} {s : State}
+    (f : Found client deadline head latest numbers place found s) where
   ready : SubmitReady client deadline s
   ready = submit-ready client deadline s (f .accepted)
 
@@ -356,16 +356,16 @@ module _
       HaveRatios counts xs n → (c : ℕ) → c < n → 0 < getD xs c 0 → Wins counts xs n victim
 
   -- it is one among the state's clients
-  of-state : (D victim : ℕ) → latest ≡ latestBy client deadline s D → Choice (countsWith client su se dr) latest (head .setup .clients) victim
+  of-state : (D victim : ℕ) → latest ≡ latestBy client deadline s D → Choice (countsWith client (recordsOf numbers)) latest (head .setup .clients) victim
       → Choice (countsIn client s) (latestBy client deadline s D) (s .head .setup .clients) victim
   of-state D victim e w =
       subst (λ (n : ℕ). Choice (countsIn client s) (latestBy client deadline s D) n victim)
       (ap (λ (h : Head). h .setup .clients) (sym (f .head-same)))
-      (subst (λ (cs : List Counts). Choice (λ c. getD (change oneMoreSubmitted client cs) c zeroCounts)
-      (latestBy client deadline s D) (head .setup .clients) victim) (sym (f .counts-same))
-      (subst (λ (xs : List ℕ). Choice (countsWith client su se dr) xs (head .setup .clients) victim) e w))
+      (subst (λ (ns : List ℕ). Choice (countsWith client (recordsOf ns)) (latestBy client deadline s D) (head .setup .clients) victim)
+      (sym (f .numbers-same))
+      (subst (λ (xs : List ℕ). Choice (countsWith client (recordsOf numbers)) xs (head .setup .clients) victim) e w))
 
-  choice-drops : found ≢ 0 → {victim : ℕ} → Choice (countsWith client su se dr) latest (head .setup .clients) victim
+  choice-drops : found ≢ 0 → {victim : ℕ} → Choice (countsWith client (recordsOf numbers)) latest (head .setup .clients) victim
       → Drop place victim ≡ submitChoice client deadline s
   choice-drops n {victim} w = go what n (f .marked)
     where
@@ -383,11 +383,11 @@ module _
           ap (λ (j : ℕ). Drop j victim) (f .placed) ∙ ap (Drop (dueBy deadline (waiting s))) v
 
   -- the choice by what was found is the submit's
-  pub choice-found : choiceBy (head .setup .clients) (countsWith client su se dr) latest place found ≡ submitChoice client deadline s
+  pub choice-found : choiceBy (head .setup .clients) (countsWith client (recordsOf numbers)) latest place found ≡ submitChoice client deadline s
   choice-found = go (eqb found 0) (same found 0)
     where
       go : (b : Bool) → Same found 0 b
-          → cond b (Keep place) (Drop place (smallestRatioPlace (countsWith client su se dr) latest (head .setup .clients)))
+          → cond b (Keep place) (Drop place (smallestRatioPlace (countsWith client (recordsOf numbers)) latest (head .setup .clients)))
           ≡ submitChoice client deadline s
       go true (same-yes z) = choice-keeps z
-      go false (same-no n) = choice-drops n (place-wins (countsWith client su se dr) latest (head .setup .clients))
+      go false (same-no n) = choice-drops n (place-wins (countsWith client (recordsOf numbers)) latest (head .setup .clients))

@@ -11,7 +11,7 @@ use lib.Seq.{take-take, length-take-le}
 use Rattle.spec.specs.declared.types.Head.{Head}
 use Rattle.spec.specs.declared.types.Request.{Request}
 use Rattle.spec.specs.Every.{countIf}
-use Rattle.spec.specs.Tables.{mostClients, mostRecords, clockEnd, State, waiting, deadlinesOf, clientsOf}
+use Rattle.spec.specs.Tables.{mostClients, mostRecords, clockEnd, State, waiting, deadlinesOf, clientsOf, recordsOf, zeroCounts}
 use Rattle.spec.specs.Chart.{dueBy}
 use Rattle.spec.specs.Setup.{firstMatch}
 use Rattle.spec.specs.Refusals.{submitRefusals}
@@ -27,10 +27,10 @@ use Rattle.decide.proofs.Choosing.Searched.{sorted}
 use Rattle.decide.proofs.Choosing.Chosen.{place-last}
 use Rattle.decide.proofs.States.{small}
 
-module _ (head : Head) (ws : List Request) (su se dr : List ℕ) (client deadline : ℕ)
-    (accepted : firstMatch (submitRefusals client deadline (stateOf head ws su se dr)) ≡ 0) where
+module _ (head : Head) (ws : List Request) (xs : List ℕ) (client deadline : ℕ)
+    (accepted : firstMatch (submitRefusals client deadline (stateOf head ws xs)) ≡ 0) where
   abbrev s : State
-  s = stateOf head ws su se dr
+  s = stateOf head ws xs
 
   abbrev n : ℕ
   n = head .waiting
@@ -51,8 +51,8 @@ module _ (head : Head) (ws : List Request) (su se dr : List ℕ) (client deadlin
   pub clients : head .setup .clients ≤ mostClients
   clients = ready .ready .sound .headed .setup .most-clients
 
-  pub rises : getD su client 0 < largest32
-  rises = small ready refl su se dr refl
+  pub rises : getD (recordsOf xs) client zeroCounts .submitted < largest32
+  rises = small s ready
 
   -- ---- what they find
   all : n ≤ length (deadlinesOf ws)
@@ -142,12 +142,12 @@ module _ (head : Head) (ws : List Request) (su se dr : List ℕ) (client deadlin
               length-take-le place (take last cs)
               (omega (arith, behind, within, waits, length-take last cs, length-map ws (λ (w : Request). w .client)))
 
-      pub found-all : Found client deadline head l₃ su se dr place found s
+      pub found-all : Found client deadline head l₃ xs place found s
       found-all =
           record {
             accepted = accepted;
             head-same = refl;
-            counts-same = refl;
+            numbers-same = refl;
             placed = due deadline place placed;
             searched = searched-state;
             marked = marked;

@@ -1,12 +1,12 @@
--- What calls do to the counts, as columns hold them, and what open and tick hand back. Assumes nothing.
-use Prim.Native.Nat.{ℕ, suc, _-_, _≤_, _<_}
+-- What calls do to the client table, as its numbers are lent, and what open and tick hand back. Assumes nothing.
+use Prim.Native.Nat.{ℕ, suc, _-_, _*_, _≤_, _<_}
 use mathlib.Core.Path.{_≡_, refl, sym, ap, _∙_}
 use mathlib.Core.Bool.{Bool, true, false, cond}
 use mathlib.Core.List.{List, [], _∷_, map}
 use native.Mathlib.Omega.{arith}
 use borrow.Author.Tests.{lt-ltb}
 use lib.Dec.{eqb}
-use lib.ListN.{length, getD, length-map, List·getD-map}
+use lib.ListN.{length, getD, replicate, length-map, List·getD-map}
 use lib.Seq.{ext-getD}
 use Rattle.slots.proofs.Laws.Tests.{Same, same-yes, same-no, same}
 use Rattle.spec.specs.declared.types.Setup.{Setup}
@@ -14,50 +14,39 @@ use Rattle.spec.specs.declared.types.Request.{Request}
 use Rattle.spec.specs.declared.types.Counts.{Counts}
 use Rattle.spec.specs.declared.types.Answer.the-variants as answer
 use Rattle.spec.specs.Every.{mapFrom}
-use Rattle.spec.specs.Tables.{zeroRequest, zeroCounts, State, waiting, nextState}
+use Rattle.spec.specs.Tables.{zeroRequest, zeroCounts, width, numbersOf, State, clientTable, waiting, nextState}
 use Rattle.spec.specs.Order.{removeAt}
 use Rattle.spec.specs.Setup.{Refusal, firstMatch}
 use Rattle.spec.specs.Refusals.{openRefusals, tickRefusals}
 use Rattle.spec.specs.Calls.{Outcome, unlessRefused, change, oneMoreServed, openAccepted, openOf, restarted, countsAfter}
 use Rattle.spec.specs.Calls.{oneLater, tickAccepted, tickOf}
-use Rattle.spec.proofs.Laws.Clients.{length-change, counts-path}
+use Rattle.spec.proofs.Laws.Clients.{counts-path}
 use Rattle.spec.proofs.Laws.Every.{length-mapFrom, getD-mapFrom}
-use Rattle.spec.proofs.Laws.Sound.{Balanced}
-use Rattle.spec.proofs.Laws.Accepted.{TickReady, tick-ready, waiting-length}
+use Rattle.spec.proofs.Laws.Layout.{numbers-records, numbers-zero}
+use Rattle.spec.proofs.Laws.Sound.{Balanced, Shaped}
+use Rattle.spec.proofs.Laws.Accepted.{open-ready, TickReady, tick-ready, waiting-length}
 use Rattle.spec.proofs.Calls.Keeps.{Tidy, tidy, Ends, tidy-remove, tidy-restart}
 use Rattle.columns.specs.Widths.{largest32}
-use Rattle.columns.specs.Clients.{oneAdded, restartedCounts, restartedAt}
-use Rattle.columns.proofs.Fields.{Which, first, second, third, pick}
-use Rattle.columns.proofs.Counting.{fieldOf, oneMore, holds-own, holds-rows, holds-next, holds-more}
+use Rattle.columns.specs.Clients.{changedAt, moreServed, restartedCounts, restartedNumbers}
+use Rattle.columns.proofs.Changed.{restartedAt, restarted-numbers, more-numbers}
 use Rattle.decide.specs.declared.types.Decision.{Decision}
 use Rattle.decide.specs.declared.types.Decision.the-variants.{Serve}
 use Rattle.decide.specs.declared.types.Reply.{Reply}
 use Rattle.decide.specs.Decisions.{tickDecision}
-use Rattle.decide.specs.Replies.{raised, refusedWith, laterHead, replyUnless, openReply, openCounts, tickReply, servedAfter, tickCounts, Answers}
+use Rattle.decide.specs.Replies.{raised, refusedWith, laterHead, replyUnless, openReply, openNumbers, tickReply, tickNumbers, Answers}
 use Rattle.decide.proofs.Carried.{Carried, refuses, accepts, Ticks, idles, serves, tick-carried}
 
--- ---- columns that are left as they are
-pub holds-same : {cs : List Counts} {su se dr : List ℕ} → cs ≡ countsOf su se dr → Holds cs su se dr su se dr
-holds-same {su = su} {se = se} {dr = dr} e = rw e (holds-own su se dr)
+-- ---- the client table of a state whose lengths fit is all of its numbers
+pub whole : (s : State) → Shaped s → s .clientNumbers ≡ numbersOf (clientTable s)
+whole s f = sym (numbers-records (s .clientNumbers) (omega (arith, f .numbers, f .clients)))
 
--- ---- one added
--- a balanced count can be added to
-small : (c : Which) (ws : List Request) (client : ℕ) (k : Counts) → Balanced ws client k → fieldOf c k < largest32
-small first ws client k b = omega arith
-small second ws client k b = omega arith
-small third ws client k b = omega arith
-
--- "adds 1 to" a count of a client that exists: the first column is submitted, the second served, the third dropped
-pub holds-counted : {clock last clients : ℕ} {ws : List Request} {cs : List Counts} {su₀ se₀ dr₀ su se dr : List ℕ}
-    → Tidy clock last clients ws cs → length cs ≡ length (countsOf su₀ se₀ dr₀) → Holds cs su₀ se₀ dr₀ su se dr
-    → (c : Which) (client : ℕ) → client < clients
-    → Holds (change (oneMore c) client cs) su₀ se₀ dr₀
-    (pick c (oneAdded client su) su su) (pick c se (oneAdded client se) se) (pick c dr dr (oneAdded client dr))
-holds-counted {ws = ws} {cs = cs} t e h c client exists =
-    holds-more h e c client inside (small c ws client (getD cs client zeroCounts) (t .balanced client inside))
-  where
-    inside : client < length cs
-    inside = omega (arith, t .counted)
+-- ---- "adds 1 to" a count of a client that exists
+-- what a balanced client's counts leave room for
+pub bounded : {clock last clients : ℕ} {ws : List Request} {cs : List Counts} → Tidy clock last clients ws cs → (client : ℕ)
+    → client < clients
+    → let k = getD cs client zeroCounts in (k .submitted < largest32) × (k .served < largest32) × (k .dropped < largest32)
+bounded t client h =
+    let b = t .balanced client (omega (arith, t .counted)) in (omega arith, omega arith, omega arith)
 
 -- ---- a period start
 -- where the counts balance, what is neither served nor dropped waits
@@ -84,35 +73,41 @@ restarted-after {ws = ws} {cs = cs} period start p t =
     rw (lt-ltb 0 period (omega arith), restarted-same ws cs (t .balanced))
 
 -- ---- what a call hands back
--- the answer, the head and the columns, each by itself
-pub answers : {o : Outcome} {r : Reply} {su₀ se₀ dr₀ su se dr : List ℕ} → r .answer ≡ o .answer → r .head ≡ o .after .head
-    → Holds (o .clientTable after) su₀ se₀ dr₀ su se dr → Answers o su₀ se₀ dr₀ r su se dr
-answers a h c = record { answer-same = a; head-same = h; counts-same = c }
+-- the answer, the head and the numbers, each by itself
+pub answers : {o : Outcome} {r : Reply} {xs : List ℕ} → r .answer ≡ o .answer → r .head ≡ o .after .head
+    → xs ≡ o .after .clientNumbers → Answers o r xs
+answers a h c = record { answer-same = a; head-same = h; numbers-same = c }
 
--- a call whose first match is t, refused or accepted: what it hands back, and the client table that the columns then hold
-module _ (rs : List Refusal) (s : State) (o : Outcome) {t : ℕ} (found : t ≡ firstMatch rs) {su se dr su₁ se₁ dr₁ : List ℕ} where
-  pub unless-answers : {r accepted : Reply} {cs : List Counts}
-      → (t ≡ 0 → Holds cs su se dr su₁ se₁ dr₁ → Answers o su se dr accepted su₁ se₁ dr₁)
+-- a call whose first match is t, refused or accepted: what it hands back, and the numbers that it leaves
+module _ (rs : List Refusal) (s : State) (o : Outcome) {t : ℕ} (found : t ≡ firstMatch rs) where
+  pub unless-answers : {r accepted : Reply} {xs ys : List ℕ}
+      → (t ≡ 0 → Answers o accepted ys)
       → r ≡ replyUnless t (s .head) accepted
-      → Holds (cond (eqb t 0) cs (clientTable s)) su se dr su₁ se₁ dr₁
-      → Answers (unlessRefused rs s o) su se dr r su₁ se₁ dr₁
-  unless-answers {accepted = accepted} {cs = cs} goes e h = rw (← found, e) (go (eqb t 0) (same t 0) h)
+      → xs ≡ cond (eqb t 0) ys (s .clientNumbers)
+      → Answers (unlessRefused rs s o) r xs
+  unless-answers {accepted = accepted} {ys = ys} goes e h = rw (← found, e, h) (go (eqb t 0) (same t 0))
     where
-      go : (b : Bool) → Same t 0 b → Holds (cond b cs (clientTable s)) su se dr su₁ se₁ dr₁
-          → Answers (cond b o (record { answer = answer.Refused t; after = s })) su se dr
-          (cond b accepted (refusedWith (s .head) t)) su₁ se₁ dr₁
-      go true (same-yes z) g = goes z g
-      go false (same-no n) g = answers refl refl g
+      go : (b : Bool) → Same t 0 b
+          → Answers (cond b o (record { answer = answer.Refused t; after = s })) (cond b accepted (refusedWith (s .head) t))
+          (cond b ys (s .clientNumbers))
+      go true (same-yes z) = goes z
+      go false (same-no n) = answers refl refl refl
 
 -- ---- open
-pub open-answers : (setup : Setup) (s : State) {refusal : ℕ} {r : Reply} {su se dr su₁ se₁ dr₁ : List ℕ}
-    → refusal ≡ firstMatch (openRefusals setup s) → clientTable s ≡ countsOf su se dr
-    → (r ≡ openReply refusal (s .head) setup) × Holds (openCounts refusal (countsOf su se dr)) su se dr su₁ se₁ dr₁
-    → Answers (openOf setup s) su se dr r su₁ se₁ dr₁
+pub open-answers : (setup : Setup) (s : State) {refusal : ℕ} {r : Reply} {xs : List ℕ}
+    → refusal ≡ firstMatch (openRefusals setup s)
+    → (r ≡ openReply refusal (s .head) setup) × (xs ≡ openNumbers refusal (s .clientNumbers))
+    → Answers (openOf setup s) r xs
 unfolding openOf openAccepted
-open-answers setup s found counts (e, h) =
-    unless-answers (openRefusals setup s) s (openAccepted setup s) found
-    (λ z g. answers refl refl g) e (rw counts h)
+open-answers setup s found (e, h) =
+    unless-answers (openRefusals setup s) s (openAccepted setup s) found (λ z. answers refl refl (zeros (sym found ∙ z))) e h
+  where
+    zeros : firstMatch (openRefusals setup s) ≡ 0
+        → replicate (length (s .clientNumbers)) 0 ≡ numbersOf (replicate (length (clientTable s)) zeroCounts)
+    zeros z =
+        let l = open-ready setup s z .lengths in
+        let e : length (s .clientNumbers) ≡ width * length (clientTable s) = omega (arith, l .numbers-length, l .clients-length) in
+        rw e (numbers-zero (length (clientTable s)))
 
 -- ---- tick
 module _ (s : State) (r : TickReady s) where
@@ -127,80 +122,69 @@ module _ (s : State) (r : TickReady s) where
   unfolding nextState
   later-head ws cs waits e = rw (rises, e)
 
-  -- the columns of a table that balances, one slot later
-  later-holds : (ws : List Request) (cs : List Counts) {su₀ se₀ dr₀ su se dr su₁ se₁ dr₁ : List ℕ}
-      → Tidy clock (s .head .last) (s .head .setup .clients) ws cs → length cs ≡ length (countsOf su₀ se₀ dr₀)
-      → Holds cs su₀ se₀ dr₀ su se dr
-      → Holds (restartedAt (s .head .setup .period) (raised clock) (countsOf su se dr)) su se dr su₁ se₁ dr₁
-      → Holds (oneLater ws cs clientTable s) su₀ se₀ dr₀ su₁ se₁ dr₁
+  -- the numbers of a table that balances, one slot later
+  later-numbers : (ws : List Request) (cs : List Counts) → Tidy clock (s .head .last) (s .head .setup .clients) ws cs
+      → restartedNumbers (s .head .setup .period) (raised clock) (numbersOf cs) ≡ oneLater ws cs s .clientNumbers
   unfolding nextState
-  later-holds ws cs t e h g =
-      holds-next h same-length
-      (rw (
-        rises,
-        holds-rows h e,
-        restarted-after (s .head .setup .period) (suc clock) (r .ready .sound .headed .setup .some-period) t,
-      ) at g)
+  later-numbers ws cs t =
+      restarted-numbers (s .head .setup .period) (raised clock) cs
+      ∙ ap numbersOf
+      (rw rises (restarted-after (s .head .setup .period) (suc clock) (r .ready .sound .headed .setup .some-period) t))
+
+  idle-answers : waiting s ≡ []
+      → Answers (tickAccepted [] s)
+      (record { head = laterHead (s .head) (s .head .waiting); answer = answer.Idle clock })
+      (restartedNumbers (s .head .setup .period) (raised clock) (s .clientNumbers))
+  unfolding tickAccepted
+  idle-answers e =
+      answers refl
+      (later-head [] (clientTable s) (s .head .waiting) (sym (waiting-length s (r .ready .shape)) ∙ ap length e))
+      (ap (restartedNumbers (s .head .setup .period) (raised clock)) (whole s (r .ready .shape))
+      ∙ later-numbers [] (clientTable s) (rw e at (tidy s (r .ready))))
+
+  served-answers : (w : Request) (ws : List Request) → waiting s ≡ w ∷ ws
+      → Answers (tickAccepted (w ∷ ws) s)
+      (record {
+        head = laterHead (s .head) (s .head .waiting - 1);
+        answer = answer.Served clock (w .number) (w .client);
+      })
+      (restartedNumbers (s .head .setup .period) (raised clock) (changedAt moreServed (w .client) (s .clientNumbers)))
+  unfolding tickAccepted removeAt
+  served-answers w ws e =
+      answers refl
+      (later-head ws cs (s .head .waiting - 1) (omega (arith, waiting-length s (r .ready .shape), ap length e)))
+      (ap (restartedNumbers (s .head .setup .period) (raised clock)) counted
+      ∙ later-numbers ws cs
+      (tidy-remove oneMoreServed ends 0 clock (s .head .last) (s .head .setup .clients) (w ∷ ws) (clientTable s) (omega arith) all))
     where
-      same-length : length (countsAfter (s .head .setup .period) (suc clock) ws cs) ≡ length cs
-      same-length =
-          tidy-restart (s .head .setup .period) (suc clock) clock (s .head .last) (s .head .setup .clients) ws cs t .counted
-          ∙ sym (t .counted)
+      cs : List Counts
+      cs = change oneMoreServed (w .client) (clientTable s)
 
-  module _ {su se dr su₁ se₁ dr₁ : List ℕ} (counts : clientTable s ≡ countsOf su se dr) where
-    idle-answers : waiting s ≡ []
-        → Holds (restartedAt (s .head .setup .period) (raised clock) (countsOf su se dr)) su se dr su₁ se₁ dr₁
-        → Answers (tickAccepted [] s) su se dr
-        (record { head = laterHead (s .head) (s .head .waiting); answer = answer.Idle clock }) su₁ se₁ dr₁
-    unfolding tickAccepted
-    idle-answers e g =
-        answers refl
-        (later-head [] (clientTable s) (s .head .waiting) (sym (waiting-length s (r .ready .shape)) ∙ ap length e))
-        (later-holds [] (clientTable s) (rw e at (tidy s (r .ready))) (ap length counts) (holds-same counts) g)
+      all : Tidy clock (s .head .last) (s .head .setup .clients) (w ∷ ws) (clientTable s)
+      all = rw e at (tidy s (r .ready))
 
-    served-answers : (w : Request) (ws : List Request) → waiting s ≡ w ∷ ws
-        → Holds (restartedAt (s .head .setup .period) (raised clock) (countsOf su (oneAdded (w .client) se) dr))
-        su (oneAdded (w .client) se) dr su₁ se₁ dr₁
-        → Answers (tickAccepted (w ∷ ws) s) su se dr
-        (record {
-          head = laterHead (s .head) (s .head .waiting - 1);
-          answer = answer.Served clock (w .number) (w .client);
-        })
-        su₁ se₁ dr₁
-    unfolding tickAccepted removeAt
-    served-answers w ws e g =
-        answers refl
-        (later-head ws cs (s .head .waiting - 1) (omega (arith, waiting-length s (r .ready .shape), ap length e)))
-        (later-holds ws cs
-        (tidy-remove oneMoreServed ends 0 clock (s .head .last) (s .head .setup .clients) (w ∷ ws) (clientTable s) (omega arith) all)
-        (length-change oneMoreServed (w .client) (clientTable s) ∙ ap length counts)
-        (holds-counted all (ap length counts) (holds-same counts) second (w .client) (all .owned .0)) g)
-      where
-        cs : List Counts
-        cs = change oneMoreServed (w .client) (clientTable s)
+      ends : Ends oneMoreServed
+      ends = record { submits = λ k. refl; ends = λ k. omega arith }
 
-        all : Tidy clock (s .head .last) (s .head .setup .clients) (w ∷ ws) (clientTable s)
-        all = rw e at (tidy s (r .ready))
-
-        ends : Ends oneMoreServed
-        ends = record { submits = λ k. refl; ends = λ k. omega arith }
+      counted : changedAt moreServed (w .client) (s .clientNumbers) ≡ numbersOf cs
+      counted =
+          ap (changedAt moreServed (w .client)) (whole s (r .ready .shape))
+          ∙ more-numbers (λ k. k .served) oneMoreServed (w .client) (clientTable s) (bounded all (w .client) (all .owned .0) .1)
 
 -- no tick decides on Keep or Drop
-pub tick-answers : (s : State) {gone : Request} {decision : Decision} {r : Reply} {su se dr su₁ se₁ dr₁ : List ℕ}
-    → decision ≡ tickDecision s → clientTable s ≡ countsOf su se dr
+pub tick-answers : (s : State) {gone : Request} {decision : Decision} {r : Reply} {xs : List ℕ}
+    → decision ≡ tickDecision s
     → (decision ≡ Serve → gone ≡ getD (waiting s) 0 zeroRequest)
-    → (r ≡ tickReply (s .head) gone decision)
-    × Holds (tickCounts (s .head) decision (countsOf su (servedAfter gone decision se) dr)) su (servedAfter gone decision se) dr su₁ se₁ dr₁
-    → Answers (tickOf s) su se dr r su₁ se₁ dr₁
-tick-answers s {gone} {decision} {r} {su} {se} {dr} {su₁} {se₁} {dr₁} e counts g t = go (tick-carried s) (rw e at g) (rw e at t)
+    → (r ≡ tickReply (s .head) gone decision) × (xs ≡ tickNumbers (s .head) gone decision (s .clientNumbers))
+    → Answers (tickOf s) r xs
+tick-answers s {gone} {decision} {r} {xs} e g t = go (tick-carried s) (rw e at g) (rw e at t)
   where
     go : {d : Decision} {o : Outcome} → Carried (tickRefusals s) s (Ticks s) d o
         → (d ≡ Serve → gone ≡ getD (waiting s) 0 zeroRequest)
-        → (r ≡ tickReply (s .head) gone d)
-        × Holds (tickCounts (s .head) d (countsOf su (servedAfter gone d se) dr)) su (servedAfter gone d se) dr su₁ se₁ dr₁
-        → Answers o su se dr r su₁ se₁ dr₁
-    go (refuses n) f (q, h) = rw q (answers refl refl (rw counts h))
-    go (accepts z (idles w)) f (q, h) = rw q (idle-answers s (tick-ready s z) counts w h)
+        → (r ≡ tickReply (s .head) gone d) × (xs ≡ tickNumbers (s .head) gone d (s .clientNumbers))
+        → Answers o r xs
+    go (refuses n) f (q, h) = rw q (answers refl refl h)
+    go (accepts z (idles w)) f (q, h) = rw (q, h) (idle-answers s (tick-ready s z) w)
     go (accepts z (serves w ws i)) f (q, h) =
         let same-one : gone ≡ w = f refl ∙ rw i in
-        rw (q, same-one) (served-answers s (tick-ready s z) counts w ws i (rw same-one at h))
+        rw (q, h, same-one) (served-answers s (tick-ready s z) w ws i)

@@ -1,4 +1,4 @@
--- What a submit, a report and a chart hand back is what the call answers, and the columns hold what it leaves. Assumes nothing.
+-- What a submit, a report and a chart hand back is what the call answers, and the client table is what it leaves. Assumes nothing.
 use Prim.Native.Nat.{ℕ, suc, _<_}
 use mathlib.Core.Path.{_≡_, refl, sym, ap, _∙_}
 use mathlib.Core.Bool.{Bool, true, false, cond}
@@ -10,30 +10,29 @@ use Rattle.spec.specs.declared.types.Head.{Head}
 use Rattle.spec.specs.declared.types.Request.{Request}
 use Rattle.spec.specs.declared.types.Counts.{Counts}
 use Rattle.spec.specs.declared.types.Answer.the-variants.{Charted, Refused}
-use Rattle.spec.specs.Tables.{zeroRequest, zeroCounts, State, waiting, nextState}
+use Rattle.spec.specs.Tables.{zeroRequest, zeroCounts, numbersOf, State, clientTable, waiting, nextState}
 use Rattle.spec.specs.Order.{placeOf, removeAt}
 use Rattle.spec.specs.Sound.{waitingOf}
 use Rattle.spec.specs.Setup.{firstMatch}
 use Rattle.spec.specs.Refusals.{submitRefusals, reportRefusals, chartRefusals}
-use Rattle.spec.specs.Calls.{Outcome, oneMoreSubmitted, newRequest, countedIn, withNew, kept, droppedAt}
+use Rattle.spec.specs.Calls.{Outcome, oneMoreSubmitted, oneMoreDropped, newRequest, countedIn, withNew, kept, droppedAt}
 use Rattle.spec.specs.Calls.{victimPlace, requestAt, submitOf}
 use Rattle.spec.specs.Calls.{reportAccepted, reportOf, chartAccepted, chartOf}
-use Rattle.spec.proofs.Laws.Clients.{length-change}
 use Rattle.spec.proofs.Laws.Every.{length-remove, all-at}
 use Rattle.spec.proofs.Laws.Order.{length-put}
 use Rattle.spec.proofs.Laws.Sound.{Owned}
 use Rattle.spec.proofs.Laws.Accepted.{SubmitReady, submit-ready, report-ready, waiting-length}
 use Rattle.spec.proofs.Calls.Victim.{victim-place}
-use Rattle.spec.proofs.Calls.Keeps.{tidy, tidy-put}
-use Rattle.columns.specs.Clients.{oneAdded, waitingCount}
-use Rattle.columns.proofs.Fields.{first, third}
+use Rattle.spec.proofs.Calls.Keeps.{Tidy, tidy, tidy-put}
+use Rattle.columns.specs.Clients.{changedAt, moreSubmitted, moreDropped, waitingCount}
+use Rattle.columns.proofs.Changed.{more-numbers}
 use Rattle.decide.specs.declared.types.Decision.{Decision}
 use Rattle.decide.specs.declared.types.Decision.the-variants.{Drop}
 use Rattle.decide.specs.declared.types.Reply.{Reply}
 use Rattle.decide.specs.Decisions.{submitDecision}
-use Rattle.decide.specs.Replies.{raised, numberedHead, refusedWith, keptWith, droppedWith, reportedWith, submitReply, submittedAfter, droppedAfter, reportReply, chartReply, Answers}
+use Rattle.decide.specs.Replies.{raised, numberedHead, refusedWith, keptWith, droppedWith, reportedWith, submitReply, submitNumbers, reportReply, chartReply, Answers}
 use Rattle.decide.proofs.Carried.{Carried, refuses, accepts, Submits, keeps, drops, submit-carried}
-use Rattle.decide.proofs.Replying.Counted.{answers, holds-same, holds-counted, unless-answers}
+use Rattle.decide.proofs.Replying.Counted.{answers, whole, bounded, unless-answers}
 
 -- ---- a submit
 -- the head with the next number
@@ -73,59 +72,65 @@ module _ (client deadline : ℕ) (s : State) (ready : SubmitReady client deadlin
         waiting-length s (ready .ready .shape),
       )
 
-  module _ (su se dr : List ℕ) (counts : clientTable s ≡ countsOf su se dr) where
-    counted : Holds (countedIn client s) su se dr (oneAdded client su) se dr
-    counted = holds-counted (tidy s (ready .ready)) (ap length counts) (holds-same counts) first client (ready .exists)
+  counted : changedAt moreSubmitted client (s .clientNumbers) ≡ numbersOf (countedIn client s)
+  counted =
+      ap (changedAt moreSubmitted client) (whole s (ready .ready .shape))
+      ∙ more-numbers (λ k. k .submitted) oneMoreSubmitted client (clientTable s) (bounded (tidy s (ready .ready)) client (ready .exists) .0)
 
-    kept-answers :
-        Answers (kept client deadline s) su se dr
-        (keptWith (s .head) (placeOf (newRequest client deadline s) (waiting s))) (oneAdded client su) se dr
-    unfolding kept nextState
-    kept-answers =
-        answers (rw given) (numbered-head all (s .head) _ given one-more) counted
+  kept-answers : Answers (kept client deadline s)
+      (keptWith (s .head) (placeOf (newRequest client deadline s) (waiting s)))
+      (changedAt moreSubmitted client (s .clientNumbers))
+  unfolding kept nextState
+  kept-answers = answers (rw given) (numbered-head all (s .head) _ given one-more) counted
 
-    dropped-answers : (k : ℕ) → k < length all
-        → Answers (droppedAt k client deadline s) su se dr (droppedWith (s .head) (requestAt k client deadline s))
-        (oneAdded client su) se (oneAdded (requestAt k client deadline s .client) dr)
-    unfolding droppedAt nextState
-    dropped-answers k h =
-        answers (rw given)
-        (numbered-head (removeAt k all) (s .head) _ given (as-many k h))
-        (holds-counted (tidy-put client deadline s ready)
-        (length-change oneMoreSubmitted client (clientTable s) ∙ ap length counts) counted third _
-        (all-at (Owned (s .head .setup .clients)) all k zeroRequest h (tidy-put client deadline s ready .owned)))
+  dropped-answers : (k : ℕ) → k < length all
+      → Answers (droppedAt k client deadline s) (droppedWith (s .head) (requestAt k client deadline s))
+      (changedAt moreDropped (requestAt k client deadline s .client) (changedAt moreSubmitted client (s .clientNumbers)))
+  unfolding droppedAt nextState
+  dropped-answers k h =
+      answers (rw given) (numbered-head (removeAt k all) (s .head) _ given (as-many k h))
+      (ap (changedAt moreDropped whose) counted
+      ∙ more-numbers (λ k. k .dropped) oneMoreDropped whose (countedIn client s) (bounded together whose exists .2))
+    where
+      whose : ℕ
+      whose = requestAt k client deadline s .client
 
--- by the decision, where `gone` is the victim: what is handed back, and what becomes of the two columns
-pub submit-answers : (client deadline : ℕ) (s : State) {gone : Request} {decision : Decision} {r : Reply} {su se dr su₁ dr₁ : List ℕ}
-    → decision ≡ submitDecision client deadline s → clientTable s ≡ countsOf su se dr
+      together : Tidy (s .head .clock) (suc (s .head .last)) (s .head .setup .clients) all (countedIn client s)
+      together = tidy-put client deadline s ready
+
+      exists : whose < s .head .setup .clients
+      exists = all-at (Owned (s .head .setup .clients)) all k zeroRequest h (together .owned)
+
+-- by the decision, where `gone` is the victim: what is handed back, and what becomes of the client table
+pub submit-answers : (client deadline : ℕ) (s : State) {gone : Request} {decision : Decision} {r : Reply} {xs : List ℕ}
+    → decision ≡ submitDecision client deadline s
     → ((place victim : ℕ) → decision ≡ Drop place victim → gone ≡ requestAt victim client deadline s)
-    → (r ≡ submitReply (s .head) gone decision) × (su₁ ≡ submittedAfter client decision su) × (dr₁ ≡ droppedAfter gone decision dr)
-    → Answers (submitOf client deadline s) su se dr r su₁ se dr₁
-submit-answers client deadline s {gone} {su = su} {se} {dr} e counts g (a, b, c) =
-    rw (a, b, c, e) (go (submit-carried client deadline s) (λ p v h. g p v (e ∙ h)))
+    → (r ≡ submitReply (s .head) gone decision) × (xs ≡ submitNumbers client gone decision (s .clientNumbers))
+    → Answers (submitOf client deadline s) r xs
+submit-answers client deadline s {gone} e g (a, b) =
+    rw (a, b, e) (go (submit-carried client deadline s) (λ p v h. g p v (e ∙ h)))
   where
     go : {d : Decision} {o : Outcome} → Carried (submitRefusals client deadline s) s (Submits client deadline s) d o
         → ((place victim : ℕ) → d ≡ Drop place victim → gone ≡ requestAt victim client deadline s)
-        → Answers o su se dr (submitReply (s .head) gone d) (submittedAfter client d su) se (droppedAfter gone d dr)
-    go (refuses n) h = answers refl refl (holds-same counts)
-    go (accepts z keeps) h = kept-answers client deadline s (submit-ready client deadline s z) su se dr counts
+        → Answers o (submitReply (s .head) gone d) (submitNumbers client gone d (s .clientNumbers))
+    go (refuses n) h = answers refl refl refl
+    go (accepts z keeps) h = kept-answers client deadline s (submit-ready client deadline s z)
     go (accepts z drops) h =
         let r = submit-ready client deadline s z in
         rw (h _ _ refl)
-        (dropped-answers client deadline s r su se dr counts (victimPlace client deadline s)
-        (victim-place client deadline s r .0))
+        (dropped-answers client deadline s r (victimPlace client deadline s) (victim-place client deadline s r .0))
 
 -- ---- a report and a chart
 -- the counts of a client balance, so that what is neither served nor dropped waits
-pub report-answers : (client : ℕ) (s : State) {refusal : ℕ} {r : Reply} {su se dr : List ℕ}
-    → refusal ≡ firstMatch (reportRefusals client s) → clientTable s ≡ countsOf su se dr
-    → r ≡ reportReply refusal (s .head) client (getD (countsOf su se dr) client zeroCounts)
-    → Answers (reportOf client s) su se dr r su se dr
+pub report-answers : (client : ℕ) (s : State) {refusal : ℕ} {r : Reply}
+    → refusal ≡ firstMatch (reportRefusals client s)
+    → r ≡ reportReply refusal (s .head) client (getD (clientTable s) client zeroCounts)
+    → Answers (reportOf client s) r (s .clientNumbers)
 unfolding reportOf reportAccepted
-report-answers client s {refusal} {su = su} {se} {dr} found counts e =
+report-answers client s {refusal} found e =
     unless-answers (reportRefusals client s) s (reportAccepted client s) found
-    {accepted = reportedWith (s .head) client own} {cs = clientTable s}
-    (λ z g. answers (rw (← balance z)) refl g) (rw counts e) (go (eqb refusal 0))
+    {accepted = reportedWith (s .head) client own} {ys = s .clientNumbers}
+    (λ z. answers (rw (← balance z)) refl refl) e (go (eqb refusal 0))
   where
     own : Counts
     own = getD (clientTable s) client zeroCounts
@@ -136,9 +141,9 @@ report-answers client s {refusal} {su = su} {se} {dr} found counts e =
         let b = r .ready .sound .balanced client (omega (arith, r .exists, r .ready .shape .clients)) in
         omega (arith, b)
 
-    go : (b : Bool) → Holds (cond b (clientTable s) (clientTable s)) su se dr su se dr
-    go true = holds-same counts
-    go false = holds-same counts
+    go : (b : Bool) → s .clientNumbers ≡ cond b (s .clientNumbers) (s .clientNumbers)
+    go true = refl
+    go false = refl
 
 pub chart-answers : (output : List ℕ) (s : State) {refusal : ℕ} {r : Reply} → refusal ≡ firstMatch (chartRefusals output s)
     → r ≡ chartReply refusal (s .head) → (r .answer ≡ chartOf output s .answer) × (r .head ≡ chartOf output s .after .head)

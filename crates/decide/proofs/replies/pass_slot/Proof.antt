@@ -12,19 +12,19 @@ restart-at-requires c κs = search needs
 same-length : tie.Need-same-length
 same-length c = search needs
 
-same-length-2 : tie.Need-same-length-2
-same-length-2 c = search needs
-
-same-length-3 : tie.Need-same-length-3
-same-length-3 c = search needs
-
 returns : tie.Need-returns
 returns c =
-    let restartedCounts = c .before .before .before .before .before .before in
-    let rises = restartedCounts .before .before .before .before .before .raised .ensures in
-    (rw rises, rw rises at (restartedCounts .restart-at .ensures))
+    let passed =
+    c .before .before .restart-at .ensures in
+    let rises =
+    c .before .before .before .before .before .raised .ensures in
+    (rw rises, rw rises at passed)
 
 pub pass-slot-spec : {M : Type 1} → statement M
 pass-slot-spec =
     tie.close
-    (tie.spec raised-requires restart-at-requires same-length same-length-2 same-length-3 returns)
+    (tie.spec
+    raised-requires
+    restart-at-requires
+    same-length
+    returns)

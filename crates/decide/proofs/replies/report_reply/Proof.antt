@@ -16,14 +16,14 @@ counts-at-requires c κs = search needs
 waiting-count-requires : tie.Need-waiting-count-requires
 waiting-count-requires c κs = search needs
 
+cast-t9 : tie.Need-cast-t9
+cast-t9 c = search needs
+
+cast-t10 : tie.Need-cast-t10
+cast-t10 c = search needs
+
 cast-t11 : tie.Need-cast-t11
 cast-t11 c = search needs
-
-cast-t12 : tie.Need-cast-t12
-cast-t12 c = search needs
-
-cast-t13 : tie.Need-cast-t13
-cast-t13 c = search needs
 
 returns-2 : tie.Need-returns-2
 returns-2 c =
@@ -38,7 +38,7 @@ report-reply-spec =
     returns
     counts-at-requires
     waiting-count-requires
+    cast-t9
+    cast-t10
     cast-t11
-    cast-t12
-    cast-t13
     returns-2)

@@ -1,14 +1,14 @@
 -- `decide::replies::tick_reply` meets its contract. Assumes nothing.
+use mathlib.Core.Path.{refl}
 use borrow.Author.Needs.{needs}
-use Rattle.columns.proofs.Counting.{holds-own}
 use Rattle.decide.proofs.replies.tick_reply.Statement.{statement}
 use Rattle.decide.proofs.replies.tick_reply.Tie as tie
 
 enum-told : tie.Need-enum-told
 enum-told c = search needs
 
-add-one-requires : tie.Need-add-one-requires
-add-one-requires c κs = search needs
+count-served-requires : tie.Need-count-served-requires
+count-served-requires c κs = search needs
 
 one-less-requires : tie.Need-one-less-requires
 one-less-requires c κs = search needs
@@ -43,51 +43,44 @@ refused-requires-3 c κs = search needs
 same-length : tie.Need-same-length
 same-length c = search needs
 
+returns : tie.Need-returns
+returns c =
+    let told =
+    c .before .before .before .before .before .before .before .before .before .enum-told .given .1 in
+    let passed =
+    c .before .before .pass-slot .ensures in
+    let less =
+    c .before .before .before .before .one-less .ensures in
+    let added =
+    c .before .before .before .before .before .before .before .count-served .ensures in
+    rw told (rw (passed .0, less), rw added at (passed .1))
+
 same-length-2 : tie.Need-same-length-2
 same-length-2 c = search needs
 
-same-length-3 : tie.Need-same-length-3
-same-length-3 c = search needs
-
-returns : tie.Need-returns
-returns c =
-    let added = c .before .before .before .before .before .before .before .before .before .before .before .before .before in
-    let passed = c .before .before .before .before .before .before in
-    rw (added .before .before .enum-told .given .1) (
-      rw (passed .pass-slot .ensures .0, passed .before .before .before .before .one-less .ensures),
-      rw (added .add-one .ensures) at (passed .pass-slot .ensures .1),
-    )
-
-same-length-4 : tie.Need-same-length-4
-same-length-4 c = search needs
-
-same-length-5 : tie.Need-same-length-5
-same-length-5 c = search needs
-
-same-length-6 : tie.Need-same-length-6
-same-length-6 c = search needs
-
 returns-2 : tie.Need-returns-2
 returns-2 c =
-    let passed = c .before .before .before .before .before .before in
-    rw (passed .before .before .before .before .enum-told2 .given .1)
-    (rw (passed .pass-slot2 .ensures .0), passed .pass-slot2 .ensures .1)
+    let told =
+    c .before .before .before .before .enum-told2 .given .1 in
+    let passed =
+    c .before .before .pass-slot2 .ensures in
+    rw told (rw (passed .0), passed .1)
 
 returns-3 : tie.Need-returns-3
-returns-3 c = rw (c .before .before .decision .given .1) (c .refused .ensures, holds-own _ _ _)
+returns-3 c = rw (c .before .before .decision .given .1) (c .refused .ensures, refl)
 
 returns-4 : tie.Need-returns-4
-returns-4 c = rw (c .before .enum-told3 .given .1) (c .refused2 .ensures, holds-own _ _ _)
+returns-4 c = rw (c .before .enum-told3 .given .1) (c .refused2 .ensures, refl)
 
 returns-5 : tie.Need-returns-5
-returns-5 c = rw (c .before .enum-told4 .given .1) (c .refused3 .ensures, holds-own _ _ _)
+returns-5 c = rw (c .before .enum-told4 .given .1) (c .refused3 .ensures, refl)
 
 pub tick-reply-spec : {M : Type 1} → statement M
 tick-reply-spec =
     tie.close
     (tie.spec
     enum-told
-    add-one-requires
+    count-served-requires
     one-less-requires
     pass-slot-requires
     enum-told-2
@@ -99,12 +92,8 @@ tick-reply-spec =
     enum-told-4
     refused-requires-3
     same-length
-    same-length-2
-    same-length-3
     returns
-    same-length-4
-    same-length-5
-    same-length-6
+    same-length-2
     returns-2
     returns-3
     returns-4
