@@ -13,30 +13,29 @@ use Rattle.spec.specs.declared.types.Setup.{Setup}
 use Rattle.spec.specs.declared.types.Head.{Head}
 use Rattle.spec.specs.declared.types.Request.{Request}
 use Rattle.spec.specs.declared.types.Answer.the-variants.{Refused}
-use Rattle.spec.specs.Tables.{zeroRequest, zeroCounts, State, deadlinesOf}
+use Rattle.spec.specs.Tables.{zeroRequest, zeroCounts, recordsOf, State, stateOf, deadlinesOf}
 use Rattle.spec.specs.Setup.{Refusal, firstMatch}
 use Rattle.spec.specs.Refusals.{openRefusals, submitRefusals, reportRefusals, chartRefusals}
-use Rattle.spec.specs.Calls.{Outcome, unlessRefused, openAccepted, openOf, newRequest, submitOf, tickOf}
+use Rattle.spec.specs.Calls.{Outcome, unlessRefused, openAccepted, openOf, newRequest}
 use Rattle.spec.specs.Calls.{reportAccepted, reportOf, chartAccepted, chartOf, chartOutput}
+use Rattle.spec.specs.Lists.{Call, opening, submit, tick, report, chart, outcomeOf}
 use Rattle.spec.proofs.Laws.Accepted.{Decided as Settled, accepts, refuses as declines, decided as settled}
 use Rattle.spec.proofs.Laws.Accepted.{ChartReady, chart-ready}
 use Rattle.spec.proofs.Calls.Refused.{Written, untouched, written, output-written}
 use Rattle.columns.specs.Widths.{largest64}
-use Rattle.spec.specs.Tables.{stateOf}
 use Rattle.columns.specs.Charted.{startSlots}
-use Rattle.columns.proofs.Laws.{length-rows}
 use Rattle.table.specs.Records.{removed, removedOut}
 use Rattle.sound.specs.Checks.{tablesRefusal}
 use Rattle.decide.specs.declared.types.Reply.{Reply}
 use Rattle.decide.specs.declared.types.Decision.{Decision}
 use Rattle.decide.specs.Decisions.{submitDecision, tickDecision, tickBy}
 use Rattle.decide.specs.Matches.{openMatch, tickMatch, reportMatch, chartMatch}
-use Rattle.decide.specs.Replies.{tableAfter, goneAfter, serving, raised, numberedRequest, openReply, openCounts, submitReply, submittedAfter}
-use Rattle.decide.specs.Replies.{droppedAfter, tickReply, servedAfter, tickCounts, reportReply, chartReply, Answers}
+use Rattle.decide.specs.Replies.{tableAfter, goneAfter, serving, raised, numberedRequest, openReply, openNumbers, submitReply}
+use Rattle.decide.specs.Replies.{submitNumbers, tickReply, tickNumbers, reportReply, chartReply, Answers}
 use Rattle.decide.proofs.Carried.{charted}
 use Rattle.decide.proofs.Matching.{open-told, tick-told, report-told, chart-told}
 use Rattle.decide.proofs.States.{tick-decided}
-use Rattle.decide.proofs.Replying.Counted.{answers, holds-same, open-answers, tick-answers}
+use Rattle.decide.proofs.Replying.Counted.{answers, open-answers, tick-answers}
 use Rattle.decide.proofs.Replying.Replied.{submit-answers, report-answers, chart-answers}
 use Rattle.decide.proofs.Replying.Edited.{submit-table, submit-gone, new-fits, tick-table, tick-gone}
 use Rattle.queue.specs.Gives.{Gives}
@@ -57,26 +56,31 @@ unchanged rs s o e = go (settled rs s o)
     go (accepts z) = e
     go (declines z) = refl
 
--- the waiting table, and what a reply and the columns answer
-given : {o : Outcome} {su se dr : List ℕ} {r : Reply} {ws : List Request} {su′ se′ dr′ : List ℕ} → ws ≡ o .after .waitingTable
-    → Answers o su se dr r su′ se′ dr′ → Gives o su se dr r ws su′ se′ dr′
-given w a =
-    record { answer-same = a .answer-same; head-same = a .head-same; waiting-same = w; counts-same = a .counts-same }
+-- the waiting table, and what a reply and the client table answer
+given : (c : Call) (s : State) {r : Reply} {ws : List Request} {xs : List ℕ} → ws ≡ outcomeOf c s .after .waitingTable
+    → Answers (outcomeOf c s) r xs → Gives c s r (stateOf (r .head) ws xs)
+given c s w a =
+    record {
+      answer-same = a .answer-same;
+      head-kept = refl;
+      after-same =
+          λ i. record { head = a .head-same i; waitingTable = w i; clientNumbers = a .numbers-same i };
+    }
 
-module _ (head : Head) (ws : List Request) (su se dr : List ℕ) where
+module _ (head : Head) (ws : List Request) (xs : List ℕ) where
   abbrev s : State
-  s = stateOf head ws su se dr
+  s = stateOf head ws xs
 
   -- ---- report
   pub reported : (client tables refusal : ℕ) (r : Reply) → tables ≡ tablesRefusal s
       → refusal ≡ reportMatch tables head client
-      → r ≡ reportReply refusal head client (getD (countsOf su se dr) client zeroCounts)
-      → Gives (reportOf client s) su se dr r ws su se dr
-  unfolding reportOf reportAccepted
+      → r ≡ reportReply refusal head client (getD (recordsOf xs) client zeroCounts)
+      → Gives (report client) s r (stateOf (r .head) ws xs)
+  unfolding outcomeOf reportOf reportAccepted
   reported client tables refusal r e f a =
-      given
+      given (report client) s
       (ap (λ (t : State). t .waitingTable) (sym (unchanged (reportRefusals client s) s (reportAccepted client s) refl)))
-      (report-answers client s (f ∙ report-told s e client) refl a)
+      (report-answers client s (f ∙ report-told s e client) a)
 
   -- ---- chart
   module _ (output : List ℕ) (tables refusal n : ℕ) (found : tables ≡ tablesRefusal s)
@@ -126,24 +130,20 @@ module _ (head : Head) (ws : List Request) (su se dr : List ℕ) where
               subst (λ (m : ℕ). startSlots (head .setup) (deadlinesOf (take m ws)) ++ drop m output ≡ chartOutput output s) (sym e)
               (untouched-output z (output-written output s))
 
-    pub chart-gives : (r : Reply) → r ≡ chartReply refusal head → Gives (chartOf output s) su se dr r ws su se dr
-    unfolding chartOf chartAccepted
+    pub chart-gives : (r : Reply) → r ≡ chartReply refusal head → Gives (chart output) s r (stateOf (r .head) ws xs)
+    unfolding outcomeOf chartOf chartAccepted
     chart-gives r a =
         let q = unchanged (chartRefusals output s) s (chartAccepted s) refl in
         let b = chart-answers output s told a in
-        given
+        given (chart output) s
         (ap (λ (t : State). t .waitingTable) (sym q))
-        (answers (b .0) (b .1) (holds-same (ap (λ (t : State). clientTable t) q)))
+        (answers (b .0) (b .1) (ap (λ (t : State). t .clientNumbers) (sym q)))
 
   -- ---- open
-  module _ (setup : Setup) (accounts refusal cleared : ℕ) (shortest : accounts ≡ min (length su) (min (length se) (length dr)))
-      (refuses : refusal ≡ openMatch setup (length ws) accounts)
+  module _ (setup : Setup) (refusal cleared : ℕ) (refuses : refusal ≡ openMatch setup (length ws) (length xs))
       (some : cleared ≡ cond (eqb refusal 0) (length ws) 0) where
     open-refusal : refusal ≡ firstMatch (openRefusals setup s)
-    open-refusal =
-        refuses
-        ∙ ap (openMatch setup (length ws)) (shortest ∙ sym (length-rows countOf su se dr))
-        ∙ open-told setup s
+    open-refusal = refuses ∙ open-told setup s
 
     -- all records are cleared, or none
     pub cleared-within : cleared ≤ length ws
@@ -165,27 +165,28 @@ module _ (head : Head) (ws : List Request) (su se dr : List ℕ) where
             (ap (λ (l : List Request). replicate (length ws) zeroRequest ++ l) (drop-length ws) ∙ append-nil _)
         go false e = subst (λ (n : ℕ). replicate n zeroRequest ++ drop n ws ≡ ws) (sym e) refl
 
-    pub opened : (ws′ : List Request) (r : Reply) (su′ se′ dr′ : List ℕ)
+    pub opened : (ws′ : List Request) (r : Reply) (xs′ : List ℕ)
         → ws′ ≡ replicate cleared zeroRequest ++ drop cleared ws
-        → (r ≡ openReply refusal head setup) × Holds (openCounts refusal (countsOf su se dr)) su se dr su′ se′ dr′
-        → Gives (openOf setup s) su se dr r ws′ su′ se′ dr′
-    opened ws′ r su′ se′ dr′ w a = given (w ∙ zeros) (open-answers setup s open-refusal refl a)
+        → (r ≡ openReply refusal head setup) × (xs′ ≡ openNumbers refusal xs)
+        → Gives (opening setup) s r (stateOf (r .head) ws′ xs′)
+    unfolding outcomeOf
+    opened ws′ r xs′ w a = given (opening setup) s (w ∙ zeros) (open-answers setup s open-refusal a)
 
   -- ---- tick
   pub ticked : (tables refusal : ℕ) (decision : Decision) (n : ℕ) (gone : Request) (ws′ : List Request) (r : Reply)
-      (su′ se′ dr′ : List ℕ)
+      (xs′ : List ℕ)
       → tables ≡ tablesRefusal s
       → refusal ≡ tickMatch tables head
       → decision ≡ tickBy refusal (head .waiting)
       → n ≡ serving head decision
       → (gone ≡ removedOut n 0 ws) × (ws′ ≡ removed n 0 ws)
-      → (r ≡ tickReply head gone decision)
-      × Holds (tickCounts head decision (countsOf su (servedAfter gone decision se) dr)) su (servedAfter gone decision se) dr su′ se′ dr′
-      → Gives (tickOf s) su se dr r ws′ su′ se′ dr′
-  ticked tables refusal decision n gone ws′ r su′ se′ dr′ found refuses decides counts moved a =
-      given
+      → (r ≡ tickReply head gone decision) × (xs′ ≡ tickNumbers head gone decision xs)
+      → Gives tick s r (stateOf (r .head) ws′ xs′)
+  unfolding outcomeOf
+  ticked tables refusal decision n gone ws′ r xs′ found refuses decides counts moved a =
+      given tick s
       (moved .1 ∙ ap (λ (k : ℕ). removed k 0 ws) served ∙ tick-table s)
-      (tick-answers s decided refl
+      (tick-answers s decided
       (λ serves.
       moved .0 ∙ ap (λ (k : ℕ). removedOut k 0 ws) served ∙ tick-gone s (sym decided ∙ serves)) a)
     where
@@ -197,18 +198,17 @@ module _ (head : Head) (ws : List Request) (su se dr : List ℕ) where
 
   -- ---- submit
   pub submitted-gives : (client deadline : ℕ) (decision : Decision) (new gone : Request) (ws′ : List Request)
-      (r : Reply) (su′ dr′ : List ℕ)
+      (r : Reply) (xs′ : List ℕ)
       → decision ≡ submitDecision client deadline s
       → new ≡ numberedRequest head client deadline
       → (gone ≡ goneAfter new decision ws) × (ws′ ≡ tableAfter head new decision ws)
-      → (r ≡ submitReply head gone decision)
-      × (su′ ≡ submittedAfter client decision su)
-      × (dr′ ≡ droppedAfter gone decision dr)
-      → Gives (submitOf client deadline s) su se dr r ws′ su′ se dr′
-  submitted-gives client deadline decision new gone ws′ r su′ dr′ decides news moved a =
-      given
+      → (r ≡ submitReply head gone decision) × (xs′ ≡ submitNumbers client gone decision xs)
+      → Gives (submit client deadline) s r (stateOf (r .head) ws′ xs′)
+  unfolding outcomeOf
+  submitted-gives client deadline decision new gone ws′ r xs′ decides news moved a =
+      given (submit client deadline) s
       (moved .1 ∙ ap (λ (d : Decision). tableAfter head new d ws) decides ∙ submit-table client deadline s new made)
-      (submit-answers client deadline s decides refl
+      (submit-answers client deadline s decides
       (λ place victim drops.
       moved .0
       ∙ ap (λ (d : Decision). goneAfter new d ws) decides

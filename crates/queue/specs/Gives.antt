@@ -1,16 +1,12 @@
--- What a call hands back and leaves in the lent tables is what its definition says. Assumes nothing.
-use Prim.Native.Nat.{ℕ}
+-- What a call of the library does: one contract for all five. Assumes nothing.
 use mathlib.Core.Path.{_≡_}
-use mathlib.Core.List.{List}
-use Rattle.spec.specs.declared.types.Request.{Request}
-use Rattle.spec.specs.Calls.{Outcome}
+use Rattle.spec.specs.Tables.{State}
+use Rattle.spec.specs.Lists.{Call, outcomeOf}
 use Rattle.decide.specs.declared.types.Reply.{Reply}
 
--- the reply, the waiting table and the three columns of the client table at exit are the outcome's; entries of a column beyond
--- the client table, which no definition decides, are as they were at entry
-pub record Gives (o : Outcome) (submitted₀ served₀ dropped₀ : List ℕ) (r : Reply) (ws : List Request)
-    (submitted served dropped : List ℕ) : Type 0 where
-  pub answer-same : r .answer ≡ o .answer
-  pub head-same : r .head ≡ o .after .head
-  pub waiting-same : ws ≡ o .after .waitingTable
-  pub counts-same : Holds (o .clientTable after) submitted₀ served₀ dropped₀ submitted served dropped
+-- from the head and the tables that a caller lends to those that it then has: the answer is the one that the definition gives, and
+-- so is all that the head handed back and the tables hold
+pub record Gives (c : Call) (before : State) (r : Reply) (after : State) : Type 0 where
+  pub answer-same : r .answer ≡ outcomeOf c before .answer
+  pub head-kept : after .head ≡ r .head
+  pub after-same : after ≡ outcomeOf c before .after

@@ -17,49 +17,38 @@ use spec::types::Setup;
 ghost use mathlib.Core.Path.{_≡_};
 ghost use Rattle.spec.specs.Setup.{firstMatch};
 ghost use Rattle.spec.specs.Refusals.{submitRefusals};
-ghost use Rattle.spec.specs.Calls.{openOf, submitOf, tickOf, reportOf, chartOf, chartOutput};
+ghost use Rattle.spec.specs.Calls.{chartOutput};
 ghost use Rattle.spec.specs.Tables.{stateOf};
+ghost use Rattle.spec.specs.Lists.{opening, submit, tick, report, chart};
 ghost use Rattle.decide.specs.Decisions.{submitChoice, submitDecision};
 ghost use Rattle.decide.specs.Replies.{withoutVictim, victimAt, tableAfter, goneAfter};
 ghost use Rattle.queue.specs.Gives.{Gives};
 
 // Open: the clock, the last number, the waiting count and every record of both tables become zero.
-pub fn open(
-    head: Head,
-    waiting: &mut [Request],
-    submitted: &mut [u32],
-    served: &mut [u32],
-    dropped: &mut [u32],
-    setup: Setup,
-) -> Reply
-    ensures { λ r. ⌜ Gives
-        (openOf setup (stateOf head (now (waiting .entry))
-        (now (submitted .entry)) (now (served .entry)) (now (dropped .entry))))
-        (now (submitted .entry)) (now (served .entry)) (now (dropped .entry))
-        r (now (waiting .exit)) (now (submitted .exit)) (now (served .exit)) (now (dropped .exit)) ⌝ }
+pub fn open(head: Head, waiting: &mut [Request], clients: &mut [u32], setup: Setup) -> Reply
+    ensures { λ r. ⌜ Gives (opening setup)
+        (stateOf head (now (waiting .entry)) (now (clients .entry))) r
+        (stateOf (r .head) (now (waiting .exit)) (now (clients .exit))) ⌝ }
 {
-    let accounts = rows::shortest(submitted.len(), served.len(), dropped.len());
-    let refusal = refusals::open_refusal(setup, waiting.len(), accounts);
+    let refusal = refusals::open_refusal(setup, waiting.len(), clients.len());
     let cleared = edits::unless_refused(refusal, waiting.len() as u64);
     table::clear(waiting, cleared);
-    replies::open_reply(head, submitted, served, dropped, refusal, setup)
+    replies::open_reply(head, clients, refusal, setup)
 }
 
 // What a submit does that is not refused. Where a deadline is overfull, the waiting records up to the last candidate are marked,
 // each with its client, and the new request among them; where none is, `last` is 0 and no record is marked.
 fn accepted_decision(
     waiting: &[Request],
-    submitted: &[u32],
-    served: &[u32],
-    dropped: &[u32],
+    clients: &[u32],
     head: Head,
     client: u64,
     deadline: u64,
 ) -> Decision
     requires { ⌜ firstMatch (submitRefusals client deadline
-        (stateOf head (now waiting) (now submitted) (now served) (now dropped))) ≡ 0 ⌝ }
+        (stateOf head (now waiting) (now clients))) ≡ 0 ⌝ }
     ensures { λ r. ⌜ r ≡ submitChoice client deadline
-        (stateOf head (now (waiting .entry)) (now (submitted .entry)) (now (served .entry)) (now (dropped .entry))) ⌝ }
+        (stateOf head (now (waiting .entry)) (now (clients .entry))) ⌝ }
 {
     let mut latest = [0u16; MOST_CLIENTS];
     let n = head.waiting as usize;
@@ -71,46 +60,26 @@ fn accepted_decision(
     records::mark(waiting, &mut latest, 0, before, 1);
     records::note(&mut latest, client, place + 1);
     records::mark(waiting, &mut latest, place, last, 2);
-    calls::submit_choice(
-        head,
-        &latest,
-        submitted,
-        served,
-        dropped,
-        client,
-        place,
-        found,
-    )
+    calls::submit_choice(head, &latest, clients, client, place, found)
 }
 
 // What a submit has to do.
 fn submit_decision(
     waiting: &[Request],
-    submitted: &[u32],
-    served: &[u32],
-    dropped: &[u32],
+    clients: &[u32],
     head: Head,
     client: u64,
     deadline: u64,
 ) -> Decision
     ensures { λ r. ⌜ r ≡ submitDecision client deadline
-        (stateOf head (now (waiting .entry)) (now (submitted .entry)) (now (served .entry)) (now (dropped .entry))) ⌝ }
+        (stateOf head (now (waiting .entry)) (now (clients .entry))) ⌝ }
 {
-    let tables = check::tables_refusal(waiting, submitted, served, dropped, head);
-    let refusal = refusals::submit_refusal(
-        tables,
-        head,
-        waiting.len(),
-        submitted,
-        served,
-        dropped,
-        client,
-        deadline,
-    );
+    let tables = check::tables_refusal(waiting, clients, head);
+    let refusal = refusals::submit_refusal(tables, head, waiting.len(), clients, client, deadline);
     if refusal != 0 {
         return calls::refuse(refusal);
     }
-    accepted_decision(waiting, submitted, served, dropped, head, client, deadline)
+    accepted_decision(waiting, clients, head, client, deadline)
 }
 
 // A drop: `new` goes in at `place`, and the record that then stands at `victim` goes out and is handed back, as one change.
@@ -160,84 +129,54 @@ fn put_in(waiting: &mut [Request], decision: Decision, head: Head, new: Request)
 pub fn submit(
     head: Head,
     waiting: &mut [Request],
-    submitted: &mut [u32],
-    served: &mut [u32],
-    dropped: &mut [u32],
+    clients: &mut [u32],
     client: u64,
     deadline: u64,
 ) -> Reply
-    ensures { λ r. ⌜ Gives
-        (submitOf client deadline (stateOf head (now (waiting .entry))
-        (now (submitted .entry)) (now (served .entry)) (now (dropped .entry))))
-        (now (submitted .entry)) (now (served .entry)) (now (dropped .entry))
-        r (now (waiting .exit)) (now (submitted .exit)) (now (served .exit)) (now (dropped .exit)) ⌝ }
+    ensures { λ r. ⌜ Gives (submit client deadline)
+        (stateOf head (now (waiting .entry)) (now (clients .entry))) r
+        (stateOf (r .head) (now (waiting .exit)) (now (clients .exit))) ⌝ }
 {
-    let decision = submit_decision(waiting, submitted, served, dropped, head, client, deadline);
+    let decision = submit_decision(waiting, clients, head, client, deadline);
     let new = edits::new_request(head, client, deadline);
     let gone = put_in(waiting, decision, head, new);
-    replies::submit_reply(head, submitted, served, dropped, decision, client, gone)
+    replies::submit_reply(head, clients, decision, client, gone)
 }
 
 // Tick: the first waiting record is served, or none waits; then the clock rises by 1, and a period may begin.
-pub fn tick(
-    head: Head,
-    waiting: &mut [Request],
-    submitted: &mut [u32],
-    served: &mut [u32],
-    dropped: &mut [u32],
-) -> Reply
-    ensures { λ r. ⌜ Gives
-        (tickOf (stateOf head (now (waiting .entry))
-        (now (submitted .entry)) (now (served .entry)) (now (dropped .entry))))
-        (now (submitted .entry)) (now (served .entry)) (now (dropped .entry))
-        r (now (waiting .exit)) (now (submitted .exit)) (now (served .exit)) (now (dropped .exit)) ⌝ }
+pub fn tick(head: Head, waiting: &mut [Request], clients: &mut [u32]) -> Reply
+    ensures { λ r. ⌜ Gives tick
+        (stateOf head (now (waiting .entry)) (now (clients .entry))) r
+        (stateOf (r .head) (now (waiting .exit)) (now (clients .exit))) ⌝ }
 {
-    let tables = check::tables_refusal(waiting, submitted, served, dropped, head);
+    let tables = check::tables_refusal(waiting, clients, head);
     let refusal = refusals::tick_refusal(tables, head);
     let decision = calls::tick_decision(refusal, head);
     let n = edits::serving(decision, head);
     let gone = table::remove(waiting, n, 0);
-    replies::tick_reply(head, submitted, served, dropped, decision, gone)
+    replies::tick_reply(head, clients, decision, gone)
 }
 
 // Report: a client's three counts and its waiting count.
-pub fn report(
-    head: Head,
-    waiting: &[Request],
-    submitted: &[u32],
-    served: &[u32],
-    dropped: &[u32],
-    client: u64,
-) -> Reply
-    ensures { λ r. ⌜ Gives
-        (reportOf client (stateOf head (now (waiting .entry))
-        (now (submitted .entry)) (now (served .entry)) (now (dropped .entry))))
-        (now (submitted .entry)) (now (served .entry)) (now (dropped .entry))
-        r (now (waiting .entry)) (now (submitted .entry)) (now (served .entry)) (now (dropped .entry)) ⌝ }
+pub fn report(head: Head, waiting: &[Request], clients: &[u32], client: u64) -> Reply
+    ensures { λ r. ⌜ Gives (report client)
+        (stateOf head (now (waiting .entry)) (now (clients .entry))) r
+        (stateOf (r .head) (now (waiting .entry)) (now (clients .entry))) ⌝ }
 {
-    let tables = check::tables_refusal(waiting, submitted, served, dropped, head);
+    let tables = check::tables_refusal(waiting, clients, head);
     let refusal = refusals::report_refusal(tables, head, client);
-    replies::report_reply(head, submitted, served, dropped, refusal, client)
+    replies::report_reply(head, clients, refusal, client)
 }
 
 // Chart: one start slot a waiting record, into the output; entries beyond stay as they were.
-pub fn chart(
-    head: Head,
-    waiting: &[Request],
-    submitted: &[u32],
-    served: &[u32],
-    dropped: &[u32],
-    output: &mut [u64],
-) -> Reply
-    ensures { λ r. ⌜ Gives
-        (chartOf (now (output .entry)) (stateOf head (now (waiting .entry))
-        (now (submitted .entry)) (now (served .entry)) (now (dropped .entry))))
-        (now (submitted .entry)) (now (served .entry)) (now (dropped .entry))
-        r (now (waiting .entry)) (now (submitted .entry)) (now (served .entry)) (now (dropped .entry))
+pub fn chart(head: Head, waiting: &[Request], clients: &[u32], output: &mut [u64]) -> Reply
+    ensures { λ r. ⌜ Gives (chart (now (output .entry)))
+        (stateOf head (now (waiting .entry)) (now (clients .entry))) r
+        (stateOf (r .head) (now (waiting .entry)) (now (clients .entry)))
         × (now (output .exit) ≡ chartOutput (now (output .entry))
-        (stateOf head (now (waiting .entry)) (now (submitted .entry)) (now (served .entry)) (now (dropped .entry)))) ⌝ }
+        (stateOf head (now (waiting .entry)) (now (clients .entry)))) ⌝ }
 {
-    let tables = check::tables_refusal(waiting, submitted, served, dropped, head);
+    let tables = check::tables_refusal(waiting, clients, head);
     let refusal = refusals::chart_refusal(tables, head, output.len());
     let n = edits::unless_refused(refusal, head.waiting);
     table::deadlines(waiting, output, n);

@@ -7,7 +7,7 @@ use Rattle.walk.proofs.Slices.Arrays.{ends-array, array-lent, array-shared, rep
 use Rattle.columns.specs.Widths.{largest16}
 use Rattle.spec.specs.Tables.{stateOf}
 use Rattle.decide.proofs.Choosing.Chosen.{choice-found}
-use Rattle.decide.proofs.Choosing.Shown.{waits, few, clock, clients, rises, placed-within, candidates-within, found-all}
+use Rattle.decide.proofs.Choosing.Shown.{waits, few, clock, clients as clients-most, rises, placed-within, candidates-within, found-all}
 use Rattle.queue.proofs.Values.{DecisionT, a-decision}
 use Rattle.spec.specs.Setup.{firstMatch}
 use Rattle.spec.specs.Refusals.{submitRefusals}
@@ -38,7 +38,7 @@ fits k n h l = (omega arith, omega arith)
 module _ {M : Type 1} (𝓤 : URA M) (H : Heap 𝓤) (A : Atoms 𝓤) (W : Given 𝓤 H A) (mem : Memory → SProp 𝓤) (run : Routine → Fun 𝓤) where
   abbrev shape : Shape W
   shape = record {
-    params = shown R ∷ shown u32 ∷ shown u32 ∷ shown u32 ∷ taken a-head ∷ taken (of-number w64) ∷ taken (of-number w64) ∷ [];
+    params = shown R ∷ shown u32 ∷ taken a-head ∷ taken (of-number w64) ∷ taken (of-number w64) ∷ [];
     result = DecisionT;
     clauses = f.clauses 𝓤 H A mem run;
     code = f.Code.function;
@@ -59,59 +59,57 @@ module _ {M : Type 1} (𝓤 : URA M) (H : Heap 𝓤) (A : Atoms 𝓤) (W : Given
   known-lent l known long = loan (array-lent W u16 256 l tt known (subst (Room u16) (sym long) (lit< tt, lit< tt)) long)
 
   walk : (𝓣 : Tables 𝓤 H) → Walk shape 𝓣
-  walk 𝓣 known-due-by known-first-overfull known-candidates known-smaller known-mark known-note known-submit-choice κs qs waiting submitted served dropped head head-is client client-is deadline deadline-is g Q leaves bs =
+  walk 𝓣 known-due-by known-first-overfull known-candidates known-smaller known-mark known-note known-submit-choice κs qs waiting clients head head-is client client-is deadline deadline-is g Q leaves bs =
       let ws : List Request = waiting .list in
-      let su : List ℕ = submitted .list in
-      let se : List ℕ = served .list in
-      let dr : List ℕ = dropped .list in
+      let xs : List ℕ = clients .list in
       let n : ℕ = head .waiting in
       let n-fits : n < 2 ^ 64 = waiting-fits head head-is in
-      let l₈ : ℕ = bs .1 .1 .1 .1 .1 .1 .1 .1 .0 in
-      heard ! (firstMatch (submitRefusals client deadline (stateOf head ws su se dr)) ≡ 0) (λ accepted.
-      let within : n ≤ length ws = waits head ws su se dr client deadline accepted in
-      let small : n ≤ mostRecords = few head ws su se dr client deadline accepted in
-      takes-out ! 8 refl $ repeats ! u16 (uint-lawful 𝓤 H A W w16) (uint-copy 𝓤 H A W w16) (uint-makes 𝓤 H A W w16) 256 0 (vint w16 0) (refl, lit< tt) l₈ (lit ! tt) (from ! (stop !)) (
+      let l₆ : ℕ = bs .1 .1 .1 .1 .1 .1 .0 in
+      heard ! (firstMatch (submitRefusals client deadline (stateOf head ws xs)) ≡ 0) (λ accepted.
+      let within : n ≤ length ws = waits head ws xs client deadline accepted in
+      let small : n ≤ mostRecords = few head ws xs client deadline accepted in
+      takes-out ! 6 refl $ repeats ! u16 (uint-lawful 𝓤 H A W w16) (uint-copy 𝓤 H A W w16) (uint-makes 𝓤 H A W w16) 256 0 (vint w16 0) (refl, lit< tt) l₆ (lit ! tt) (from ! (stop !)) (
       sets ! (of-opd ! (field-var ! refl refl refl)) refl (tt, fit n-fits) $
       -- let place = records::due_by(waiting, n, deadline);
       calls-for ! 𝓣 (1 ∷ []) (passed-on W waiting ∷ number W n n-fits ∷ number W deadline (deadline-is .1) ∷ []) (of-number w64) (λ c. known-due-by) (λ c h. h) (so 𝓤 within) refl (λ c. vars ! (refl, (refl, (refl, tt)))) (λ _. refl) (λ place last₁ placed kept₁ place-is.
-      let place-within : place ≤ n = placed-within head ws su se dr client deadline accepted deadline place placed in
+      let place-within : place ≤ n = placed-within head ws xs client deadline accepted deadline place placed in
       -- let found = records::first_overfull(head, waiting, n, place, deadline);
-      calls-for ! 𝓣 (1 ∷ []) (the-head W head head-is ∷ passed-on W waiting ∷ number W n n-fits ∷ number W place (place-is .1) ∷ number W deadline (deadline-is .1) ∷ []) (of-number w64) (λ c. known-first-overfull) (λ c h. h) (so 𝓤 (within, small, place-within, clock head ws su se dr client deadline accepted)) refl (λ c. vars ! (refl, (refl, (refl, (refl, (refl, tt)))))) (λ _. refl) (λ found last₂ searched kept₂ found-is.
+      calls-for ! 𝓣 (1 ∷ []) (the-head W head head-is ∷ passed-on W waiting ∷ number W n n-fits ∷ number W place (place-is .1) ∷ number W deadline (deadline-is .1) ∷ []) (of-number w64) (λ c. known-first-overfull) (λ c h. h) (so 𝓤 (within, small, place-within, clock head ws xs client deadline accepted)) refl (λ c. vars ! (refl, (refl, (refl, (refl, (refl, tt)))))) (λ _. refl) (λ found last₂ searched kept₂ found-is.
       -- let due = records::due_by(waiting, n, found);
       calls-for ! 𝓣 (1 ∷ []) (passed-on W waiting ∷ number W n n-fits ∷ number W found (found-is .1) ∷ []) (of-number w64) (λ c. known-due-by) (λ c h. h) (so 𝓤 within) refl (λ c. vars ! (refl, (refl, (refl, tt)))) (λ _. refl) (λ due last₃ ended kept₃ due-is.
       -- let last = records::candidates(n, due, found);
       calls-for ! 𝓣 [] (number W n n-fits ∷ number W due (due-is .1) ∷ number W found (found-is .1) ∷ []) (of-number w64) (λ c. known-candidates) (λ c h. h) (id⊢ 𝓤 _) refl (λ c. vars ! (refl, (refl, (refl, tt)))) (λ _. refl) (λ end last chosen kept end-is.
-      let end-within : end ≤ n = candidates-within head ws su se dr client deadline accepted found due end chosen in
+      let end-within : end ≤ n = candidates-within head ws xs client deadline accepted found due end chosen in
       -- let before = rows::smaller(place, last);
       calls-for ! 𝓣 [] (number W place (place-is .1) ∷ number W end (end-is .1) ∷ []) (of-number w64) (λ c. known-smaller) (λ c h. h) (id⊢ 𝓤 _) refl (λ c. vars ! (refl, (refl, tt))) (λ _. refl) (λ before last₄ fewer kept₄ before-is.
       let spare : (before ≤ length ws) × (before + 1 ≤ largest16) = (omega (arith, fewer, place-within, within), omega (arith, fewer, fits place n (place-within) small .0)) in
       sets ! (addr ! (from ! (stop !))) refl (tt, tt) $
       sets ! (agg ! (and-then ! (var ! refl) (and-then ! (lit ! tt) (no-more !)))) refl (tt, (tt, (fit (lit< tt), tt))) $
       -- records::mark(waiting, &mut latest, 0, before, 1);
-      calls-for ! 𝓣 (1 ∷ 0 ∷ []) (passed-on W waiting ∷ known-lent l₈ zeros zeros-long ∷ number W 0 (lit< tt) ∷ number W before (before-is .1) ∷ number W 1 (lit< tt) ∷ []) of-nothing (λ c. known-mark) (λ c h. h) (so 𝓤 (spare .0, zeros-long, spare .1)) refl (λ c. and-then ! (var ! refl) (and-then ! (var ! refl) (and-then ! (lit ! tt) (and-then ! (var ! refl) (and-then ! (lit ! tt) (no-more !)))))) (λ _. refl) (λ u₅ last₅ marked₁ kept₅ _.
+      calls-for ! 𝓣 (1 ∷ 0 ∷ []) (passed-on W waiting ∷ known-lent l₆ zeros zeros-long ∷ number W 0 (lit< tt) ∷ number W before (before-is .1) ∷ number W 1 (lit< tt) ∷ []) of-nothing (λ c. known-mark) (λ c h. h) (so 𝓤 (spare .0, zeros-long, spare .1)) refl (λ c. and-then ! (var ! refl) (and-then ! (var ! refl) (and-then ! (lit ! tt) (and-then ! (var ! refl) (and-then ! (lit ! tt) (no-more !)))))) (λ _. refl) (λ u₅ last₅ marked₁ kept₅ _.
       let known₁ : List ℕ = last₅ .1 .0 in
       let long₁ : length known₁ ≡ 256 = kept₅ .1 .0 ∙ zeros-long in
       sets ! (addr ! (from ! (stop !))) refl (tt, tt) $
       sets ! (agg ! (and-then ! (var ! refl) (and-then ! (lit ! tt) (no-more !)))) refl (tt, (tt, (fit (lit< tt), tt))) $
       let next-fits : place + 1 < 2 ^ 64 = fits place n (place-within) small .1 in
-      sets ! (bin ! (var ! refl) (lit ! tt) (fit next-fits)) refl (tt, fit next-fits) $ empties ! 15 refl $
+      sets ! (bin ! (var ! refl) (lit ! tt) (fit next-fits)) refl (tt, fit next-fits) $ empties ! 13 refl $
       -- records::note(&mut latest, client, place + 1);
-      calls-for ! 𝓣 (0 ∷ []) (known-lent l₈ known₁ long₁ ∷ number W client (client-is .1) ∷ number W (place + 1) next-fits ∷ []) of-nothing (λ c. known-note) (λ c h. h) (so 𝓤 (long₁, omega (arith, fits place n (place-within) small .0))) refl (λ c. vars ! (refl, (refl, (refl, tt)))) (λ _. refl) (λ u₆ last₆ marked₂ kept₆ _.
+      calls-for ! 𝓣 (0 ∷ []) (known-lent l₆ known₁ long₁ ∷ number W client (client-is .1) ∷ number W (place + 1) next-fits ∷ []) of-nothing (λ c. known-note) (λ c h. h) (so 𝓤 (long₁, omega (arith, fits place n (place-within) small .0))) refl (λ c. vars ! (refl, (refl, (refl, tt)))) (λ _. refl) (λ u₆ last₆ marked₂ kept₆ _.
       let known₂ : List ℕ = last₆ .0 in
       let long₂ : length known₂ ≡ 256 = kept₆ .0 ∙ long₁ in
       sets ! (addr ! (from ! (stop !))) refl (tt, tt) $
-      sets ! (agg ! (and-then ! (var ! refl) (and-then ! (lit ! tt) (no-more !)))) refl (tt, (tt, (fit (lit< tt), tt))) $ empties ! 15 refl $
+      sets ! (agg ! (and-then ! (var ! refl) (and-then ! (lit ! tt) (no-more !)))) refl (tt, (tt, (fit (lit< tt), tt))) $ empties ! 13 refl $
       -- records::mark(waiting, &mut latest, place, last, 2);
-      calls-for ! 𝓣 (1 ∷ 0 ∷ []) (passed-on W waiting ∷ known-lent l₈ known₂ long₂ ∷ number W place (place-is .1) ∷ number W end (end-is .1) ∷ number W 2 (lit< tt) ∷ []) of-nothing (λ c. known-mark) (λ c h. h) (so 𝓤 (omega (arith, end-within, within), long₂, fits end n (end-within) small .0)) refl (λ c. and-then ! (var ! refl) (and-then ! (var ! refl) (and-then ! (var ! refl) (and-then ! (var ! refl) (and-then ! (lit ! tt) (no-more !)))))) (λ _. refl) (λ u₇ last₇ marked₃ kept₇ _.
+      calls-for ! 𝓣 (1 ∷ 0 ∷ []) (passed-on W waiting ∷ known-lent l₆ known₂ long₂ ∷ number W place (place-is .1) ∷ number W end (end-is .1) ∷ number W 2 (lit< tt) ∷ []) of-nothing (λ c. known-mark) (λ c h. h) (so 𝓤 (omega (arith, end-within, within), long₂, fits end n (end-within) small .0)) refl (λ c. and-then ! (var ! refl) (and-then ! (var ! refl) (and-then ! (var ! refl) (and-then ! (var ! refl) (and-then ! (lit ! tt) (no-more !)))))) (λ _. refl) (λ u₇ last₇ marked₃ kept₇ _.
       let known₃ : List ℕ = last₇ .1 .0 in
       let long₃ : length known₃ ≡ 256 = kept₇ .1 .0 ∙ long₂ in
       sets ! (addr ! (from ! (stop !))) refl (tt, tt) $
       sets ! (agg ! (and-then ! (var ! refl) (and-then ! (lit ! tt) (no-more !)))) refl (tt, (tt, (fit (lit< tt), tt))) $
-      -- calls::submit_choice(head, &latest, submitted, served, dropped, client, place, found)
-      calls-for ! 𝓣 (0 ∷ 2 ∷ 3 ∷ 4 ∷ []) (the-head W head head-is ∷ loan (array-shared W u16 256 l₈ tt known₃ (subst (Room u16) (sym long₃) (lit< tt, lit< tt)) long₃) ∷ passed-on W submitted ∷ passed-on W served ∷ passed-on W dropped ∷ number W client (client-is .1) ∷ number W place (place-is .1) ∷ number W found (found-is .1) ∷ []) a-decision (λ c. known-submit-choice) (λ c h. h) (so 𝓤 (subst (λ (k : ℕ). head .setup .clients ≤ k) (sym long₃) (clients head ws su se dr client deadline accepted), rises head ws su se dr client deadline accepted)) refl (λ c. vars ! (refl, (refl, (refl, (refl, (refl, (refl, (refl, (refl, tt))))))))) (λ _. refl) (λ r last₈ told kept₈ r-is.
-      ends-array ! 8 u16 256 l₈ known₃ $ gives ! refl refl $
+      -- calls::submit_choice(head, &latest, clients, client, place, found)
+      calls-for ! 𝓣 (0 ∷ 2 ∷ []) (the-head W head head-is ∷ loan (array-shared W u16 256 l₆ tt known₃ (subst (Room u16) (sym long₃) (lit< tt, lit< tt)) long₃) ∷ passed-on W clients ∷ number W client (client-is .1) ∷ number W place (place-is .1) ∷ number W found (found-is .1) ∷ []) a-decision (λ c. known-submit-choice) (λ c h. h) (so 𝓤 (subst (λ (k : ℕ). head .setup .clients ≤ k) (sym long₃) (clients-most head ws xs client deadline accepted), rises head ws xs client deadline accepted)) refl (λ c. vars ! (refl, (refl, (refl, (refl, (refl, (refl, tt))))))) (λ _. refl) (λ r last₈ told kept₈ r-is.
+      ends-array ! 6 u16 256 l₆ known₃ $ gives ! refl refl $
       leaves (a-decision .val r) r tt tt (made W a-decision r r-is)
-      (so 𝓤 (told ∙ choice-found (found-all head ws su se dr client deadline accepted place found due end before placed searched ended chosen fewer known₁ known₂ known₃ marked₁ marked₂ marked₃))))))))))))))
+      (so 𝓤 (told ∙ choice-found (found-all head ws xs client deadline accepted place found due end before placed searched ended chosen fewer known₁ known₂ known₃ marked₁ marked₂ marked₃))))))))))))))
 
 pub accepted-decision-spec : {M : Type 1} → f.Statement.statement M
 unfolding f.Code.routine

@@ -18,7 +18,7 @@ use Rattle.queue.proofs.chart as f
 module _ {M : Type 1} (𝓤 : URA M) (H : Heap 𝓤) (A : Atoms 𝓤) (W : Given 𝓤 H A) (mem : Memory → SProp 𝓤) (run : Routine → Fun 𝓤) where
   abbrev shape : Shape W
   shape = record {
-    params = taken a-head ∷ shown R ∷ shown u32 ∷ shown u32 ∷ shown u32 ∷ lent u64 ∷ [];
+    params = taken a-head ∷ shown R ∷ shown u32 ∷ lent u64 ∷ [];
     result = ReplyT;
     clauses = f.clauses 𝓤 H A mem run;
     code = f.Code.function;
@@ -34,31 +34,29 @@ module _ {M : Type 1} (𝓤 : URA M) (H : Heap 𝓤) (A : Atoms 𝓤) (W : Given
   }
 
   walk : (𝓣 : Tables 𝓤 H) → Walk shape 𝓣
-  walk 𝓣 known-tables-refusal known-chart-refusal known-unless-refused known-deadlines known-write-starts known-chart-reply κs qs head head-is s₀ s₁ s₂ s₃ s₄ g Q leaves bs =
+  walk 𝓣 known-tables-refusal known-chart-refusal known-unless-refused known-deadlines known-write-starts known-chart-reply κs qs head head-is s₀ s₁ s₂ g Q leaves bs =
       let ws : List Request = s₀ .list in
-      let su : List ℕ = s₁ .list in
-      let se : List ℕ = s₂ .list in
-      let dr : List ℕ = s₃ .list in
-      let output : List ℕ = s₄ .list in
+      let xs : List ℕ = s₁ .list in
+      let output : List ℕ = s₂ .list in
       drop ! $
-      -- let tables = check::tables_refusal(waiting, submitted, served, dropped, head);
-      calls-for ! 𝓣 (0 ∷ 1 ∷ 2 ∷ 3 ∷ []) (passed-on W s₀ ∷ passed-on W s₁ ∷ passed-on W s₂ ∷ passed-on W s₃ ∷ the-head W head head-is ∷ []) (of-number w64) (λ c. known-tables-refusal) (λ c h. h) (id⊢ 𝓤 _) refl (λ c. vars ! (refl, (refl, (refl, (refl, (refl, tt)))))) (λ _. refl) (λ tables last₁ found kept₁ tables-is.
-      sets ! (of-opd ! (field-var ! refl refl refl)) refl (tt, fit (s₄ .room .0)) $
+      -- let tables = check::tables_refusal(waiting, clients, head);
+      calls-for ! 𝓣 (0 ∷ 1 ∷ []) (passed-on W s₀ ∷ passed-on W s₁ ∷ the-head W head head-is ∷ []) (of-number w64) (λ c. known-tables-refusal) (λ c h. h) (id⊢ 𝓤 _) refl (λ c. vars ! (refl, (refl, (refl, tt)))) (λ _. refl) (λ tables last₁ found kept₁ tables-is.
+      sets ! (of-opd ! (field-var ! refl refl refl)) refl (tt, fit (s₂ .room .0)) $
       -- let refusal = refusals::chart_refusal(tables, head, output.len());
-      calls-for ! 𝓣 [] (number W tables (tables-is .1) ∷ the-head W head head-is ∷ number W (length output) (s₄ .room .0) ∷ []) (of-number w64) (λ c. known-chart-refusal) (λ c h. h) (id⊢ 𝓤 _) refl (λ c. vars ! (refl, (refl, (refl, tt)))) (λ _. refl) (λ refusal last₂ refuses kept₂ refusal-is.
+      calls-for ! 𝓣 [] (number W tables (tables-is .1) ∷ the-head W head head-is ∷ number W (length output) (s₂ .room .0) ∷ []) (of-number w64) (λ c. known-chart-refusal) (λ c h. h) (id⊢ 𝓤 _) refl (λ c. vars ! (refl, (refl, (refl, tt)))) (λ _. refl) (λ refusal last₂ refuses kept₂ refusal-is.
       -- let n = edits::unless_refused(refusal, head.waiting);
       calls-for ! 𝓣 [] (number W refusal (refusal-is .1) ∷ number W (head .waiting) (waiting-fits head head-is) ∷ []) (of-number w64) (λ c. known-unless-refused) (λ c h. h) (id⊢ 𝓤 _) refl (λ c. and-then ! (var ! refl) (and-then ! (field-var ! refl refl refl) (no-more !))) (λ _. refl) (λ n last₃ copied kept₃ n-is.
-      relends ! s₄ refl $
+      relends ! s₂ refl $
       -- table::deadlines(waiting, output, n);
-      calls-for ! 𝓣 (0 ∷ 4 ∷ []) (passed-on W s₀ ∷ mut-of W s₄ output refl ∷ number W n (n-is .1) ∷ []) of-nothing (λ c. known-deadlines) (λ c h. h) (so 𝓤 (within head ws su se dr output tables refusal n found refuses copied)) refl (λ c. vars ! (refl, (refl, (refl, tt)))) (λ _. refl) (λ u last₄ first kept₄ _.
+      calls-for ! 𝓣 (0 ∷ 2 ∷ []) (passed-on W s₀ ∷ mut-of W s₂ output refl ∷ number W n (n-is .1) ∷ []) of-nothing (λ c. known-deadlines) (λ c h. h) (so 𝓤 (within head ws xs output tables refusal n found refuses copied)) refl (λ c. vars ! (refl, (refl, (refl, tt)))) (λ _. refl) (λ u last₄ first kept₄ _.
       let out₁ : List ℕ = last₄ .1 .0 in
-      relends ! s₄ refl $
+      relends ! s₂ refl $
       -- chart::write_starts(head.setup, output, n);
-      calls-for ! 𝓣 (4 ∷ []) (given W a-setup (head .setup) (setup-is head head-is) ∷ mut-of W s₄ (last₄ .1 .0) (kept₄ .1 .0) ∷ number W n (n-is .1) ∷ []) of-nothing (λ c. known-write-starts) (λ c h. h) (so 𝓤 (subst (λ (m : ℕ). n ≤ m) (sym (kept₄ .1 .0)) (within head ws su se dr output tables refusal n found refuses copied .1))) refl (λ c. and-then ! (field-var ! refl refl refl) (vars ! (refl, (refl, tt)))) (λ _. refl) (λ u last₅ second kept₅ _.
+      calls-for ! 𝓣 (2 ∷ []) (given W a-setup (head .setup) (setup-is head head-is) ∷ mut-of W s₂ (last₄ .1 .0) (kept₄ .1 .0) ∷ number W n (n-is .1) ∷ []) of-nothing (λ c. known-write-starts) (λ c h. h) (so 𝓤 (subst (λ (m : ℕ). n ≤ m) (sym (kept₄ .1 .0)) (within head ws xs output tables refusal n found refuses copied .1))) refl (λ c. and-then ! (field-var ! refl refl refl) (vars ! (refl, (refl, tt)))) (λ _. refl) (λ u last₅ second kept₅ _.
       let out₂ : List ℕ = last₅ .1 .0 in
       -- replies::chart_reply(head, refusal)
       calls-for ! 𝓣 [] (the-head W head head-is ∷ number W refusal (refusal-is .1) ∷ []) a-reply (λ c. known-chart-reply) (λ c h. h) (id⊢ 𝓤 _) refl (λ c. vars ! (refl, (refl, tt))) (λ _. refl) (λ r last₆ told kept₆ r-is.
-      gives ! refl refl $ leaves (a-reply .val r) r (last₅ .1 .0, tt) ((kept₅ .0) ∙ (kept₄ .1 .0), tt) (made W a-reply r r-is) (so 𝓤 (chart-gives head ws su se dr output tables refusal n found refuses copied r told, output-charted head ws su se dr output tables refusal n found refuses copied out₁ out₂ first second))))))))
+      gives ! refl refl $ leaves (a-reply .val r) r (last₅ .1 .0, tt) ((kept₅ .0) ∙ (kept₄ .1 .0), tt) (made W a-reply r r-is) (so 𝓤 (chart-gives head ws xs output tables refusal n found refuses copied r told, output-charted head ws xs output tables refusal n found refuses copied out₁ out₂ first second))))))))
 
 pub chart-spec : {M : Type 1} → f.Statement.statement M
 unfolding f.Code.routine

@@ -1,4 +1,4 @@
--- `queue::open` meets its contract: a walk of five calls.
+-- `queue::open` meets its contract: a walk of four calls.
 -- Assumes nothing.
 use Rattle.walk.proofs.Prelude.{ℕ, refl, List, [], _∷_, length, URA, w64, SProp, Memory, Routine, Heap, Tables, Atoms, Fun, Given, _$_, !, of-opd, u32, tripleOf, id⊢}
 use Rattle.walk.proofs.Prelude.{drop, number, lent, taken, so, Shape, Walk, proved, vars, field-var, sets, relends, gives, mut-of, made, fit, of-number, of-nothing, given, calls-for, copies}
@@ -7,7 +7,6 @@ use Rattle.table.proofs.Rows.{R}
 use Rattle.table.proofs.Heads.{the-head, a-head, a-setup}
 use Rattle.queue.proofs.Values.{ReplyT, a-reply}
 use Rattle.queue.proofs.Together.{opened, cleared-within}
-use Rattle.columns.proofs.rows.shortest as shortest
 use Rattle.decide.proofs.refusals.open_refusal as open-refusal
 use Rattle.decide.proofs.edits.unless_refused as unless-refused
 use Rattle.table.proofs.clear as clear
@@ -17,14 +16,13 @@ use Rattle.queue.proofs.open as f
 module _ {M : Type 1} (𝓤 : URA M) (H : Heap 𝓤) (A : Atoms 𝓤) (W : Given 𝓤 H A) (mem : Memory → SProp 𝓤) (run : Routine → Fun 𝓤) where
   abbrev shape : Shape W
   shape = record {
-    params = taken a-head ∷ lent R ∷ lent u32 ∷ lent u32 ∷ lent u32 ∷ taken a-setup ∷ [];
+    params = taken a-head ∷ lent R ∷ lent u32 ∷ taken a-setup ∷ [];
     result = ReplyT;
     clauses = f.clauses 𝓤 H A mem run;
     code = f.Code.function;
     lies = λ κs a. refl;
     callees =
-        (shortest.Symbol.name, tripleOf 𝓤 H A shortest.signature (shortest.spec 𝓤 H A mem run))
-        ∷ (open-refusal.Symbol.name, tripleOf 𝓤 H A open-refusal.signature (open-refusal.spec 𝓤 H A mem run))
+        (open-refusal.Symbol.name, tripleOf 𝓤 H A open-refusal.signature (open-refusal.spec 𝓤 H A mem run))
         ∷ (unless-refused.Symbol.name, tripleOf 𝓤 H A unless-refused.signature (unless-refused.spec 𝓤 H A mem run))
         ∷ (clear.Symbol.name, tripleOf 𝓤 H A clear.signature (clear.spec 𝓤 H A mem run))
         ∷ (open-reply.Symbol.name, tripleOf 𝓤 H A open-reply.signature (open-reply.spec 𝓤 H A mem run))
@@ -32,51 +30,38 @@ module _ {M : Type 1} (𝓤 : URA M) (H : Heap 𝓤) (A : Atoms 𝓤) (W : Given
   }
 
   walk : (𝓣 : Tables 𝓤 H) → Walk shape 𝓣
-  walk 𝓣 known-shortest known-open-refusal known-unless-refused known-clear known-open-reply κs qs head head-is s₀ s₁ s₂ s₃ setup setup-is g Q leaves bs =
+  walk 𝓣 known-open-refusal known-unless-refused known-clear known-open-reply κs qs head head-is s₀ s₁ setup setup-is g Q leaves bs =
       let ws : List Request = s₀ .list in
-      let su : List ℕ = s₁ .list in
-      let se : List ℕ = s₂ .list in
-      let dr : List ℕ = s₃ .list in
+      let xs : List ℕ = s₁ .list in
       drop ! $
-      sets ! (of-opd ! (field-var ! refl refl refl)) refl (tt, fit (s₁ .room .0)) $
-      sets ! (of-opd ! (field-var ! refl refl refl)) refl (tt, fit (s₂ .room .0)) $
-      sets ! (of-opd ! (field-var ! refl refl refl)) refl (tt, fit (s₃ .room .0)) $
-      -- let accounts = rows::shortest(submitted.len(), served.len(), dropped.len());
-      calls-for ! 𝓣 [] (number W (length su) (s₁ .room .0) ∷ number W (length se) (s₂ .room .0) ∷ number W (length dr) (s₃ .room .0) ∷ []) (of-number w64) (λ c. known-shortest) (λ c h. h) (id⊢ 𝓤 _) refl (λ c. vars ! (refl, (refl, (refl, tt)))) (λ _. refl) (λ accounts last₁ shortest kept₁ accounts-is.
       sets ! (of-opd ! (field-var ! refl refl refl)) refl (tt, fit (s₀ .room .0)) $
-      -- let refusal = refusals::open_refusal(setup, waiting.len(), accounts);
-      calls-for ! 𝓣 [] (given W a-setup setup setup-is ∷ number W (length ws) (s₀ .room .0) ∷ number W accounts (accounts-is .1) ∷ []) (of-number w64) (λ c. known-open-refusal) (λ c h. h) (id⊢ 𝓤 _) refl (λ c. vars ! (refl, (refl, (refl, tt)))) (λ _. refl) (λ refusal last₂ refuses kept₂ refusal-is.
+      sets ! (of-opd ! (field-var ! refl refl refl)) refl (tt, fit (s₁ .room .0)) $
+      -- let refusal = refusals::open_refusal(setup, waiting.len(), clients.len());
+      calls-for ! 𝓣 [] (given W a-setup setup setup-is ∷ number W (length ws) (s₀ .room .0) ∷ number W (length xs) (s₁ .room .0) ∷ []) (of-number w64) (λ c. known-open-refusal) (λ c h. h) (id⊢ 𝓤 _) refl (λ c. vars ! (refl, (refl, (refl, tt)))) (λ _. refl) (λ refusal last₂ refuses kept₂ refusal-is.
       sets ! (of-opd ! (field-var ! refl refl refl)) refl (tt, fit (s₀ .room .0)) $
       copies ! refl refl (tt, fit (s₀ .room .0)) $
       -- let cleared = edits::unless_refused(refusal, waiting.len() as u64);
       calls-for ! 𝓣 [] (number W refusal (refusal-is .1) ∷ number W (length ws) (s₀ .room .0) ∷ []) (of-number w64) (λ c. known-unless-refused) (λ c h. h) (id⊢ 𝓤 _) refl (λ c. vars ! (refl, (refl, tt))) (λ _. refl) (λ cleared last₃ some kept₃ cleared-is.
       relends ! s₀ refl $
       -- table::clear(waiting, cleared);
-      calls-for ! 𝓣 (0 ∷ []) (mut-of W s₀ ws refl ∷ number W cleared (cleared-is .1) ∷ []) of-nothing (λ c. known-clear) (λ c h. h) (so 𝓤 (cleared-within head ws su se dr setup accounts refusal cleared shortest refuses some)) refl (λ c. vars ! (refl, (refl, tt))) (λ _. refl) (λ u last₄ zeros kept₄ _.
+      calls-for ! 𝓣 (0 ∷ []) (mut-of W s₀ ws refl ∷ number W cleared (cleared-is .1) ∷ []) of-nothing (λ c. known-clear) (λ c h. h) (so 𝓤 (cleared-within head ws xs setup refusal cleared refuses some)) refl (λ c. vars ! (refl, (refl, tt))) (λ _. refl) (λ u last₄ zeros kept₄ _.
       let ws₁ : List Request = last₄ .0 in
       relends ! s₁ refl $
-      relends ! s₂ refl $
-      relends ! s₃ refl $
-      -- replies::open_reply(head, submitted, served, dropped, refusal, setup)
-      calls-for ! 𝓣 (1 ∷ 2 ∷ 3 ∷ []) (the-head W head head-is ∷ mut-of W s₁ su refl ∷ mut-of W s₂ se refl ∷ mut-of W s₃ dr refl ∷ number W refusal (refusal-is .1) ∷ given W a-setup setup setup-is ∷ []) a-reply (λ c. known-open-reply) (λ c h. h) (id⊢ 𝓤 _) refl (λ c. vars ! (refl, (refl, (refl, (refl, (refl, (refl, tt))))))) (λ _. refl) (λ r last₅ told kept₅ r-is.
-      let su₁ : List ℕ = last₅ .1 .0 in
-      let se₁ : List ℕ = last₅ .1 .1 .0 in
-      let dr₁ : List ℕ = last₅ .1 .1 .1 .0 in
-      gives ! refl refl $ leaves (a-reply .val r) r (last₄ .0, (last₅ .1 .0, (last₅ .1 .1 .0, (last₅ .1 .1 .1 .0, tt)))) (kept₄ .0, (kept₅ .0, (kept₅ .1 .0, (kept₅ .1 .1 .0, tt)))) (made W a-reply r r-is) (so 𝓤 (opened head ws su se dr setup accounts refusal cleared shortest refuses some ws₁ r su₁ se₁ dr₁ zeros told)))))))
+      -- replies::open_reply(head, clients, refusal, setup)
+      calls-for ! 𝓣 (1 ∷ []) (the-head W head head-is ∷ mut-of W s₁ xs refl ∷ number W refusal (refusal-is .1) ∷ given W a-setup setup setup-is ∷ []) a-reply (λ c. known-open-reply) (λ c h. h) (id⊢ 𝓤 _) refl (λ c. vars ! (refl, (refl, (refl, (refl, tt))))) (λ _. refl) (λ r last₅ told kept₅ r-is.
+      let xs₁ : List ℕ = last₅ .1 .0 in
+      gives ! refl refl $ leaves (a-reply .val r) r (last₄ .0, (last₅ .1 .0, tt)) (kept₄ .0, (kept₅ .0, tt)) (made W a-reply r r-is) (so 𝓤 (opened head ws xs setup refusal cleared refuses some ws₁ r xs₁ zeros told))))))
 
 pub open-spec : {M : Type 1} → f.Statement.statement M
 unfolding f.Code.routine
 open-spec 𝓤 H 𝓜 𝓖 𝓡 =
     proved 𝓤 H 𝓜 𝓖 𝓡 (shape 𝓤 H) (walk 𝓤 H) f.Code.env f.Key.name (f.Code.unfolded 𝓤 H 𝓜 𝓡) (
-      (shortest.Symbol.routine, f.Code.calls-columns·rows·shortest, shortest.Met.met 𝓤 H 𝓜 𝓖 𝓡),
+      (open-refusal.Symbol.routine, f.Code.calls-decide·refusals·open-refusal, open-refusal.Met.met 𝓤 H 𝓜 𝓖 𝓡),
       (
-        (open-refusal.Symbol.routine, f.Code.calls-decide·refusals·open-refusal, open-refusal.Met.met 𝓤 H 𝓜 𝓖 𝓡),
+        (unless-refused.Symbol.routine, f.Code.calls-decide·edits·unless-refused, unless-refused.Met.met 𝓤 H 𝓜 𝓖 𝓡),
         (
-          (unless-refused.Symbol.routine, f.Code.calls-decide·edits·unless-refused, unless-refused.Met.met 𝓤 H 𝓜 𝓖 𝓡),
-          (
-            (clear.Symbol.routine, f.Code.calls-table·clear, clear.Met.met 𝓤 H 𝓜 𝓖 𝓡),
-            ((open-reply.Symbol.routine, f.Code.calls-decide·replies·open-reply, open-reply.Met.met 𝓤 H 𝓜 𝓖 𝓡), tt),
-          ),
+          (clear.Symbol.routine, f.Code.calls-table·clear, clear.Met.met 𝓤 H 𝓜 𝓖 𝓡),
+          ((open-reply.Symbol.routine, f.Code.calls-decide·replies·open-reply, open-reply.Met.met 𝓤 H 𝓜 𝓖 𝓡), tt),
         ),
       ),
     )

@@ -15,7 +15,7 @@ use Rattle.queue.proofs.report as f
 module _ {M : Type 1} (𝓤 : URA M) (H : Heap 𝓤) (A : Atoms 𝓤) (W : Given 𝓤 H A) (mem : Memory → SProp 𝓤) (run : Routine → Fun 𝓤) where
   abbrev shape : Shape W
   shape = record {
-    params = taken a-head ∷ shown R ∷ shown u32 ∷ shown u32 ∷ shown u32 ∷ taken (of-number w64) ∷ [];
+    params = taken a-head ∷ shown R ∷ shown u32 ∷ taken (of-number w64) ∷ [];
     result = ReplyT;
     clauses = f.clauses 𝓤 H A mem run;
     code = f.Code.function;
@@ -28,19 +28,17 @@ module _ {M : Type 1} (𝓤 : URA M) (H : Heap 𝓤) (A : Atoms 𝓤) (W : Given
   }
 
   walk : (𝓣 : Tables 𝓤 H) → Walk shape 𝓣
-  walk 𝓣 known-tables-refusal known-report-refusal known-report-reply κs qs head head-is waiting submitted served dropped client client-is g Q leaves bs =
+  walk 𝓣 known-tables-refusal known-report-refusal known-report-reply κs qs head head-is waiting clients client client-is g Q leaves bs =
       let ws : List Request = waiting .list in
-      let su : List ℕ = submitted .list in
-      let se : List ℕ = served .list in
-      let dr : List ℕ = dropped .list in
+      let xs : List ℕ = clients .list in
       drop ! $
-      -- let tables = check::tables_refusal(waiting, submitted, served, dropped, head);
-      calls-for ! 𝓣 (0 ∷ 1 ∷ 2 ∷ 3 ∷ []) (passed-on W waiting ∷ passed-on W submitted ∷ passed-on W served ∷ passed-on W dropped ∷ the-head W head head-is ∷ []) (of-number w64) (λ c. known-tables-refusal) (λ c h. h) (id⊢ 𝓤 _) refl (λ c. vars ! (refl, (refl, (refl, (refl, (refl, tt)))))) (λ _. refl) (λ tables last₁ found kept₁ tables-is.
+      -- let tables = check::tables_refusal(waiting, clients, head);
+      calls-for ! 𝓣 (0 ∷ 1 ∷ []) (passed-on W waiting ∷ passed-on W clients ∷ the-head W head head-is ∷ []) (of-number w64) (λ c. known-tables-refusal) (λ c h. h) (id⊢ 𝓤 _) refl (λ c. vars ! (refl, (refl, (refl, tt)))) (λ _. refl) (λ tables last₁ found kept₁ tables-is.
       -- let refusal = refusals::report_refusal(tables, head, client);
       calls-for ! 𝓣 [] (number W tables (tables-is .1) ∷ the-head W head head-is ∷ number W client (client-is .1) ∷ []) (of-number w64) (λ c. known-report-refusal) (λ c h. h) (id⊢ 𝓤 _) refl (λ c. vars ! (refl, (refl, (refl, tt)))) (λ _. refl) (λ refusal last₂ refuses kept₂ refusal-is.
-      -- replies::report_reply(head, submitted, served, dropped, refusal, client)
-      calls-for ! 𝓣 (1 ∷ 2 ∷ 3 ∷ []) (the-head W head head-is ∷ passed-on W submitted ∷ passed-on W served ∷ passed-on W dropped ∷ number W refusal (refusal-is .1) ∷ number W client (client-is .1) ∷ []) a-reply (λ c. known-report-reply) (λ c h. h) (id⊢ 𝓤 _) refl (λ c. vars ! (refl, (refl, (refl, (refl, (refl, (refl, tt))))))) (λ _. refl) (λ r last₃ told kept₃ r-is. gives ! refl refl $
-      leaves (a-reply .val r) r tt tt (made W a-reply r r-is) (so 𝓤 (reported head ws su se dr client tables refusal r found refuses told)))))
+      -- replies::report_reply(head, clients, refusal, client)
+      calls-for ! 𝓣 (1 ∷ []) (the-head W head head-is ∷ passed-on W clients ∷ number W refusal (refusal-is .1) ∷ number W client (client-is .1) ∷ []) a-reply (λ c. known-report-reply) (λ c h. h) (id⊢ 𝓤 _) refl (λ c. vars ! (refl, (refl, (refl, (refl, tt))))) (λ _. refl) (λ r last₃ told kept₃ r-is. gives ! refl refl $
+      leaves (a-reply .val r) r tt tt (made W a-reply r r-is) (so 𝓤 (reported head ws xs client tables refusal r found refuses told)))))
 
 pub report-spec : {M : Type 1} → f.Statement.statement M
 unfolding f.Code.routine

@@ -16,7 +16,7 @@ use Rattle.queue.proofs.submit as f
 module _ {M : Type 1} (𝓤 : URA M) (H : Heap 𝓤) (A : Atoms 𝓤) (W : Given 𝓤 H A) (mem : Memory → SProp 𝓤) (run : Routine → Fun 𝓤) where
   abbrev shape : Shape W
   shape = record {
-    params = taken a-head ∷ lent R ∷ lent u32 ∷ lent u32 ∷ lent u32 ∷ taken (of-number w64) ∷ taken (of-number w64) ∷ [];
+    params = taken a-head ∷ lent R ∷ lent u32 ∷ taken (of-number w64) ∷ taken (of-number w64) ∷ [];
     result = ReplyT;
     clauses = f.clauses 𝓤 H A mem run;
     code = f.Code.function;
@@ -30,25 +30,23 @@ module _ {M : Type 1} (𝓤 : URA M) (H : Heap 𝓤) (A : Atoms 𝓤) (W : Given
   }
 
   walk : (𝓣 : Tables 𝓤 H) → Walk shape 𝓣
-  walk 𝓣 known-submit-decision known-new-request known-put-in known-submit-reply κs qs head head-is waiting submitted served dropped client client-is deadline deadline-is g Q leaves bs =
+  walk 𝓣 known-submit-decision known-new-request known-put-in known-submit-reply κs qs head head-is waiting clients client client-is deadline deadline-is g Q leaves bs =
       let ws : List Request = waiting .list in
-      let su : List ℕ = submitted .list in
-      let se : List ℕ = served .list in
-      let dr : List ℕ = dropped .list in
+      let xs : List ℕ = clients .list in
       drop ! $
-      relends ! waiting refl $ relends ! submitted refl $ relends ! served refl $ relends ! dropped refl $
-      -- let decision = submit_decision(waiting, submitted, served, dropped, head, client, deadline);
-      calls-for ! 𝓣 (0 ∷ 1 ∷ 2 ∷ 3 ∷ []) (shr-of W waiting ws refl ∷ shr-of W submitted su refl ∷ shr-of W served se refl ∷ shr-of W dropped dr refl ∷ the-head W head head-is ∷ number W client (client-is .1) ∷ number W deadline (deadline-is .1) ∷ []) a-decision (λ c. known-submit-decision) (λ c h. h) (id⊢ 𝓤 _) refl (λ c. vars ! (refl, (refl, (refl, (refl, (refl, (refl, (refl, tt)))))))) (λ _. refl) (λ decision last₁ decides kept₁ decision-is.
+      relends ! waiting refl $ relends ! clients refl $
+      -- let decision = submit_decision(waiting, clients, head, client, deadline);
+      calls-for ! 𝓣 (0 ∷ 1 ∷ []) (shr-of W waiting ws refl ∷ shr-of W clients xs refl ∷ the-head W head head-is ∷ number W client (client-is .1) ∷ number W deadline (deadline-is .1) ∷ []) a-decision (λ c. known-submit-decision) (λ c h. h) (id⊢ 𝓤 _) refl (λ c. vars ! (refl, (refl, (refl, (refl, (refl, tt)))))) (λ _. refl) (λ decision last₁ decides kept₁ decision-is.
       -- let new = edits::new_request(head, client, deadline);
       calls-for ! 𝓣 [] (the-head W head head-is ∷ number W client (client-is .1) ∷ number W deadline (deadline-is .1) ∷ []) a-request (λ c. known-new-request) (λ c h. h) (id⊢ 𝓤 _) refl (λ c. vars ! (refl, (refl, (refl, tt)))) (λ _. refl) (λ new last₂ news kept₂ new-is.
       relends ! waiting refl $
       -- let gone = put_in(waiting, decision, head, new);
       calls-for ! 𝓣 (0 ∷ []) (mut-of W waiting ws refl ∷ given W a-decision decision decision-is ∷ the-head W head head-is ∷ request W new new-is ∷ []) a-request (λ c. known-put-in) (λ c h. h) (id⊢ 𝓤 _) refl (λ c. vars ! (refl, (refl, (refl, (refl, tt))))) (λ _. refl) (λ gone last₃ moved kept₃ gone-is.
-      relends ! submitted refl $ relends ! served refl $ relends ! dropped refl $
-      -- replies::submit_reply(head, submitted, served, dropped, decision, client, gone)
-      calls-for ! 𝓣 (1 ∷ 2 ∷ 3 ∷ []) (the-head W head head-is ∷ mut-of W submitted su refl ∷ shr-of W served se refl ∷ mut-of W dropped dr refl ∷ given W a-decision decision decision-is ∷ number W client (client-is .1) ∷ request W gone gone-is ∷ []) a-reply (λ c. known-submit-reply) (λ c h. h) (id⊢ 𝓤 _) refl (λ c. vars ! (refl, (refl, (refl, (refl, (refl, (refl, (refl, tt)))))))) (λ _. refl) (λ r last₄ told kept₄ r-is. gives ! refl refl $
-      leaves (a-reply .val r) r (last₃ .0, (last₄ .1 .0, (se, (last₄ .1 .1 .1 .0, tt)))) (kept₃ .0, (kept₄ .0, (refl, (kept₄ .1 .1 .0, tt)))) (made W a-reply r r-is)
-      (so 𝓤 (submitted-gives head ws su se dr client deadline decision new gone (last₃ .0) r (last₄ .1 .0) (last₄ .1 .1 .1 .0) decides news moved told))))))
+      relends ! clients refl $
+      -- replies::submit_reply(head, clients, decision, client, gone)
+      calls-for ! 𝓣 (1 ∷ []) (the-head W head head-is ∷ mut-of W clients xs refl ∷ given W a-decision decision decision-is ∷ number W client (client-is .1) ∷ request W gone gone-is ∷ []) a-reply (λ c. known-submit-reply) (λ c h. h) (id⊢ 𝓤 _) refl (λ c. vars ! (refl, (refl, (refl, (refl, (refl, tt)))))) (λ _. refl) (λ r last₄ told kept₄ r-is. gives ! refl refl $
+      leaves (a-reply .val r) r (last₃ .0, (last₄ .1 .0, tt)) (kept₃ .0, (kept₄ .0, tt)) (made W a-reply r r-is)
+      (so 𝓤 (submitted-gives head ws xs client deadline decision new gone (last₃ .0) r (last₄ .1 .0) decides news moved told))))))
 
 pub submit-spec : {M : Type 1} → f.Statement.statement M
 unfolding f.Code.routine

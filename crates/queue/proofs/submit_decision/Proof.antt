@@ -22,7 +22,7 @@ use Rattle.queue.proofs.submit_decision as f
 module _ {M : Type 1} (𝓤 : URA M) (H : Heap 𝓤) (A : Atoms 𝓤) (W : Given 𝓤 H A) (mem : Memory → SProp 𝓤) (run : Routine → Fun 𝓤) where
   abbrev shape : Shape W
   shape = record {
-    params = shown R ∷ shown u32 ∷ shown u32 ∷ shown u32 ∷ taken a-head ∷ taken (of-number w64) ∷ taken (of-number w64) ∷ [];
+    params = shown R ∷ shown u32 ∷ taken a-head ∷ taken (of-number w64) ∷ taken (of-number w64) ∷ [];
     result = DecisionT;
     clauses = f.clauses 𝓤 H A mem run;
     code = f.Code.function;
@@ -36,28 +36,26 @@ module _ {M : Type 1} (𝓤 : URA M) (H : Heap 𝓤) (A : Atoms 𝓤) (W : Given
   }
 
   walk : (𝓣 : Tables 𝓤 H) → Walk shape 𝓣
-  walk 𝓣 known-tables-refusal known-submit-refusal known-refuse known-accepted-decision κs qs s₀ s₁ s₂ s₃ head head-is client client-is deadline deadline-is g Q leaves bs =
+  walk 𝓣 known-tables-refusal known-submit-refusal known-refuse known-accepted-decision κs qs s₀ s₁ head head-is client client-is deadline deadline-is g Q leaves bs =
       let ws : List Request = s₀ .list in
-      let su : List ℕ = s₁ .list in
-      let se : List ℕ = s₂ .list in
-      let dr : List ℕ = s₃ .list in
+      let xs : List ℕ = s₁ .list in
       drop ! $
-      -- let tables = check::tables_refusal(waiting, submitted, served, dropped, head);
-      calls-for ! 𝓣 (0 ∷ 1 ∷ 2 ∷ 3 ∷ []) (passed-on W s₀ ∷ passed-on W s₁ ∷ passed-on W s₂ ∷ passed-on W s₃ ∷ the-head W head head-is ∷ []) (of-number w64) (λ c. known-tables-refusal) (λ c h. h) (id⊢ 𝓤 _) refl (λ c. vars ! (refl, (refl, (refl, (refl, (refl, tt)))))) (λ _. refl) (λ tables last₁ found-tables kept₁ tables-is.
+      -- let tables = check::tables_refusal(waiting, clients, head);
+      calls-for ! 𝓣 (0 ∷ 1 ∷ []) (passed-on W s₀ ∷ passed-on W s₁ ∷ the-head W head head-is ∷ []) (of-number w64) (λ c. known-tables-refusal) (λ c h. h) (id⊢ 𝓤 _) refl (λ c. vars ! (refl, (refl, (refl, tt)))) (λ _. refl) (λ tables last₁ found-tables kept₁ tables-is.
       sets ! (of-opd ! (field-var ! refl refl refl)) refl (tt, fit (s₀ .room .0)) $
-      -- let refusal = refusals::submit_refusal(tables, head, waiting.len(), submitted, served, dropped, client, deadline);
-      calls-for ! 𝓣 (1 ∷ 2 ∷ 3 ∷ []) (number W tables (tables-is .1) ∷ the-head W head head-is ∷ number W (length ws) (s₀ .room .0) ∷ passed-on W s₁ ∷ passed-on W s₂ ∷ passed-on W s₃ ∷ number W client (client-is .1) ∷ number W deadline (deadline-is .1) ∷ []) (of-number w64) (λ c. known-submit-refusal) (λ c h. h) (id⊢ 𝓤 _) refl (λ c. vars ! (refl, (refl, (refl, (refl, (refl, (refl, (refl, (refl, tt))))))))) (λ _. refl) (λ refusal last₂ refuses kept₂ refusal-is.
-      let asked : refusal ≡ firstMatch (submitRefusals client deadline (stateOf head ws su se dr)) = refuses ∙ submit-told (stateOf head ws su se dr) found-tables client deadline in
+      -- let refusal = refusals::submit_refusal(tables, head, waiting.len(), clients, client, deadline);
+      calls-for ! 𝓣 (1 ∷ []) (number W tables (tables-is .1) ∷ the-head W head head-is ∷ number W (length ws) (s₀ .room .0) ∷ passed-on W s₁ ∷ number W client (client-is .1) ∷ number W deadline (deadline-is .1) ∷ []) (of-number w64) (λ c. known-submit-refusal) (λ c h. h) (id⊢ 𝓤 _) refl (λ c. vars ! (refl, (refl, (refl, (refl, (refl, (refl, tt))))))) (λ _. refl) (λ refusal last₂ refuses kept₂ refusal-is.
+      let asked : refusal ≡ firstMatch (submitRefusals client deadline (stateOf head ws xs)) = refuses ∙ submit-told (stateOf head ws xs) found-tables client deadline in
       sets ! (bin ! (var ! refl) (lit ! tt) tt) refl (tt, tt) $
       branches-then ! (var ! refl) (λ held.
       into-call ! $
       -- return calls::refuse(refusal);
       calls-for ! 𝓣 [] (number W refusal (refusal-is .1) ∷ []) a-decision (λ c. known-refuse) (λ c h. h) (id⊢ 𝓤 _) refl (λ c. vars ! (refl, tt)) (λ _. refl) (λ r last₃ told kept₃ r-is.
-      first ! $ gives-within ! Q refl refl refl $ leaves (a-decision .val r) r tt tt (made W a-decision r r-is) (so 𝓤 (told ∙ submit-refused client deadline (stateOf head ws su se dr) asked (λ z. not-zero refusal held z)))))
+      first ! $ gives-within ! Q refl refl refl $ leaves (a-decision .val r) r tt tt (made W a-decision r r-is) (so 𝓤 (told ∙ submit-refused client deadline (stateOf head ws xs) asked (λ z. not-zero refusal held z)))))
       (λ failed. skips-then ! $
-      -- accepted_decision(waiting, submitted, served, dropped, head, client, deadline)
-      calls-for ! 𝓣 (0 ∷ 1 ∷ 2 ∷ 3 ∷ []) (passed-on W s₀ ∷ passed-on W s₁ ∷ passed-on W s₂ ∷ passed-on W s₃ ∷ the-head W head head-is ∷ number W client (client-is .1) ∷ number W deadline (deadline-is .1) ∷ []) a-decision (λ c. known-accepted-decision) (λ c h. h) (so 𝓤 (sym asked ∙ is-zero refusal failed)) refl (λ c. vars ! (refl, (refl, (refl, (refl, (refl, (refl, (refl, tt)))))))) (λ _. refl) (λ r last₄ told kept₄ r-is.
-      gives ! refl refl $ leaves (a-decision .val r) r tt tt (made W a-decision r r-is) (so 𝓤 (told ∙ submit-goes client deadline (stateOf head ws su se dr) asked (is-zero refusal failed)))))))
+      -- accepted_decision(waiting, clients, head, client, deadline)
+      calls-for ! 𝓣 (0 ∷ 1 ∷ []) (passed-on W s₀ ∷ passed-on W s₁ ∷ the-head W head head-is ∷ number W client (client-is .1) ∷ number W deadline (deadline-is .1) ∷ []) a-decision (λ c. known-accepted-decision) (λ c h. h) (so 𝓤 (sym asked ∙ is-zero refusal failed)) refl (λ c. vars ! (refl, (refl, (refl, (refl, (refl, tt)))))) (λ _. refl) (λ r last₄ told kept₄ r-is.
+      gives ! refl refl $ leaves (a-decision .val r) r tt tt (made W a-decision r r-is) (so 𝓤 (told ∙ submit-goes client deadline (stateOf head ws xs) asked (is-zero refusal failed)))))))
 
 pub submit-decision-spec : {M : Type 1} → f.Statement.statement M
 unfolding f.Code.routine

@@ -18,7 +18,7 @@ use Rattle.queue.proofs.tick as f
 module _ {M : Type 1} (𝓤 : URA M) (H : Heap 𝓤) (A : Atoms 𝓤) (W : Given 𝓤 H A) (mem : Memory → SProp 𝓤) (run : Routine → Fun 𝓤) where
   abbrev shape : Shape W
   shape = record {
-    params = taken a-head ∷ lent R ∷ lent u32 ∷ lent u32 ∷ lent u32 ∷ [];
+    params = taken a-head ∷ lent R ∷ lent u32 ∷ [];
     result = ReplyT;
     clauses = f.clauses 𝓤 H A mem run;
     code = f.Code.function;
@@ -34,18 +34,14 @@ module _ {M : Type 1} (𝓤 : URA M) (H : Heap 𝓤) (A : Atoms 𝓤) (W : Given
   }
 
   walk : (𝓣 : Tables 𝓤 H) → Walk shape 𝓣
-  walk 𝓣 known-tables-refusal known-tick-refusal known-tick-decision known-serving known-remove known-tick-reply κs qs head head-is s₀ s₁ s₂ s₃ g Q leaves bs =
+  walk 𝓣 known-tables-refusal known-tick-refusal known-tick-decision known-serving known-remove known-tick-reply κs qs head head-is s₀ s₁ g Q leaves bs =
       let ws : List Request = s₀ .list in
-      let su : List ℕ = s₁ .list in
-      let se : List ℕ = s₂ .list in
-      let dr : List ℕ = s₃ .list in
+      let xs : List ℕ = s₁ .list in
       drop ! $
       relends ! s₀ refl $
       relends ! s₁ refl $
-      relends ! s₂ refl $
-      relends ! s₃ refl $
-      -- let tables = check::tables_refusal(waiting, submitted, served, dropped, head);
-      calls-for ! 𝓣 (0 ∷ 1 ∷ 2 ∷ 3 ∷ []) (shr-of W s₀ ws refl ∷ shr-of W s₁ su refl ∷ shr-of W s₂ se refl ∷ shr-of W s₃ dr refl ∷ the-head W head head-is ∷ []) (of-number w64) (λ c. known-tables-refusal) (λ c h. h) (id⊢ 𝓤 _) refl (λ c. vars ! (refl, (refl, (refl, (refl, (refl, tt)))))) (λ _. refl) (λ tables last₁ found kept₁ tables-is.
+      -- let tables = check::tables_refusal(waiting, clients, head);
+      calls-for ! 𝓣 (0 ∷ 1 ∷ []) (shr-of W s₀ ws refl ∷ shr-of W s₁ xs refl ∷ the-head W head head-is ∷ []) (of-number w64) (λ c. known-tables-refusal) (λ c h. h) (id⊢ 𝓤 _) refl (λ c. vars ! (refl, (refl, (refl, tt)))) (λ _. refl) (λ tables last₁ found kept₁ tables-is.
       -- let refusal = refusals::tick_refusal(tables, head);
       calls-for ! 𝓣 [] (number W tables (tables-is .1) ∷ the-head W head head-is ∷ []) (of-number w64) (λ c. known-tick-refusal) (λ c h. h) (id⊢ 𝓤 _) refl (λ c. vars ! (refl, (refl, tt))) (λ _. refl) (λ refusal last₂ refuses kept₂ refusal-is.
       -- let decision = calls::tick_decision(refusal, head);
@@ -57,14 +53,10 @@ module _ {M : Type 1} (𝓤 : URA M) (H : Heap 𝓤) (A : Atoms 𝓤) (W : Given
       calls-for ! 𝓣 (0 ∷ []) (mut-of W s₀ ws refl ∷ number W n (n-is .1) ∷ number W 0 (lit< tt) ∷ []) a-request (λ c. known-remove) (λ c h. h) (id⊢ 𝓤 _) refl (λ c. and-then ! (var ! refl) (and-then ! (var ! refl) (and-then ! (lit ! tt) (no-more !)))) (λ _. refl) (λ gone last₅ moved kept₅ gone-is.
       let ws₁ : List Request = last₅ .0 in
       relends ! s₁ refl $
-      relends ! s₂ refl $
-      relends ! s₃ refl $
-      -- replies::tick_reply(head, submitted, served, dropped, decision, gone)
-      calls-for ! 𝓣 (1 ∷ 2 ∷ 3 ∷ []) (the-head W head head-is ∷ mut-of W s₁ su refl ∷ mut-of W s₂ se refl ∷ mut-of W s₃ dr refl ∷ given W a-decision decision decision-is ∷ request W gone gone-is ∷ []) a-reply (λ c. known-tick-reply) (λ c h. h) (id⊢ 𝓤 _) refl (λ c. vars ! (refl, (refl, (refl, (refl, (refl, (refl, tt))))))) (λ _. refl) (λ r last₆ told kept₆ r-is.
-      let su₁ : List ℕ = last₆ .1 .0 in
-      let se₁ : List ℕ = last₆ .1 .1 .0 in
-      let dr₁ : List ℕ = last₆ .1 .1 .1 .0 in
-      gives ! refl refl $ leaves (a-reply .val r) r (last₅ .0, (last₆ .1 .0, (last₆ .1 .1 .0, (last₆ .1 .1 .1 .0, tt)))) (kept₅ .0, (kept₆ .0, (kept₆ .1 .0, (kept₆ .1 .1 .0, tt)))) (made W a-reply r r-is) (so 𝓤 (ticked head ws su se dr tables refusal decision n gone ws₁ r su₁ se₁ dr₁ found refuses decides counts moved told))))))))
+      -- replies::tick_reply(head, clients, decision, gone)
+      calls-for ! 𝓣 (1 ∷ []) (the-head W head head-is ∷ mut-of W s₁ xs refl ∷ given W a-decision decision decision-is ∷ request W gone gone-is ∷ []) a-reply (λ c. known-tick-reply) (λ c h. h) (id⊢ 𝓤 _) refl (λ c. vars ! (refl, (refl, (refl, (refl, tt))))) (λ _. refl) (λ r last₆ told kept₆ r-is.
+      let xs₁ : List ℕ = last₆ .1 .0 in
+      gives ! refl refl $ leaves (a-reply .val r) r (last₅ .0, (last₆ .1 .0, tt)) (kept₅ .0, (kept₆ .0, tt)) (made W a-reply r r-is) (so 𝓤 (ticked head ws xs tables refusal decision n gone ws₁ r xs₁ found refuses decides counts moved told))))))))
 
 pub tick-spec : {M : Type 1} → f.Statement.statement M
 unfolding f.Code.routine
