@@ -3,4 +3,5 @@ pub mod Fields
 pub mod Framing
 pub mod Parts
 pub mod Reader
+pub mod Reading
 pub mod Written

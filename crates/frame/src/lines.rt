@@ -1,6 +1,6 @@
-// Lines of a lent buffer. The functions over the reader are thin: `line_end` and `between` do the work, on a slice and numbers.
+// Lines of a lent buffer. The functions over the reader are thin: `behind` and `line_at` do the work, on a slice and numbers.
 ghost use mathlib.Core.Path.{_≡_};
-ghost use Rattle.frame.specs.Lines.{Found, part};
+ghost use Rattle.frame.specs.Lines.{Behind, part, lineAt};
 
 // "The frame reader holds the lent buffer and how far it has read"
 pub struct Reader<'a> {
@@ -8,29 +8,22 @@ pub struct Reader<'a> {
     pub at: usize,
 }
 
-pub enum Line {
-    // The line's feed stands at `end`.
-    Whole { end: usize },
-    // No line feed stands in what is left.
-    Begun,
-}
-
-// Where the line that begins at `at` ends.
-pub(crate) fn line_end(buffer: &[u8], at: usize) -> Line
-    ensures { λ r. ⌜ Found (now (buffer .entry)) at r ⌝ }
+// Where the line at `at` is read: behind its line feed. While no line feed stands in what is left, nothing is.
+pub(crate) fn behind(buffer: &[u8], at: usize) -> usize
+    ensures { λ r. ⌜ Behind (now (buffer .entry)) at r ⌝ }
 {
     let mut i = at;
     while i < buffer.len() {
         if buffer[i] == 10 {
-            return Line::Whole { end: i };
+            return i + 1;
         }
         i += 1;
     }
-    Line::Begun
+    at
 }
 
 // The characters from `from` up to `end`, or none where these are no part of the buffer.
-pub(crate) fn between(buffer: &[u8], from: usize, end: usize) -> &[u8]
+fn between(buffer: &[u8], from: usize, end: usize) -> &[u8]
     ensures { λ r. ⌜ now r ≡ part (now (buffer .entry)) from end ⌝ }
 {
     if from <= end {
@@ -41,35 +34,36 @@ pub(crate) fn between(buffer: &[u8], from: usize, end: usize) -> &[u8]
     &buffer[..0]
 }
 
-pub(crate) fn new<'a>(buffer: &'a [u8], at: usize) -> Reader<'a>
+// The line at `at` that is read up to `to`, without its line feed; where nothing is read, all that is left.
+pub(crate) fn line_at(buffer: &[u8], at: usize, to: usize) -> &[u8]
+    ensures { λ r. ⌜ now r ≡ lineAt (now (buffer .entry)) at to ⌝ }
+{
+    if at < to {
+        return between(buffer, at, to - 1);
+    }
+    between(buffer, at, buffer.len())
+}
+
+pub fn new<'a>(buffer: &'a [u8], at: usize) -> Reader<'a>
     ensures { λ r. ⌜ (r .buffer ≡ buffer .entry) × (r .at ≡ at) ⌝ }
 {
     Reader { buffer, at }
 }
 
-// Where the reader's line ends.
-pub(crate) fn next<'a>(reader: Reader<'a>) -> Line
-    ensures { λ r. ⌜ Found (now (reader .entry .buffer)) (reader .entry .at) r ⌝ }
+// The reader behind its line.
+pub fn next<'a>(reader: Reader<'a>) -> Reader<'a>
+    ensures { λ r. ⌜ (r .buffer ≡ reader .entry .buffer) × Behind (now (reader .entry .buffer)) (reader .entry .at) (r .at) ⌝ }
 {
-    line_end(reader.buffer, reader.at)
+    let at = behind(reader.buffer, reader.at);
+    Reader {
+        buffer: reader.buffer,
+        at,
+    }
 }
 
-// "and hands back the frame's digits as a part of that buffer": the reader's line up to `end`.
-pub(crate) fn digits<'a>(reader: Reader<'a>, end: usize) -> &'a [u8]
-    ensures { λ r. ⌜ now r ≡ part (now (reader .entry .buffer)) (reader .entry .at) end ⌝ }
+// "and hands back the frame's digits as a part of that buffer": those of the line that the reader has read once it stands at `to`.
+pub fn digits<'a>(reader: Reader<'a>, to: usize) -> &'a [u8]
+    ensures { λ r. ⌜ now r ≡ lineAt (now (reader .entry .buffer)) (reader .entry .at) to ⌝ }
 {
-    between(reader.buffer, reader.at, end)
-}
-
-// Both with plain parameters: who calls these needs no proof by hand.
-pub fn line_at(buffer: &[u8], at: usize) -> Line
-    ensures { λ r. ⌜ Found (now (buffer .entry)) at r ⌝ }
-{
-    next(new(buffer, at))
-}
-
-pub fn digits_at(buffer: &[u8], at: usize, end: usize) -> &[u8]
-    ensures { λ r. ⌜ now r ≡ part (now (buffer .entry)) at end ⌝ }
-{
-    digits(new(buffer, at), end)
+    line_at(reader.buffer, reader.at, to)
 }

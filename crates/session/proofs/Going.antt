@@ -21,7 +21,7 @@ use Rattle.session.specs.declared.types.Turn.{Turn}
 use Rattle.session.specs.declared.types.Lent.{Lent}
 use Rattle.session.specs.Answers.{Answered}
 use Rattle.session.specs.Standing.{doFit, recordsFor, clientsFor}
-use Rattle.session.specs.Feeding.{Next, Stepped}
+use Rattle.session.specs.Feeding.{Next, Steps}
 use Rattle.session.proofs.Laws.Lending.{fit-facts, up-most}
 use Rattle.session.proofs.Laws.Replied.{Replied}
 use Rattle.session.proofs.Laws.Replies.{replied}
@@ -57,10 +57,10 @@ clients-most (Report client) s = up-most mostClients (s .head .setup .clients)
 clients-most Chart s = up-most mostClients (s .head .setup .clients)
 clients-most Bad s = up-most mostClients (s .head .setup .clients)
 
-module _ (input : List ℕ) (fed : Fed) (ws : List Request) (su se dr st out : List ℕ) (turn : Turn) (goes : turn .ends ≡ false)
-    (next : Next input fed (canWith fed ws su se dr st out) turn) (l : Lent) (lends : l ≡ lentFor turn fed) where
+module _ (line : List ℕ) (behind : ℕ) (fed : Fed) (ws : List Request) (su se dr st out : List ℕ) (turn : Turn) (goes : turn .ends ≡ false)
+    (next : Next line behind fed (canWith fed ws su se dr st out) turn) (l : Lent) (lends : l ≡ lentFor turn fed) where
   fits : doFit (fed .session) (length ws) (length su) (length se) (length dr) (length st) ≡ true
-  fits = next-fits input fed ws su se dr st out turn goes next
+  fits = next-fits line behind fed ws su se dr st out turn goes next
 
   -- it is within the tables
   pub lent-within : (l .records ≤ length ws) × (l .clients ≤ length su) × (l .clients ≤ length se) × (l .clients ≤ length dr)
@@ -86,7 +86,7 @@ module _ (input : List ℕ) (fed : Fed) (ws : List Request) (su se dr st out : L
         × ((out′ : List ℕ) (put : ℕ) (r : Fed)
         → (fed .put ≤ put) × (put ≤ fed .put + mostBytes) × (take put out′ ≡ take (fed .put) out ++ replyBytes (a .head .setup) (a .answer) st′)
         → r ≡ answered fed turn a put
-        → Stepped input fed ws su se dr st out r (zs ++ drop (l .records) ws) (us ++ drop (l .clients) su) (vs ++ drop (l .clients) se)
+        → Steps line behind fed ws su se dr st out r (zs ++ drop (l .records) ws) (us ++ drop (l .clients) su) (vs ++ drop (l .clients) se)
         (ds ++ drop (l .clients) dr) out′)
     turn-goes =
-        ((next-room input fed ws su se dr st out turn goes next, turn-replied .draws), λ out′ put r written is. rw lends (answers turn put goes next turn-replied written is))
+        ((next-room line behind fed ws su se dr st out turn goes next, turn-replied .draws), λ out′ put r written is. rw lends (answers turn put goes next turn-replied written is))

@@ -19,7 +19,7 @@ use Rattle.session.specs.declared.types.Fed.{Fed}
 use Rattle.session.specs.declared.types.Turn.{Turn}
 use Rattle.frame.specs.Lines.{slice}
 use Rattle.session.specs.Standing.{heldIn, doFit, recordsFor, clientsFor, recordsAfter, Leads}
-use Rattle.session.specs.Feeding.{Whole, None, NextIf, Next, Left, Ends, can, Stepped, SameLengths, FedBy}
+use Rattle.session.specs.Feeding.{HandsBack, Whole, None, NextIf, Next, Left, Ends, can, Stepped, Steps, SameLengths, FedBy}
 use Rattle.session.proofs.Laws.Replied.{Replied}
 use Rattle.session.proofs.Laws.Texts.{take-slice}
 use Rattle.session.proofs.Laws.Leading.{leads-none, leads-then, whole-leads, none-leads}
@@ -76,25 +76,26 @@ answered fed turn a put =
     }
 
 -- what stands next, by whether a line can be answered
-next-if : (input : List ℕ) (fed : Fed) (c : Bool) (turn : Turn) (b : Bool) → turn .ends ≡ b → Next input fed c turn
-    → NextIf b (turn .full) input fed c turn
-next-if input fed c turn b e next = subst (λ (x : Bool). NextIf x (turn .full) input fed c turn) e next
+next-if : (line : List ℕ) (behind : ℕ) (fed : Fed) (c : Bool) (turn : Turn) (b : Bool) → turn .ends ≡ b → Next line behind fed c turn
+    → NextIf b (turn .full) line behind fed c turn
+next-if line behind fed c turn b e next = subst (λ (x : Bool). NextIf x (turn .full) line behind fed c turn) e next
 
-module _ {input : List ℕ} {fed : Fed} {ws : List Request} {submitted served dropped starts out : List ℕ} (turn : Turn) where
-  stop-by : (full : Bool) → fed .used ≤ length input → fed .put ≤ length out
-      → NextIf true full input fed (canWith fed ws submitted served dropped starts out) turn
+module _ {line : List ℕ} {behind : ℕ} {fed : Fed} {ws : List Request} {submitted served dropped starts out : List ℕ} (turn : Turn) where
+  stop-by : (full : Bool) → fed .put ≤ length out → NextIf true full line behind fed (canWith fed ws submitted served dropped starts out) turn
+      → (input : List ℕ) → HandsBack input (fed .used) line behind
       → Stepped input fed ws submitted served dropped starts out (stopped fed turn full) ws submitted served dropped out
   unfolding doFit
-  stop-by true used put w =
+  stop-by true put w input h =
       record {
         onward = omega (arith, w .used-same);
-        within = omega (arith, w .used-same);
+        within = omega (arith, w .used-same, h .within);
         room = put;
         fits = λ h. h;
         leads = λ s₀ k₀ h. rw (w .used-same, w .skip-same) h;
         ends = w .cannot;
       }
-  stop-by false used put n =
+  stop-by false put none input h =
+      let n = none input h in
       record {
         onward = n .onward;
         within = n .within;
@@ -106,19 +107,22 @@ module _ {input : List ℕ} {fed : Fed} {ws : List Request} {submitted served dr
         ends = (n .left, n .no-feed);
       }
 
-  pub stops : {r : Fed} → turn .ends ≡ true → fed .used ≤ length input → fed .put ≤ length out
-      → Next input fed (canWith fed ws submitted served dropped starts out) turn → r ≡ stopped fed turn (turn .full)
-      → Stepped input fed ws submitted served dropped starts out r ws submitted served dropped out
-  stops e used put next is =
-      rw is
-      (stop-by (turn .full) used put
-      (next-if input fed (canWith fed ws submitted served dropped starts out) turn true e next))
+  pub stops : {r : Fed} → turn .ends ≡ true → fed .put ≤ length out
+      → Next line behind fed (canWith fed ws submitted served dropped starts out) turn → r ≡ stopped fed turn (turn .full)
+      → Steps line behind fed ws submitted served dropped starts out r ws submitted served dropped out
+  stops e put next is =
+      rw is (record {
+        used-so = λ goes. absurd (false≢true goes);
+        stepped =
+            stop-by (turn .full) put
+            (next-if line behind fed (canWith fed ws submitted served dropped starts out) turn true e next);
+      })
 
 -- what must hold before a line is answered
-module _ (input : List ℕ) (fed : Fed) (ws : List Request) (submitted served dropped starts out : List ℕ) (turn : Turn)
-    (goes : turn .ends ≡ false) (next : Next input fed (canWith fed ws submitted served dropped starts out) turn) where
-  next-is : (canWith fed ws submitted served dropped starts out ≡ true) × Whole input (fed .used) (fed .session .skip) turn
-  next-is = next-if input fed (canWith fed ws submitted served dropped starts out) turn false goes next
+module _ (line : List ℕ) (behind : ℕ) (fed : Fed) (ws : List Request) (submitted served dropped starts out : List ℕ) (turn : Turn)
+    (goes : turn .ends ≡ false) (next : Next line behind fed (canWith fed ws submitted served dropped starts out) turn) where
+  next-is : NextIf false (turn .full) line behind fed (canWith fed ws submitted served dropped starts out) turn
+  next-is = next-if line behind fed (canWith fed ws submitted served dropped starts out) turn false goes next
 
   pub next-fits : doFit (fed .session) (length ws) (length submitted) (length served) (length dropped) (length starts) ≡ true
   next-fits =
@@ -131,36 +135,43 @@ module _ (input : List ℕ) (fed : Fed) (ws : List Request) (submitted served dr
       (and-right (doFit (fed .session) (length ws) (length submitted) (length served) (length dropped) (length starts))
       (leb (fed .put + mostBytes) (length out)) (next-is .0))
 
-  pub next-whole : Whole input (fed .used) (fed .session .skip) turn
-  next-whole = next-is .1
+  next-used : turn .used ≡ behind
+  next-used = next-is .1
+
+  next-whole : (input : List ℕ) → HandsBack input (fed .used) line behind → Whole input (fed .used) (fed .session .skip) turn
+  next-whole = next-is .2
 
 -- the parts zs, us, vs, ds that the call had come back to the tables
-pub answers : {input : List ℕ} {fed : Fed} {ws : List Request} {submitted served dropped starts out : List ℕ} {r : Fed}
+pub answers : {line : List ℕ} {behind : ℕ} {fed : Fed} {ws : List Request} {submitted served dropped starts out : List ℕ} {r : Fed}
     {a : Reply} {zs : List Request} {us vs ds starts′ out′ : List ℕ} (turn : Turn) (put : ℕ)
-    → turn .ends ≡ false → Next input fed (canWith fed ws submitted served dropped starts out) turn
+    → turn .ends ≡ false → Next line behind fed (canWith fed ws submitted served dropped starts out) turn
     → Replied (turn .frame) (fed .session) ws submitted served dropped starts a zs us vs ds starts′
     → (fed .put ≤ put) × (put ≤ fed .put + mostBytes)
     × (take put out′ ≡ take (fed .put) out ++ replyBytes (a .head .setup) (a .answer) starts′)
     → r ≡ answered fed turn a put
-    → Stepped input fed ws submitted served dropped starts out r
+    → Steps line behind fed ws submitted served dropped starts out r
     (zs ++ drop (recordsFor (turn .frame) (fed .session)) ws)
     (us ++ drop (clientsFor (turn .frame) (fed .session)) submitted)
     (vs ++ drop (clientsFor (turn .frame) (fed .session)) served)
     (ds ++ drop (clientsFor (turn .frame) (fed .session)) dropped) out′
 unfolding doFit
-answers {input} {fed} {ws} {submitted} {served} {dropped} {starts} {out} turn put goes next q written is =
-    let w = next-whole input fed ws submitted served dropped starts out turn goes next in
-    let m = next-room input fed ws submitted served dropped starts out turn goes next in
+answers {line} {behind} {fed} {ws} {submitted} {served} {dropped} {starts} {out} turn put goes next q written is =
+    let m = next-room line behind fed ws submitted served dropped starts out turn goes next in
     let s : State = heldIn (fed .session) ws submitted served dropped in
     rw is (record {
-      onward = omega (arith, w .onward);
-      within = w .within;
-      room = omega (arith, written .1);
-      fits = λ h. q .fits;
-      leads =
-          λ s₀ k₀ h.
-          rw (q .after, written .2, q .bytes) (leads-whole input fed s s₀ k₀ (take (fed .put) out) turn h w);
-      ends = w .onward;
+      used-so = λ _. next-used line behind fed ws submitted served dropped starts out turn goes next;
+      stepped = λ input h.
+          let w = next-whole line behind fed ws submitted served dropped starts out turn goes next input h in
+          record {
+            onward = omega (arith, w .onward);
+            within = w .within;
+            room = omega (arith, written .1);
+            fits = λ h. q .fits;
+            leads =
+                λ s₀ k₀ h.
+                rw (q .after, written .2, q .bytes) (leads-whole input fed s s₀ k₀ (take (fed .put) out) turn h w);
+            ends = w .onward;
+          };
     })
 
 -- ---- the turns

@@ -10,7 +10,7 @@ use Rattle.spec.specs.declared.types.Request.{Request}
 use Rattle.spec.specs.Tables.{State}
 use Rattle.spec.specs.Frames.{frameOf, answerLine}
 use Rattle.spec.specs.Session.{textOf}
-use Rattle.frame.specs.Lines.{NoFeed, slice}
+use Rattle.frame.specs.Lines.{NoFeed, Behind, slice, lineAt}
 use Rattle.frame.specs.Written.{longestLine, mostBytes}
 use Rattle.session.specs.declared.types.Session.{Session}
 use Rattle.session.specs.declared.types.Fed.{Fed}
@@ -18,6 +18,12 @@ use Rattle.session.specs.declared.types.Turn.{Turn}
 use Rattle.session.specs.Standing.{heldIn, doFit, longestFrame, Begun, Leads}
 
 -- ---- what stands next in the input, from `used` on
+-- what a reader of the input that stands at used hands back: a line, and where the reader then stands
+pub record HandsBack (input : List ℕ) (used : ℕ) (line : List ℕ) (behind : ℕ) : Type 0 where
+  pub within : used ≤ length input
+  pub behind-so : Behind input used behind
+  pub line-so : line ≡ lineAt input used behind
+
 -- whether an answer has room in an output of this length, and the tables fit
 abbrev pub canAnswer : Bool → ℕ → ℕ → Bool
 canAnswer fits put out = fits && leb (put + mostBytes) out
@@ -46,13 +52,17 @@ pub record Waits (fed : Fed) (can : Bool) (turn : Turn) : Type 0 where
   pub used-same : turn .used ≡ fed .used
   pub skip-same : turn .skip ≡ fed .session .skip
 
-abbrev pub NextIf : Bool → Bool → List ℕ → Fed → Bool → Turn → Type 0
-NextIf true true input fed can turn = Waits fed can turn
-NextIf true false input fed can turn = None input (fed .used) (fed .session .skip) turn
-NextIf false full input fed can turn = (can ≡ true) × Whole input (fed .used) (fed .session .skip) turn
+-- in any input of which the reader hands back this line and then stands at behind
+abbrev pub NextIf : Bool → Bool → List ℕ → ℕ → Fed → Bool → Turn → Type 0
+NextIf true true line behind fed can turn = Waits fed can turn
+NextIf true false line behind fed can turn =
+    (input : List ℕ) → HandsBack input (fed .used) line behind → None input (fed .used) (fed .session .skip) turn
+NextIf false full line behind fed can turn =
+    (can ≡ true) × (turn .used ≡ behind)
+    × ((input : List ℕ) → HandsBack input (fed .used) line behind → Whole input (fed .used) (fed .session .skip) turn)
 
-abbrev pub Next : List ℕ → Fed → Bool → Turn → Type 0
-Next input fed can turn = NextIf (turn .ends) (turn .full) input fed can turn
+abbrev pub Next : List ℕ → ℕ → Fed → Bool → Turn → Type 0
+Next line behind fed can turn = NextIf (turn .ends) (turn .full) line behind fed can turn
 
 -- ---- a part of the input
 -- what is left of a part of the input once no more of it is answered
@@ -83,6 +93,14 @@ pub record Stepped (input : List ℕ) (fed : Fed) (ws : List Request) (submitted
   pub ends :
       Ends (r .going) (r .full) input (fed .used) (r .used)
       (can r (length ws) (length submitted) (length served) (length dropped) (length starts) (length out))
+
+-- the same of any input of which the reader hands back this line and then stands at behind; while lines may still be answered, the
+-- session goes on where the reader stands
+pub record Steps (line : List ℕ) (behind : ℕ) (fed : Fed) (ws : List Request) (submitted served dropped starts out : List ℕ)
+    (r : Fed) (ws′ : List Request) (submitted′ served′ dropped′ out′ : List ℕ) : Type 0 where
+  pub used-so : r .going ≡ true → r .used ≡ behind
+  pub stepped : (input : List ℕ) → HandsBack input (fed .used) line behind
+      → Stepped input fed ws submitted served dropped starts out r ws′ submitted′ served′ dropped′ out′
 
 -- tables keep their lengths
 pub record SameLengths (ws : List Request) (submitted served dropped out : List ℕ) (ws′ : List Request) (submitted′ served′ dropped′ out′ : List ℕ)

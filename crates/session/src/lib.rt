@@ -3,6 +3,7 @@ pub mod turns;
 pub mod types;
 
 use decide::types::Reply;
+use frame::lines;
 use frame::values;
 use spec::types::Frame;
 use spec::types::Head;
@@ -10,12 +11,12 @@ use spec::types::Request;
 use types::Fed;
 use types::Session;
 ghost use mathlib.Core.Path.{_≡_};
-ghost use Prim.Native.Nat.{_≤_};
+ghost use Prim.Native.Nat.{_+_, _≤_, _<_, _^_};
 ghost use lib.ListN.{length};
 ghost use Rattle.spec.specs.Tables.{stateOf};
 ghost use Rattle.frame.specs.Digits.{digitTable};
 ghost use Rattle.session.specs.Answers.{Answered};
-ghost use Rattle.session.specs.Feeding.{Stepped, FedBy};
+ghost use Rattle.session.specs.Feeding.{Steps, FedBy};
 
 // The call that a frame asks for, on the tables as they are lent to it.
 fn answer(
@@ -54,11 +55,13 @@ fn answer(
     }
 }
 
-// Answers one line, where one is whole and its answer has room.
+// Answers one line, where it is whole and its answer has room: `line` is what the reader hands back, and `behind` where it then
+// stands.
 fn step(
     table: &[u8],
     fed: Fed,
-    input: &[u8],
+    line: &[u8],
+    behind: usize,
     waiting: &mut [Request],
     submitted: &mut [u32],
     served: &mut [u32],
@@ -66,15 +69,16 @@ fn step(
     starts: &mut [u64],
     out: &mut [u8],
 ) -> Fed
-    requires { ⌜ (now table ≡ digitTable) × (fed .used ≤ length (now input)) × (fed .put ≤ length (now out)) ⌝ }
-    ensures { λ r. ⌜ Stepped (now (input .entry)) fed (now (waiting .entry)) (now (submitted .entry)) (now (served .entry))
+    requires { ⌜ (now table ≡ digitTable) × (fed .used ≤ behind) × (fed .used + length (now line) < 2 ^ 64) × (fed .put ≤ length (now out)) ⌝ }
+    ensures { λ r. ⌜ Steps (now (line .entry)) behind fed (now (waiting .entry)) (now (submitted .entry)) (now (served .entry))
         (now (dropped .entry)) (now (starts .entry)) (now (out .entry)) r (now (waiting .exit)) (now (submitted .exit))
         (now (served .exit)) (now (dropped .exit)) (now (out .exit)) ⌝ }
 {
     let turn = turns::next_turn(
         table,
-        input,
+        line,
         fed,
+        behind,
         waiting.len(),
         submitted.len(),
         served.len(),
@@ -119,11 +123,15 @@ pub fn feed(
 {
     let table = values::digit_table();
     let mut fed = turns::begin(session);
+    let mut reader = lines::new(input, 0);
     while fed.going {
+        let behind = lines::next(reader);
+        let line = lines::digits(reader, behind.at);
         let next = step(
             &table,
             fed,
-            input,
+            line,
+            behind.at,
             waiting,
             submitted,
             served,
@@ -132,6 +140,7 @@ pub fn feed(
             out,
         );
         fed = next;
+        reader = behind;
     }
     fed
 }

@@ -6,8 +6,6 @@ use crate::types::Turn;
 use decide::types::Reply;
 use frame::answers;
 use frame::frames;
-use frame::lines;
-use frame::lines::Line;
 use spec::bounds::MOST_CLIENTS;
 use spec::bounds::MOST_RECORDS;
 use spec::types::Answer;
@@ -15,18 +13,17 @@ use spec::types::Frame;
 use spec::types::Head;
 use spec::types::Setup;
 ghost use mathlib.Core.Bool.{true, false};
-ghost use mathlib.Core.List.{_++_};
+ghost use mathlib.Core.List.{List, _++_};
 ghost use mathlib.Core.Path.{_≡_};
-ghost use Prim.Native.Nat.{_+_, _≤_};
+ghost use Prim.Native.Nat.{ℕ, _+_, _≤_, _<_, _^_};
 ghost use lib.ListN.{length, take};
 ghost use Rattle.spec.specs.declared.types.Answer.the-variants.{Refused};
 ghost use Rattle.spec.specs.Lists.{isRefused};
 ghost use Rattle.frame.specs.Digits.{digitTable};
-ghost use Rattle.frame.specs.Lines.{NoFeed, Ends};
 ghost use Rattle.frame.specs.Written.{mostBytes, CanDraw, replyBytes};
 ghost use Rattle.session.specs.Standing.{doFit, upTo, recordsFor, clientsFor, recordsAfter};
 ghost use Rattle.session.specs.Parts.{atStart};
-ghost use Rattle.session.specs.Feeding.{can, Whole, None, Next, owedIn};
+ghost use Rattle.session.specs.Feeding.{can, HandsBack, Whole, None, Next, owedIn};
 
 // Before the first line: no tables.
 pub fn start() -> Session
@@ -77,40 +74,43 @@ fn fit(
                 & ((MOST_CLIENTS <= served) & (MOST_CLIENTS <= dropped))))
 }
 
-// A whole line, whose feed stands at `end`. One that was read past so far has more digits than any frame.
-fn whole(table: &[u8], input: &[u8], fed: Fed, end: usize) -> Turn
-    requires { ⌜ (now table ≡ digitTable) × Ends (now input) (fed .used) end ⌝ }
-    ensures { λ r. ⌜ (r .ends ≡ false) × Whole (now (input .entry)) (fed .used) (fed .session .skip) r ⌝ }
+// A whole line, behind which the reader stands at `behind`. One that was read past so far has more digits than any frame.
+fn whole(table: &[u8], line: &[u8], fed: Fed, behind: usize) -> Turn
+    requires { ⌜ (now table ≡ digitTable) × (fed .used < behind) ⌝ }
+    ensures { λ r. ⌜ (r .ends ≡ false) × (r .used ≡ behind)
+        × ((input : List ℕ) → HandsBack input (fed .used) (now (line .entry)) behind → Whole input (fed .used) (fed .session .skip) r) ⌝ }
 {
-    let used = end + 1;
     if fed.session.skip {
         return Turn {
             ends: false,
             full: false,
-            used,
+            used: behind,
             skip: false,
             frame: Frame::Bad,
         };
     }
-    let digits = lines::digits_at(input, fed.used, end);
-    let frame = frames::frame_of(table, digits);
+    let frame = frames::frame_of(table, line);
     Turn {
         ends: false,
         full: false,
-        used,
+        used: behind,
         skip: false,
         frame,
     }
 }
 
 // No line feed: what has more digits than any frame is read past, and the beginning of a frame is left.
-fn begun(input: &[u8], fed: Fed) -> Turn
-    requires { ⌜ (fed .used ≤ length (now input)) × NoFeed (now input) (fed .used) (length (now input)) ⌝ }
-    ensures { λ r. ⌜ (r .ends ≡ true) × (r .full ≡ false) × None (now (input .entry)) (fed .used) (fed .session .skip) r ⌝ }
+fn begun(line: &[u8], fed: Fed) -> Turn
+    requires { ⌜ fed .used + length (now line) < 2 ^ 64 ⌝ }
+    ensures { λ r. ⌜ (r .ends ≡ true) × (r .full ≡ false)
+        × ((input : List ℕ) → HandsBack input (fed .used) (now (line .entry)) (fed .used) → None input (fed .used) (fed .session .skip) r) ⌝ }
 {
-    let end = input.len();
-    let skip = fed.session.skip | (frames::LONGEST_FRAME < end - fed.used);
-    let used = if skip { end } else { fed.used };
+    let skip = fed.session.skip | (frames::LONGEST_FRAME < line.len());
+    let used = if skip {
+        fed.used + line.len()
+    } else {
+        fed.used
+    };
     Turn {
         ends: true,
         full: false,
@@ -120,10 +120,11 @@ fn begun(input: &[u8], fed: Fed) -> Turn
     }
 }
 
-// What stands next in the input, where `can` says whether a line may be answered at all.
-fn look(table: &[u8], input: &[u8], fed: Fed, can: bool) -> Turn
-    requires { ⌜ (now table ≡ digitTable) × (fed .used ≤ length (now input)) ⌝ }
-    ensures { λ r. ⌜ Next (now (input .entry)) fed can r ⌝ }
+// What stands next in the input, where `can` says whether a line may be answered at all: `line` is what the reader hands back,
+// and `behind` where it then stands.
+fn look(table: &[u8], line: &[u8], fed: Fed, behind: usize, can: bool) -> Turn
+    requires { ⌜ (now table ≡ digitTable) × (fed .used ≤ behind) × (fed .used + length (now line) < 2 ^ 64) ⌝ }
+    ensures { λ r. ⌜ Next (now (line .entry)) behind fed can r ⌝ }
 {
     if !can {
         return Turn {
@@ -134,21 +135,18 @@ fn look(table: &[u8], input: &[u8], fed: Fed, can: bool) -> Turn
             frame: Frame::Bad,
         };
     }
-    match lines::line_at(input, fed.used) {
-        Line::Whole { end } => {
-            return whole(table, input, fed, end);
-        }
-        Line::Begun => {
-            return begun(input, fed);
-        }
+    if fed.used < behind {
+        return whole(table, line, fed, behind);
     }
+    begun(line, fed)
 }
 
 // What stands next in the input, if the tables will do and an answer has room.
 pub(crate) fn next_turn(
     table: &[u8],
-    input: &[u8],
+    line: &[u8],
     fed: Fed,
+    behind: usize,
     waiting: usize,
     submitted: usize,
     served: usize,
@@ -156,12 +154,12 @@ pub(crate) fn next_turn(
     starts: usize,
     out: usize,
 ) -> Turn
-    requires { ⌜ (now table ≡ digitTable) × (fed .used ≤ length (now input)) × (fed .put ≤ out) ⌝ }
-    ensures { λ r. ⌜ Next (now (input .entry)) fed (can fed waiting submitted served dropped starts out) r ⌝ }
+    requires { ⌜ (now table ≡ digitTable) × (fed .used ≤ behind) × (fed .used + length (now line) < 2 ^ 64) × (fed .put ≤ out) ⌝ }
+    ensures { λ r. ⌜ Next (now (line .entry)) behind fed (can fed waiting submitted served dropped starts out) r ⌝ }
 {
     let fits = fit(fed.session, waiting, submitted, served, dropped, starts);
     let room = answers::MOST_BYTES <= out - fed.put;
-    look(table, input, fed, fits & room)
+    look(table, line, fed, behind, fits & room)
 }
 
 // Where feeding ends.

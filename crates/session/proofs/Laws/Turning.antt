@@ -1,11 +1,11 @@
 -- Laws of turns: what is read where a line ends and where none does, and what stays the same but for an open.
 -- Assumes nothing.
 use Prim.Native.Nat.{ℕ, zero, suc, _+_, _-_, _≤_, _<_}
-use mathlib.Core.Bool.{Bool, true, false, false≢true, not, _&&_, _||_}
+use mathlib.Core.Bool.{Bool, true, false, false≢true, not, cond, _&&_, _||_}
 use mathlib.Core.List.{List, [], _∷_, _++_, append-nil}
-use mathlib.Core.Path.{_≡_, refl, sym, _∙_, subst₂}
+use mathlib.Core.Path.{_≡_, refl, sym, _∙_, subst, subst₂}
 use native.Mathlib.Omega.{arith}
-use borrow.Author.Tests.{ltb-true, ltb-false, leb-true, le-leb, eqb-true}
+use borrow.Author.Tests.{ltb-true, ltb-false, leb-true, lt-ltb, le-ltb, le-leb, eqb-true}
 use lib.Dec.{ltb, leb, eqb}
 use lib.ListN.{length, drop, length-append, length-take, length-drop}
 use types.Run.{OneOf, miss}
@@ -21,49 +21,56 @@ use Rattle.spec.specs.Session.{textOf}
 use Rattle.spec.proofs.Laws.Every.{or-none, same-test}
 use Rattle.spec.proofs.types.Answer as answers
 use Rattle.spec.proofs.types.Frame as frames
-use Rattle.frame.specs.Lines.{NoFeed, Ends, part, slice}
+use Rattle.frame.specs.Lines.{NoFeed, Ends, slice}
 use Rattle.frame.specs.Written.{mostBytes}
 use Rattle.frame.proofs.Framing.{frame-length}
-use Rattle.frame.proofs.Parts.{part-is}
+use Rattle.frame.proofs.Parts.{part-is, part-long}
 use Rattle.session.specs.declared.types.Session.{Session}
 use Rattle.session.specs.declared.types.Fed.{Fed}
 use Rattle.session.specs.declared.types.Turn.{Turn}
 use Rattle.session.specs.Standing.{upTo, recordsFor, clientsFor, recordsAfter, longestFrame, Begun}
-use Rattle.session.specs.Feeding.{Whole, None, NextIf, Next, owed}
-use Rattle.session.proofs.Laws.Texts.{begun, slice-goes-on, slice-ends}
+use Rattle.session.specs.Feeding.{HandsBack, Whole, None, NextIf, Next, owed}
+use Rattle.session.proofs.Laws.Texts.{begun, ended, slice-goes-on, slice-ends}
 use Rattle.session.proofs.Laws.Leading.{begun-text}
 
 -- ---- a whole line
--- the turn that reads a line, whose feed stands at end
+-- the turn that reads a line, behind which the reader stands at behind
 abbrev pub reads : ℕ → Frame → Turn
-reads end frame = record { ends = false; full = false; used = end + 1; skip = false; frame = frame }
+reads behind frame = record { ends = false; full = false; used = behind; skip = false; frame = frame }
 
-module _ (input : List ℕ) (used end : ℕ) (ends : Ends input used end) where
-  whole : (skip : Bool) (frame : Frame) → ((p : List ℕ) → Begun skip p → frameOf (p ++ slice used end input) ≡ frame)
-      → Whole input used skip (reads end frame)
+module _ (input : List ℕ) (used : ℕ) (line : List ℕ) (behind : ℕ) (onward : used < behind) (h : HandsBack input used line behind) where
+  ends : Ends input used (behind - 1)
+  ends = h .behind-so .whole onward
+
+  line-is : line ≡ slice used (behind - 1) input
+  line-is =
+      h .line-so
+      ∙ rw (lt-ltb used behind onward) (part-is input used (behind - 1) (ends .from) (omega (arith, ends .within)))
+
+  whole : (skip : Bool) (frame : Frame) → ((p : List ℕ) → Begun skip p → frameOf (p ++ line) ≡ frame)
+      → Whole input used skip (reads behind frame)
   whole skip frame is =
+      let all : behind - 1 + 1 ≡ behind = omega (arith, onward) in
       record {
-        onward = omega (arith, ends .from);
-        within = omega (arith, ends .within);
+        onward = onward;
+        within = omega (arith, ends .within, onward);
         skip-ends = refl;
-        line = λ p. p ++ slice used end input;
-        reads = λ p b. slice-ends input used end p (begun-text skip p b) ends;
+        line = λ p. p ++ line;
+        reads =
+            λ p b. rw line-is
+            (subst (λ (k : ℕ). textOf (p ++ slice used k input) ≡ ended (p ++ slice used (behind - 1) input)) all
+            (slice-ends input used (behind - 1) p (begun-text skip p b) ends));
         frame = is;
       }
 
   -- one that was read past so far has more digits than any frame
-  pub whole-past : (skip : Bool) → skip ≡ true
-      → Whole input used skip (reads end Bad)
+  pub whole-past : (skip : Bool) → skip ≡ true → Whole input used skip (reads behind Bad)
   whole-past skip e =
-      let line : List ℕ = slice used end input in
       rw e (whole true Bad (λ p b. frame-length (p ++ line) (λ _ most. omega (arith, b .0, length-append p line))))
 
   -- and before any other nothing is begun
-  pub whole-alone : (skip : Bool) (frame : Frame) → skip ≡ false → frame ≡ frameOf (part input used end)
-      → Whole input used skip (reads end frame)
-  whole-alone skip frame e is =
-      let line = part-is input used end (ends .from) (omega (arith, ends .within)) in
-      rw e (whole false frame (λ p b. rw (b, ← line) (sym is)))
+  pub whole-alone : (skip : Bool) (frame : Frame) → skip ≡ false → frame ≡ frameOf line → Whole input used skip (reads behind frame)
+  whole-alone skip frame e is = rw e (whole false frame (λ p b. rw b (sym is)))
 
 -- ---- no line feed
 -- the turn that reads no line
@@ -93,9 +100,9 @@ module _ (input : List ℕ) (used : ℕ) (skip : Bool) (within : used ≤ length
   goes-on end h p b = slice-goes-on input used end p (begun-text skip p b) h
 
   -- these are read past
-  pub none-past : isOver input used skip ≡ true
+  past : isOver input used skip ≡ true
       → None input used skip (stops (length input) (isOver input used skip))
-  none-past e =
+  past e =
       record {
         onward = within;
         within = omega arith;
@@ -106,9 +113,9 @@ module _ (input : List ℕ) (used : ℕ) (skip : Bool) (within : used ≤ length
       }
 
   -- the beginning of a frame is left
-  pub none-left : isOver input used skip ≡ false
+  left : isOver input used skip ≡ false
       → None input used skip (stops used (isOver input used skip))
-  none-left e =
+  left e =
       let short = or-none skip (ltb longestFrame (length input - used)) e in
       let none : used - used ≡ 0 = omega arith in
       record {
@@ -120,10 +127,37 @@ module _ (input : List ℕ) (used : ℕ) (skip : Bool) (within : used ≤ length
         begun = λ p b. rw (e, none) (append-nil p ∙ (rw (short .0) at b));
       }
 
+-- the same by the line that the reader hands back, which is all that is left
+module _ (input : List ℕ) (used : ℕ) (line : List ℕ) (skip : Bool) (h : HandsBack input used line used) where
+  all-left : line ≡ slice used (length input) input
+  all-left = h .line-so ∙ rw (le-ltb used used (omega arith)) (part-is input used (length input) (h .within) (omega arith))
+
+  long : length line ≡ length input - used
+  long =
+      rw all-left
+      (let n = length-take (length input - used) (drop used input) in let m = length-drop used input in omega (arith, n, m))
+
+  end-is : used + length line ≡ length input
+  end-is = omega (arith, long, h .within)
+
+  pub none-past : skip || ltb longestFrame (length line) ≡ true
+      → None input used skip (stops (used + length line) (skip || ltb longestFrame (length line)))
+  none-past e = rw (end-is, long) (past input used skip (h .within) (h .behind-so .begun refl) (rw long at e))
+
+  pub none-left : skip || ltb longestFrame (length line) ≡ false
+      → None input used skip (stops used (skip || ltb longestFrame (length line)))
+  none-left e = rw long (left input used skip (h .within) (h .behind-so .begun refl) (rw long at e))
+
+-- a line ends within the input
+pub line-within : (input : List ℕ) (used : ℕ) (line : List ℕ) (behind : ℕ) → HandsBack input used line behind
+    → used + length line ≤ length input
+line-within input used line behind h =
+    rw (h .line-so) (part-long input used (cond (ltb used behind) (behind - 1) (length input)) (h .within))
+
 -- ---- what stands next, by what its turn says
-pub next-as : (input : List ℕ) (fed : Fed) (can : Bool) (turn : Turn) (ends full : Bool) → turn .ends ≡ ends → turn .full ≡ full
-    → NextIf ends full input fed can turn → Next input fed can turn
-next-as input fed can turn ends full e f = subst₂ (λ (x y : Bool). NextIf x y input fed can turn) (sym e) (sym f)
+pub next-as : (line : List ℕ) (behind : ℕ) (fed : Fed) (can : Bool) (turn : Turn) (ends full : Bool) → turn .ends ≡ ends → turn .full ≡ full
+    → NextIf ends full line behind fed can turn → Next line behind fed can turn
+next-as line behind fed can turn ends full e f = subst₂ (λ (x y : Bool). NextIf x y line behind fed can turn) (sym e) (sym f)
 
 -- ---- frames and answers of a variant, and of the others
 module _ (f : Frame) (other : OneOf (1 ∷ 2 ∷ 3 ∷ 4 ∷ 5 ∷ []) (tagOf frames.the-type f)) where

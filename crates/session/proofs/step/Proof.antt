@@ -1,7 +1,7 @@
 -- `session::step` meets its contract: a walk with an early return and, behind it, six calls, one of which gets parts of the tables.
 -- Assumes nothing.
 use lib.ListN.{drop as drop-list}
-use Rattle.walk.proofs.Prelude.{_≡_, refl, false, ℕ, _≤_, List, [], _∷_, _++_, length, URA, w64, SProp, id⊢, Memory, Routine, Heap, Tables, Atoms, Fun, Given, _$_, !, of-opd, first, u8, u32, u64, tripleOf}
+use Rattle.walk.proofs.Prelude.{_≡_, refl, false, ℕ, _≤_, _<_, _+_, _^_, List, [], _∷_, _++_, length, URA, w64, SProp, id⊢, Memory, Routine, Heap, Tables, Atoms, Fun, Given, _$_, !, of-opd, first, u8, u32, u64, tripleOf}
 use Rattle.walk.proofs.Prelude.{heard, branches-then, skips-then, number, lent, shown, so, Shape, Walk, proved, var, vars, field-var, sets, shr-of, passed-on, of-number, taken, given, mut-own, mut-front, relends, lends-front, calls-for, hands-on, fit}
 use Rattle.walk.proofs.Slices.Parts.{back-long}
 use Rattle.spec.specs.declared.types.Request.{Request}
@@ -25,7 +25,7 @@ use Rattle.session.proofs.step as f
 module _ {M : Type 1} (𝓤 : URA M) (H : Heap 𝓤) (A : Atoms 𝓤) (W : Given 𝓤 H A) (mem : Memory → SProp 𝓤) (run : Routine → Fun 𝓤) where
   abbrev shape : Shape W
   shape = record {
-    params = shown u8 ∷ taken a-fed ∷ shown u8 ∷ lent R ∷ lent u32 ∷ lent u32 ∷ lent u32 ∷ lent u64 ∷ lent u8 ∷ [];
+    params = shown u8 ∷ taken a-fed ∷ shown u8 ∷ taken (of-number w64) ∷ lent R ∷ lent u32 ∷ lent u32 ∷ lent u32 ∷ lent u64 ∷ lent u8 ∷ [];
     result = FedT;
     clauses = f.clauses 𝓤 H A mem run;
     code = f.Code.function;
@@ -43,26 +43,26 @@ module _ {M : Type 1} (𝓤 : URA M) (H : Heap 𝓤) (A : Atoms 𝓤) (W : Given
   }
 
   walk : (𝓣 : Tables 𝓤 H) → Walk shape 𝓣
-  walk 𝓣 known-next-turn known-stopped known-frame-of known-head-of known-lent known-answer known-put-reply known-answered κs qs table fed fed-is input waiting submitted served dropped starts out g Q leaves bs =
+  walk 𝓣 known-next-turn known-stopped known-frame-of known-head-of known-lent known-answer known-put-reply known-answered κs qs table fed fed-is line behind behind-is waiting submitted served dropped starts out g Q leaves bs =
       let ws : List Request = waiting .list in
       let su : List ℕ = submitted .list in
       let se : List ℕ = served .list in
       let dr : List ℕ = dropped .list in
       let st : List ℕ = starts .list in
-      heard ! ((table .list ≡ digitTable) × (fed .used ≤ length (input .list)) × (fed .put ≤ length (out .list))) (λ required.
+      heard ! ((table .list ≡ digitTable) × (fed .used ≤ behind) × (fed .used + length (line .list) < 2 ^ 64) × (fed .put ≤ length (out .list))) (λ required.
       sets ! (of-opd ! (field-var ! refl refl refl)) refl (tt, fit (waiting .room .0)) $
       sets ! (of-opd ! (field-var ! refl refl refl)) refl (tt, fit (submitted .room .0)) $
       sets ! (of-opd ! (field-var ! refl refl refl)) refl (tt, fit (served .room .0)) $
       sets ! (of-opd ! (field-var ! refl refl refl)) refl (tt, fit (dropped .room .0)) $
       sets ! (of-opd ! (field-var ! refl refl refl)) refl (tt, fit (starts .room .0)) $
       sets ! (of-opd ! (field-var ! refl refl refl)) refl (tt, fit (out .room .0)) $
-      -- let turn = turns::next_turn(table, input, fed, waiting.len(), .., out.len());
-      calls-for ! 𝓣 (0 ∷ 1 ∷ []) (passed-on W table ∷ passed-on W input ∷ given W a-fed fed fed-is ∷ number W (length ws) (waiting .room .0) ∷ number W (length su) (submitted .room .0) ∷ number W (length se) (served .room .0) ∷ number W (length dr) (dropped .room .0) ∷ number W (length st) (starts .room .0) ∷ number W (length (out .list)) (out .room .0) ∷ []) a-turn (λ c. known-next-turn) (λ c h. h) (so 𝓤 required) refl (λ c. vars ! (refl, (refl, (refl, (refl, (refl, (refl, (refl, (refl, (refl, tt)))))))))) (λ _. refl) (λ turn last₁ next kept₁ turn-is.
+      -- let turn = turns::next_turn(table, line, fed, behind, waiting.len(), .., out.len());
+      calls-for ! 𝓣 (0 ∷ 1 ∷ []) (passed-on W table ∷ passed-on W line ∷ given W a-fed fed fed-is ∷ number W behind (behind-is .1) ∷ number W (length ws) (waiting .room .0) ∷ number W (length su) (submitted .room .0) ∷ number W (length se) (served .room .0) ∷ number W (length dr) (dropped .room .0) ∷ number W (length st) (starts .room .0) ∷ number W (length (out .list)) (out .room .0) ∷ []) a-turn (λ c. known-next-turn) (λ c h. h) (so 𝓤 required) refl (λ c. vars ! (refl, (refl, (refl, (refl, (refl, (refl, (refl, (refl, (refl, (refl, tt))))))))))) (λ _. refl) (λ turn last₁ next kept₁ turn-is.
       sets ! (of-opd ! (field-var ! refl refl refl)) refl (tt, tt) $
       branches-then ! (var ! refl) (λ held.
       -- return turns::stopped(fed, turn);
       first ! $ hands-on ! 𝓣 [] (given W a-fed fed fed-is ∷ given W a-turn turn turn-is ∷ []) a-fed (λ c. known-stopped) (λ c h. h) (id⊢ 𝓤 _) refl (λ c. vars ! (refl, (refl, tt))) (λ _. refl) Q refl (λ r last. (refl, refl)) (λ r last₂ told kept₂ own.
-      leaves (a-fed .val r) r (ws, (su, (se, (dr, (st, (out .list, tt)))))) (refl, (refl, (refl, (refl, (refl, (refl, tt)))))) own (so 𝓤 (stops turn (is-true (turn .ends) held) (required .1) (required .2) next told))))
+      leaves (a-fed .val r) r (ws, (su, (se, (dr, (st, (out .list, tt)))))) (refl, (refl, (refl, (refl, (refl, (refl, tt)))))) own (so 𝓤 (stops turn (is-true (turn .ends) held) (required .3) next told))))
       (λ failed. skips-then ! $
       let goes : turn .ends ≡ false = is-false (turn .ends) failed in
       -- let frame = turns::frame_of(turn);
@@ -71,7 +71,7 @@ module _ {M : Type 1} (𝓤 : URA M) (H : Heap 𝓤) (A : Atoms 𝓤) (W : Given
       calls-for ! 𝓣 [] (given W a-fed fed fed-is ∷ []) a-head (λ c. known-head-of) (λ c h. h) (id⊢ 𝓤 _) refl (λ c. vars ! (refl, tt)) (λ _. refl) (λ head last₄ heads kept₄ head-is.
       -- let lent = turns::lent(fed, turn);
       calls-for ! 𝓣 [] (given W a-fed fed fed-is ∷ given W a-turn turn turn-is ∷ []) a-lent (λ c. known-lent) (λ c h. h) (id⊢ 𝓤 _) refl (λ c. vars ! (refl, (refl, tt))) (λ _. refl) (λ l last₅ lends-so kept₅ l-is.
-      let within : (l .records ≤ length ws) × (l .clients ≤ length su) × (l .clients ≤ length se) × (l .clients ≤ length dr) = lent-within (input .list) fed ws su se dr st (out .list) turn goes next l lends-so in
+      let within : (l .records ≤ length ws) × (l .clients ≤ length su) × (l .clients ≤ length se) × (l .clients ≤ length dr) = lent-within (line .list) behind fed ws su se dr st (out .list) turn goes next l lends-so in
       lends-front ! (records-fit l l-is) refl (field-var ! refl refl refl) $ lends-front ! (clients-fit l l-is) refl (field-var ! refl refl refl) $
       lends-front ! (clients-fit l l-is) refl (field-var ! refl refl refl) $ lends-front ! (clients-fit l l-is) refl (field-var ! refl refl refl) $ relends ! starts refl $
       -- let reply = answer(frame, head, &mut waiting[..lent.records], &mut submitted[..lent.clients], .., starts);
@@ -81,7 +81,7 @@ module _ {M : Type 1} (𝓤 : URA M) (H : Heap 𝓤) (A : Atoms 𝓤) (W : Given
       let vs : List ℕ = last₆ .1 .1 .1 .1 .0 in
       let ds : List ℕ = last₆ .1 .1 .1 .1 .1 .0 in
       let st₁ : List ℕ = last₆ .1 .1 .1 .1 .1 .1 .0 in
-      let goes-on = turn-goes (input .list) fed ws su se dr st (out .list) turn goes next l lends-so asked head asks heads reply zs us vs ds st₁ answers-so (kept₆ .0) (kept₆ .1 .0) (kept₆ .1 .1 .0) (kept₆ .1 .1 .1 .0) in
+      let goes-on = turn-goes (line .list) behind fed ws su se dr st (out .list) turn goes next l lends-so asked head asks heads reply zs us vs ds st₁ answers-so (kept₆ .0) (kept₆ .1 .0) (kept₆ .1 .1 .0) (kept₆ .1 .1 .1 .0) in
       relends ! out refl $ relends ! starts refl $
       -- let put = turns::put_reply(out, fed, reply, starts);
       calls-for ! 𝓣 (7 ∷ 6 ∷ []) (mut-own W out ∷ given W a-fed fed fed-is ∷ given W a-reply reply reply-is ∷ shr-of W starts st₁ (kept₆ .1 .1 .1 .1 .0) ∷ []) (of-number w64) (λ c. known-put-reply) (λ c h. h) (so 𝓤 (goes-on .0)) refl (λ c. vars ! (refl, (refl, (refl, (refl, tt))))) (λ _. refl) (λ put last₇ written kept₇ put-is.

@@ -16,7 +16,7 @@ look-requires c κs = search needs
 returns : tie.Need-returns
 returns c =
     let start = c .before .before .before .before .before in
-    rw (← room-left _ _ (start .pre .2), ← c .before .before .fit .ensures) (c .look .ensures)
+    rw (← room-left _ _ (start .pre .3), ← c .before .before .fit .ensures) (c .look .ensures)
 
 pub next-turn-spec : {M : Type 1} → statement M
 next-turn-spec = tie.close (tie.spec fit-requires sub-room look-requires returns)

@@ -1,4 +1,4 @@
--- `frame::lines::line_end` meets its contract: no line feed stands in what the loop has passed. Assumes nothing.
+-- `frame::lines::behind` meets its contract: no line feed stands in what the loop has passed. Assumes nothing.
 use Prim.Native.Nat.{ℕ, _≤_, _-_, _+_}
 use mathlib.Core.List.{List}
 use mathlib.Core.Logic.{⊎-elim}
@@ -9,8 +9,8 @@ use lib.ListN.{length, getD}
 use borrow.Author.Needs.{needs}
 use Rattle.spec.specs.Frames.{lineFeed}
 use Rattle.frame.specs.Lines.{NoFeed}
-use Rattle.frame.proofs.lines.line_end.Statement.{statement}
-use Rattle.frame.proofs.lines.line_end.Tie as tie
+use Rattle.frame.proofs.lines.behind.Statement.{statement}
+use Rattle.frame.proofs.lines.behind.Tie as tie
 
 -- where none stands up to an index, nor there
 no-feed-next : (s : List ℕ) (from i : ℕ) → NoFeed s from i → (getD s i 0 ≡ lineFeed → ⊥) → NoFeed s from (i + 1)
@@ -29,13 +29,24 @@ loop-holds c = search needs
 shared-slice-read-if1 : tie.Need-shared-slice-read-if1 Inv-loop μ-loop
 shared-slice-read-if1 c = search needs
 
+add-result : tie.Need-add-result Inv-loop μ-loop
+add-result c = search needs
+
 returns : tie.Need-returns Inv-loop μ-loop
-returns c = record {
-  from = omega arith;
-  within = omega arith;
-  feed = c .if1 .taken;
-  before = c .before .before .before .loop .inv .1;
-}
+returns c =
+    let turn = c .before .before .before in
+    let i : ℕ = turn .loop .i in
+    let same : i + 1 - 1 ≡ i = omega arith in
+    record {
+      onward = omega (arith, turn .loop .inv .0);
+      whole = λ _. rw same (record {
+        from = turn .loop .inv .0;
+        within = omega arith;
+        feed = c .if1 .taken;
+        before = turn .loop .inv .1;
+      });
+      begun = λ e. absurd (omega (arith, e, turn .loop .inv .0));
+    }
 
 add-i : tie.Need-add-i Inv-loop μ-loop
 add-i c = search needs
@@ -50,16 +61,21 @@ loop-again c =
     (omega arith, no-feed-next (args .buffer .now) (args .at) (turn .loop .i) (turn .loop .inv .1) (c .if1 .left))
 
 returns-2 : tie.Need-returns-2 Inv-loop μ-loop
-returns-2 c = λ k p q e. c .before .loop .inv .1 k p (omega arith) e
+returns-2 c = record {
+  onward = omega arith;
+  whole = λ less. absurd (omega (arith, less));
+  begun = λ _. λ k p q e. c .before .loop .inv .1 k p (omega arith) e;
+}
 
-pub line-end-spec : {M : Type 1} → statement M
-line-end-spec =
+pub behind-spec : {M : Type 1} → statement M
+behind-spec =
     tie.close
     (tie.spec
     Inv-loop
     μ-loop
     loop-holds
     shared-slice-read-if1
+    add-result
     returns
     add-i
     loop-less
