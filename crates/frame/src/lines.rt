@@ -8,8 +8,8 @@ pub struct Reader<'a> {
     pub at: usize,
 }
 
-// Where the line at `at` is read: behind its line feed. While no line feed stands in what is left, nothing is.
-pub(crate) fn behind(buffer: &[u8], at: usize) -> usize
+// How far the line at `at` is read: up to behind its line feed, or, while no line feed stands in what is left, not at all.
+fn behind(buffer: &[u8], at: usize) -> usize
     ensures { λ r. ⌜ Behind (now (buffer .entry)) at r ⌝ }
 {
     let mut i = at;
@@ -34,8 +34,8 @@ fn between(buffer: &[u8], from: usize, end: usize) -> &[u8]
     &buffer[..0]
 }
 
-// The line at `at` that is read up to `to`, without its line feed; where nothing is read, all that is left.
-pub(crate) fn line_at(buffer: &[u8], at: usize, to: usize) -> &[u8]
+// The line at `at` that is read up to `to`, without its line feed, or, where nothing is read, all that is left.
+fn line_at(buffer: &[u8], at: usize, to: usize) -> &[u8]
     ensures { λ r. ⌜ now r ≡ lineAt (now (buffer .entry)) at to ⌝ }
 {
     if at < to {
@@ -44,13 +44,14 @@ pub(crate) fn line_at(buffer: &[u8], at: usize, to: usize) -> &[u8]
     between(buffer, at, buffer.len())
 }
 
+// A reader of the buffer that has read it up to `at`.
 pub fn new<'a>(buffer: &'a [u8], at: usize) -> Reader<'a>
     ensures { λ r. ⌜ (r .buffer ≡ buffer .entry) × (r .at ≡ at) ⌝ }
 {
     Reader { buffer, at }
 }
 
-// The reader behind its line.
+// The reader behind its line, or, while that has no line feed, where it was.
 pub fn next<'a>(reader: Reader<'a>) -> Reader<'a>
     ensures { λ r. ⌜ (r .buffer ≡ reader .entry .buffer) × Behind (now (reader .entry .buffer)) (reader .entry .at) (r .at) ⌝ }
 {
@@ -61,7 +62,7 @@ pub fn next<'a>(reader: Reader<'a>) -> Reader<'a>
     }
 }
 
-// "and hands back the frame's digits as a part of that buffer": those of the line that the reader has read once it stands at `to`.
+// "and hands back the frame's digits as a part of that buffer": those of the reader's line, where the reader behind it stands at `to`.
 pub fn digits<'a>(reader: Reader<'a>, to: usize) -> &'a [u8]
     ensures { λ r. ⌜ now r ≡ lineAt (now (reader .entry .buffer)) (reader .entry .at) to ⌝ }
 {
