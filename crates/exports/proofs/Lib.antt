@@ -1,4 +1,0 @@
-pub mod Calls
-pub mod Exporting
-pub mod Listed
-pub mod Pair
