@@ -8,47 +8,77 @@
 #define RECORDS 8
 #define CLIENTS 2
 
-/* A record is laid out as the library has it; an array of a negative length is refused. */
-typedef char is_record_24_bytes[sizeof(queue_request) == 24 ? 1 : -1];
-typedef char is_number_second[offsetof(queue_request, number) == 8 ? 1 : -1];
-typedef char is_client_third[offsetof(queue_request, client) == 16 ? 1 : -1];
-
-static uint64_t head[QUEUE_HEAD_NUMBERS];
-static queue_request waiting[RECORDS];
+static welsbell_request waiting[RECORDS];
 static uint32_t submitted[CLIENTS], served[CLIENTS], dropped[CLIENTS];
-static uint64_t values[QUEUE_MOST_VALUES];
+static welsbell_queue queue = {
+    .waiting = waiting,
+    .waiting_length = RECORDS,
+    .submitted = submitted,
+    .served = served,
+    .dropped = dropped,
+    .clients_length = CLIENTS,
+};
 
-/* What every call is lent, first and last. */
-#define LENT head, QUEUE_HEAD_NUMBERS, waiting, RECORDS, submitted, CLIENTS, served, CLIENTS, dropped, CLIENTS
-#define VALUES values, QUEUE_MOST_VALUES
-
-static void say(uint64_t kind)
+static const char *reason(uint64_t refusal)
 {
-    const uint64_t *v = values;
-    switch (kind) {
-    case QUEUE_OPENED:
+    switch (refusal) {
+    case WELSBELL_REFUSED_CLIENTS:
+        return "clients are not 1 to 256";
+    case WELSBELL_REFUSED_PERIOD:
+        return "the period is not 1 to 4294967295 slots";
+    case WELSBELL_REFUSED_LENGTHS:
+        return "the tables do not have the lengths that are needed";
+    case WELSBELL_REFUSED_UNSOUND:
+        return "the tables are not sound";
+    case WELSBELL_REFUSED_CLIENT:
+        return "the client does not exist";
+    case WELSBELL_REFUSED_DEADLINE:
+        return "the deadline is not 1 to 65535 slots after the clock";
+    case WELSBELL_REFUSED_COUNT:
+        return "the client has submitted as many requests as can be counted";
+    case WELSBELL_REFUSED_NUMBER:
+        return "the last request number has been given";
+    case WELSBELL_REFUSED_FULL:
+        return "the waiting table is full";
+    case WELSBELL_REFUSED_CLOCK:
+        return "the clock is at its end";
+    case WELSBELL_REFUSED_OUTPUT:
+        return "the output is shorter than the waiting count";
+    default:
+        return "no reason that this program knows";
+    }
+}
+
+static void say(welsbell_answer answer)
+{
+    const welsbell_values *is = &answer.is;
+    switch (answer.kind) {
+    case WELSBELL_OPENED:
         printf("opened\n");
         break;
-    case QUEUE_KEPT:
-        printf("number %" PRIu64 " is kept, at place %" PRIu64 "\n", v[0], v[1]);
+    case WELSBELL_KEPT:
+        printf("number %" PRIu64 " is kept, at place %" PRIu64 "\n", is->kept.number, is->kept.place);
         break;
-    case QUEUE_DROPPED:
-        printf("number %" PRIu64 " is one too many, number %" PRIu64 " of client %" PRIu64 " is dropped\n", v[0], v[1], v[2]);
+    case WELSBELL_DROPPED:
+        printf("number %" PRIu64 " is one too many, number %" PRIu64 " of client %" PRIu64 " is dropped\n", is->dropped.number,
+               is->dropped.victim, is->dropped.client);
         break;
-    case QUEUE_SERVED:
-        printf("number %" PRIu64 " of client %" PRIu64 " is served in slot %" PRIu64 "\n", v[1], v[2], v[0]);
+    case WELSBELL_SERVED:
+        printf("number %" PRIu64 " of client %" PRIu64 " is served in slot %" PRIu64 "\n", is->served.number, is->served.client,
+               is->served.slot);
         break;
-    case QUEUE_IDLE:
-        printf("nothing waits in slot %" PRIu64 "\n", v[0]);
+    case WELSBELL_IDLE:
+        printf("nothing waits in slot %" PRIu64 "\n", is->idle.slot);
         break;
-    case QUEUE_REPORTED:
-        printf("%" PRIu64 " submitted, %" PRIu64 " served, %" PRIu64 " dropped, %" PRIu64 " waiting\n", v[1], v[2], v[3], v[4]);
+    case WELSBELL_REPORTED:
+        printf("client %" PRIu64 ": %" PRIu64 " submitted, %" PRIu64 " served, %" PRIu64 " dropped, %" PRIu64 " waiting\n",
+               is->reported.client, is->reported.submitted, is->reported.served, is->reported.dropped, is->reported.waiting);
         break;
-    case QUEUE_CHARTED:
-        printf("%" PRIu64 " waiting\n", v[0]);
+    case WELSBELL_CHARTED:
+        printf("%" PRIu64 " waiting\n", is->charted.count);
         break;
-    case QUEUE_REFUSED:
-        printf("refused, number %" PRIu64 "\n", v[0]);
+    case WELSBELL_REFUSED:
+        printf("refused, number %" PRIu64 ": %s\n", is->refused.number, reason(is->refused.number));
         break;
     }
 }
@@ -56,43 +86,41 @@ static void say(uint64_t kind)
 static void submit(uint64_t client, uint64_t deadline)
 {
     printf("client %" PRIu64 " submits a read with deadline %" PRIu64 ": ", client, deadline);
-    say(queue_submit(LENT, client, deadline, VALUES));
+    say(welsbell_queue_submit(&queue, client, deadline));
 }
 
 static void tick(void)
 {
     printf("tick: ");
-    say(queue_tick(LENT, VALUES));
-}
-
-static void report(uint64_t client)
-{
-    printf("client %" PRIu64 ": ", client);
-    say(queue_report(LENT, client, VALUES));
+    say(welsbell_queue_tick(&queue));
 }
 
 /* Each waiting read with the slot in which it starts. */
 static void chart(void)
 {
     uint64_t starts[RECORDS];
-    uint64_t kind = queue_chart(LENT, starts, RECORDS, VALUES);
-    uint64_t count = kind == QUEUE_CHARTED ? values[0] : 0;
+    welsbell_answer answer = welsbell_queue_chart(&queue, starts, RECORDS);
+    uint64_t count = answer.kind == WELSBELL_CHARTED ? answer.is.charted.count : 0;
     printf("chart: ");
-    say(kind);
+    say(answer);
     for (uint64_t i = 0; i < count; i++)
         printf("  slot %" PRIu64 ": number %" PRIu64 ", deadline %" PRIu64 "\n", starts[i], waiting[i].number, waiting[i].deadline);
 }
 
 int main(void)
 {
+    if (welsbell_version() != WELSBELL_VERSION) {
+        fprintf(stderr, "the archive has version %" PRIu64 ", the header %d\n", welsbell_version(), WELSBELL_VERSION);
+        return 1;
+    }
     printf("open with %d clients: ", CLIENTS);
-    say(queue_open(LENT, CLIENTS, 100, VALUES));
+    say(welsbell_queue_open(&queue, CLIENTS, 100));
     submit(0, 1);
     submit(1, 2);
     submit(1, 1);
     chart();
     tick();
-    report(1);
+    say(welsbell_queue_report(&queue, 1));
     tick();
     tick();
     submit(2, 9);

@@ -1,25 +1,32 @@
 /*
- * The recorder's read queue: five calls over a head and tables that the caller lends. Clients submit reads with deadlines, one read
- * is served in each slot, and where not all can finish one is dropped. Link with libexports.a.
+ * Welsbell, the recorder's read queue: five calls over a head and tables that the caller lends. Clients submit reads with deadlines,
+ * one read is served in each slot, and where not all can finish one is dropped. Link with libwelsbell.a.
  *
- * What is lent. Each table is a pointer and the number of its entries. Every call takes, in this order,
+ * The short way is a welsbell_queue, which names once what is lent:
  *
- *   head                         five numbers, see "The head"
- *   waiting                      the waiting table, 1 to 2,048 records
- *   submitted, served, dropped   the client table in three columns, each with one entry a client. It has as many records as the
- *                                shortest has entries; what another has beyond decides nothing and stays as it was
+ *     static welsbell_request waiting[8];
+ *     static uint32_t submitted[2], served[2], dropped[2];
+ *     static welsbell_queue queue;
  *
- * then its own arguments, and last
+ *     queue.waiting = waiting;
+ *     queue.waiting_length = 8;
+ *     queue.submitted = submitted;
+ *     queue.served = served;
+ *     queue.dropped = dropped;
+ *     queue.clients_length = 2;
+ *     welsbell_answer answer = welsbell_queue_open(&queue, 2, 100);
+ *     if (answer.kind == WELSBELL_REFUSED)
+ *         printf("refusal %d\n", (int)answer.is.refused.number);
  *
- *   values                       where the answer's values go, at most five
+ * These are inline functions over the calls of the archive, which come first below and take each thing by itself.
  *
- * and gives back the answer's kind. Head and tables belong to the caller, who may read and write them between calls. Every call
- * but open asks whether they are sound before it does anything, and is refused where they are not.
- *
- * What the caller has to keep:
- *   - a pointer is good for as many entries as the length behind it says, and aligned for their type;
- *   - a pointer is not null, even where its length is 0: then any other aligned address does;
- *   - no two of the tables of one call overlap, head, values and output included;
+ * Head and tables belong to the caller, who may read and write them between calls. Every call but open asks whether they are sound
+ * before it does anything, and is refused where they are not. What the caller has to keep:
+ *   - a pointer is good for as many records or numbers as its length says, one to a head or to values for one of these, and it is
+ *     aligned for their type;
+ *   - a pointer that a call of the archive gets is not null, even where its length is 0: then any other aligned address does (a
+ *     welsbell_queue may have null for a table: it is lent as one without records);
+ *   - nothing that is lent to one call overlaps: head, tables, output and values;
  *   - during a call nobody else writes what is lent to it, or reads what it may write.
  * Nothing else is asked: for all arguments and whatever the tables hold, a call ends and gives an answer.
  *
@@ -36,54 +43,81 @@
 extern "C" {
 #endif
 
+/* The version of this header. It rises with each change of a signature, a layout or a number, so a program asks first whether
+   welsbell_version() gives the same: an archive of another version does not fit. */
+#define WELSBELL_VERSION 1
+
 /* Clients are 1 to so many, numbered from 0. */
-#define QUEUE_MOST_CLIENTS 256
+#define WELSBELL_MOST_CLIENTS 256
 /* A waiting table has 1 to so many records. */
-#define QUEUE_MOST_RECORDS 2048
+#define WELSBELL_MOST_RECORDS 2048
 /* A client's submitted, served and dropped are each at most this. */
-#define QUEUE_MOST_COUNTED 268435455
+#define WELSBELL_MOST_COUNTED UINT32_C(268435455)
 /* A period is 1 to so many slots. */
-#define QUEUE_MOST_PERIOD 4294967295
+#define WELSBELL_MOST_PERIOD UINT64_C(4294967295)
 /* A deadline is past the clock by 1 to so many slots. */
-#define QUEUE_MOST_AHEAD 65535
+#define WELSBELL_MOST_AHEAD UINT64_C(65535)
 /* Clock and request numbers end here. */
-#define QUEUE_END 281474976710655
+#define WELSBELL_END UINT64_C(281474976710655)
+
+/* The head, 40 bytes: five numbers. Before an open it may hold anything. */
+typedef struct welsbell_head {
+    uint64_t clients;
+    uint64_t period;  /* in slots */
+    uint64_t clock;
+    uint64_t last;    /* the last request number given */
+    uint64_t waiting; /* how many records wait */
+} welsbell_head;
 
 /* A waiting record, 24 bytes. The waiting ones stand at the table's front in chart order: earlier deadline first, equal deadlines
    by smaller number. All behind them are zero. */
-typedef struct queue_request {
+typedef struct welsbell_request {
     uint64_t deadline;
     uint64_t number;
     uint64_t client;
-} queue_request;
+} welsbell_request;
 
-/* The head: where each of its numbers stands. A number that a shorter head does not have is read as 0 and not written; entries
-   beyond the fifth are neither read nor written. */
+/* The kinds of answers, with their values in order. */
 enum {
-    QUEUE_HEAD_CLIENTS,
-    QUEUE_HEAD_PERIOD,
-    QUEUE_HEAD_CLOCK,
-    QUEUE_HEAD_LAST,    /* the last request number given */
-    QUEUE_HEAD_WAITING, /* how many records wait */
-    QUEUE_HEAD_NUMBERS
+    WELSBELL_OPENED = 0x81,   /* no values */
+    WELSBELL_KEPT = 0x82,     /* number, place in chart order (from 0) */
+    WELSBELL_DROPPED = 0x83,  /* the new request's number, the victim's number, the victim's client */
+    WELSBELL_SERVED = 0x84,   /* slot, number, client */
+    WELSBELL_IDLE = 0x85,     /* slot */
+    WELSBELL_REPORTED = 0x86, /* client, submitted, served, dropped, waiting */
+    WELSBELL_CHARTED = 0x88,  /* count of start slots */
+    WELSBELL_REFUSED = 0xFF   /* the refusal's number */
 };
 
-/* An answer's kind, and its values in the order in which they are written. Values that do not fit are left out; entries beyond the
-   answer's values are untouched. */
-enum {
-    QUEUE_OPENED = 0x81,   /* no values */
-    QUEUE_KEPT = 0x82,     /* number, place in chart order (from 0) */
-    QUEUE_DROPPED = 0x83,  /* the new request's number, the victim's number, the victim's client */
-    QUEUE_SERVED = 0x84,   /* slot, number, client */
-    QUEUE_IDLE = 0x85,     /* slot */
-    QUEUE_REPORTED = 0x86, /* client, submitted, served, dropped, waiting */
-    QUEUE_CHARTED = 0x88,  /* count of start slots */
-    QUEUE_REFUSED = 0xFF   /* the refusal's number */
-};
-#define QUEUE_MOST_VALUES 5
+/* The values of an answer, 40 bytes. The answer's kind says which member to read. Every call writes all five numbers: the answer's
+   values first, and 0 for those that it does not have. */
+typedef union welsbell_values {
+    uint64_t numbers[5];
+    struct {
+        uint64_t number, place;
+    } kept;
+    struct {
+        uint64_t number, victim, client;
+    } dropped;
+    struct {
+        uint64_t slot, number, client;
+    } served;
+    struct {
+        uint64_t slot;
+    } idle;
+    struct {
+        uint64_t client, submitted, served, dropped, waiting;
+    } reported;
+    struct {
+        uint64_t count;
+    } charted;
+    struct {
+        uint64_t number;
+    } refused;
+} welsbell_values;
 
-/* Refusals. The first that matches is given, and nothing changes but the refusal's number in values. Number 1 is for lines of the
-   session program; no call here gives it.
+/* Refusals. The first that matches is given, and nothing changes but the values. Number 1 is for lines of the session program; no
+   call here gives it.
 
     number  calls              condition
          2  open               clients outside 1 to 256
@@ -100,68 +134,160 @@ enum {
         11  tick               the clock is at its end
         12  chart              the output is shorter than the waiting count */
 enum {
-    QUEUE_REFUSED_CLIENTS = 2,
-    QUEUE_REFUSED_PERIOD = 3,
-    QUEUE_REFUSED_LENGTHS = 4,
-    QUEUE_REFUSED_UNSOUND = 5,
-    QUEUE_REFUSED_CLIENT = 6,
-    QUEUE_REFUSED_DEADLINE = 7,
-    QUEUE_REFUSED_COUNT = 8,
-    QUEUE_REFUSED_NUMBER = 9,
-    QUEUE_REFUSED_FULL = 10,
-    QUEUE_REFUSED_CLOCK = 11,
-    QUEUE_REFUSED_OUTPUT = 12
+    WELSBELL_REFUSED_CLIENTS = 2,
+    WELSBELL_REFUSED_PERIOD = 3,
+    WELSBELL_REFUSED_LENGTHS = 4,
+    WELSBELL_REFUSED_UNSOUND = 5,
+    WELSBELL_REFUSED_CLIENT = 6,
+    WELSBELL_REFUSED_DEADLINE = 7,
+    WELSBELL_REFUSED_COUNT = 8,
+    WELSBELL_REFUSED_NUMBER = 9,
+    WELSBELL_REFUSED_FULL = 10,
+    WELSBELL_REFUSED_CLOCK = 11,
+    WELSBELL_REFUSED_OUTPUT = 12
 };
 
+/* Layouts as the archive has them: an array of a negative length is refused. */
+typedef char welsbell_head_has_40_bytes[sizeof(welsbell_head) == 40 ? 1 : -1];
+typedef char welsbell_request_has_24_bytes[sizeof(welsbell_request) == 24 ? 1 : -1];
+typedef char welsbell_values_have_40_bytes[sizeof(welsbell_values) == 40 ? 1 : -1];
+
+/*
+ * The calls of the archive. Each takes, in this order,
+ *
+ *   head                         one head
+ *   waiting                      the waiting table, 1 to 2,048 records
+ *   submitted, served, dropped   the client table in three columns, each with one entry a client. It has as many records as the
+ *                                shortest has entries; what another has beyond decides nothing and stays as it was
+ *
+ * each table with its length behind it, then its own arguments, and last
+ *
+ *   values                       where the answer's values go
+ *
+ * and gives back the answer's kind.
+ */
+
+/* The version of the archive. */
+uint64_t welsbell_version(void);
+
 /* Begins anew with so many clients and a period of so many slots, whatever head and tables held: clock, last number and waiting
-   count become 0, every record zero. Gives QUEUE_OPENED, or refusal 2, 3 or 4. */
-uint64_t queue_open(uint64_t *head, size_t head_length,
-                    queue_request *waiting, size_t waiting_length,
-                    uint32_t *submitted, size_t submitted_length,
-                    uint32_t *served, size_t served_length,
-                    uint32_t *dropped, size_t dropped_length,
-                    uint64_t clients, uint64_t period,
-                    uint64_t *values, size_t values_length);
+   count become 0, every record zero. Gives WELSBELL_OPENED, or refusal 2, 3 or 4. */
+uint64_t welsbell_open(welsbell_head *head,
+                       welsbell_request *waiting, size_t waiting_length,
+                       uint32_t *submitted, size_t submitted_length,
+                       uint32_t *served, size_t served_length,
+                       uint32_t *dropped, size_t dropped_length,
+                       uint64_t clients, uint64_t period,
+                       welsbell_values *values);
 
 /* A client submits a request, to be served in slot deadline - 1 at the latest. It gets the next number, and the client's submitted
-   rises by 1. Gives QUEUE_KEPT if every request can still finish. Otherwise one record is taken out, its client's dropped rises by
-   1, and the answer is QUEUE_DROPPED; the victim may be the new request. Refusals 4 to 10. */
-uint64_t queue_submit(uint64_t *head, size_t head_length,
-                      queue_request *waiting, size_t waiting_length,
-                      uint32_t *submitted, size_t submitted_length,
-                      uint32_t *served, size_t served_length,
-                      uint32_t *dropped, size_t dropped_length,
-                      uint64_t client, uint64_t deadline,
-                      uint64_t *values, size_t values_length);
+   rises by 1. Gives WELSBELL_KEPT if every request can still finish. Otherwise one record is taken out, its client's dropped rises
+   by 1, and the answer is WELSBELL_DROPPED; the victim may be the new request. Refusals 4 to 10. */
+uint64_t welsbell_submit(welsbell_head *head,
+                         welsbell_request *waiting, size_t waiting_length,
+                         uint32_t *submitted, size_t submitted_length,
+                         uint32_t *served, size_t served_length,
+                         uint32_t *dropped, size_t dropped_length,
+                         uint64_t client, uint64_t deadline,
+                         welsbell_values *values);
 
 /* One slot passes, the one that starts at the clock. The first waiting record is taken out and its client's served rises by 1:
-   QUEUE_SERVED; with none waiting QUEUE_IDLE. Then the clock rises by 1. If it is now a multiple of the period, each client's
-   submitted becomes its waiting count, and served and dropped become 0. Refusals 4, 5 and 11. */
-uint64_t queue_tick(uint64_t *head, size_t head_length,
-                    queue_request *waiting, size_t waiting_length,
-                    uint32_t *submitted, size_t submitted_length,
-                    uint32_t *served, size_t served_length,
-                    uint32_t *dropped, size_t dropped_length,
-                    uint64_t *values, size_t values_length);
+   WELSBELL_SERVED; with none waiting WELSBELL_IDLE. Then the clock rises by 1. If it is now a multiple of the period, each
+   client's submitted becomes its waiting count, and served and dropped become 0. Refusals 4, 5 and 11. */
+uint64_t welsbell_tick(welsbell_head *head,
+                       welsbell_request *waiting, size_t waiting_length,
+                       uint32_t *submitted, size_t submitted_length,
+                       uint32_t *served, size_t served_length,
+                       uint32_t *dropped, size_t dropped_length,
+                       welsbell_values *values);
 
-/* Gives QUEUE_REPORTED: a client's three counts and its waiting count. Head and tables are only read. Refusals 4, 5 and 6. */
-uint64_t queue_report(const uint64_t *head, size_t head_length,
-                      const queue_request *waiting, size_t waiting_length,
-                      const uint32_t *submitted, size_t submitted_length,
-                      const uint32_t *served, size_t served_length,
-                      const uint32_t *dropped, size_t dropped_length,
-                      uint64_t client,
-                      uint64_t *values, size_t values_length);
+/* Gives WELSBELL_REPORTED: a client's three counts and its waiting count. Head and tables are only read. Refusals 4, 5 and 6. */
+uint64_t welsbell_report(const welsbell_head *head,
+                         const welsbell_request *waiting, size_t waiting_length,
+                         const uint32_t *submitted, size_t submitted_length,
+                         const uint32_t *served, size_t served_length,
+                         const uint32_t *dropped, size_t dropped_length,
+                         uint64_t client,
+                         welsbell_values *values);
 
-/* Writes one start slot a waiting record, in chart order, to the front of the output, and gives QUEUE_CHARTED; entries beyond are
-   untouched. Head and tables are only read. Refusals 4, 5 and 12. */
-uint64_t queue_chart(const uint64_t *head, size_t head_length,
-                     const queue_request *waiting, size_t waiting_length,
-                     const uint32_t *submitted, size_t submitted_length,
-                     const uint32_t *served, size_t served_length,
-                     const uint32_t *dropped, size_t dropped_length,
-                     uint64_t *output, size_t output_length,
-                     uint64_t *values, size_t values_length);
+/* Writes one start slot a waiting record, in chart order, to the front of the output, and gives WELSBELL_CHARTED; entries beyond
+   are untouched. Head and tables are only read. Refusals 4, 5 and 12. */
+uint64_t welsbell_chart(const welsbell_head *head,
+                        const welsbell_request *waiting, size_t waiting_length,
+                        const uint32_t *submitted, size_t submitted_length,
+                        const uint32_t *served, size_t served_length,
+                        const uint32_t *dropped, size_t dropped_length,
+                        uint64_t *output, size_t output_length,
+                        welsbell_values *values);
+
+/* A head, and the tables that go with it. Lengths are numbers of records. A table that is null has none, whatever its length says. */
+typedef struct welsbell_queue {
+    welsbell_head head;
+    welsbell_request *waiting;
+    size_t waiting_length;
+    uint32_t *submitted;
+    uint32_t *served;
+    uint32_t *dropped;
+    size_t clients_length;
+} welsbell_queue;
+
+/* An answer: its kind, and what it is. Read the member of `is` that the kind names. */
+typedef struct welsbell_answer {
+    uint64_t kind;
+    welsbell_values is;
+} welsbell_answer;
+
+/* A table with its length. The archive takes no null, so one that is null is lent as the first 0 records at the head's address. */
+#define WELSBELL_LEND_TABLE(queue, type, table, length) \
+    (table) ? (table) : (type *)(uintptr_t)&(queue)->head, (table) ? (length) : 0
+
+/* What every call is lent first. */
+#define WELSBELL_LEND(queue) \
+    &(queue)->head, \
+    WELSBELL_LEND_TABLE(queue, welsbell_request, (queue)->waiting, (queue)->waiting_length), \
+    WELSBELL_LEND_TABLE(queue, uint32_t, (queue)->submitted, (queue)->clients_length), \
+    WELSBELL_LEND_TABLE(queue, uint32_t, (queue)->served, (queue)->clients_length), \
+    WELSBELL_LEND_TABLE(queue, uint32_t, (queue)->dropped, (queue)->clients_length)
+
+/* The five calls on a queue. */
+static inline welsbell_answer welsbell_queue_open(welsbell_queue *queue, uint64_t clients, uint64_t period)
+{
+    welsbell_answer answer;
+    answer.kind = welsbell_open(WELSBELL_LEND(queue), clients, period, &answer.is);
+    return answer;
+}
+
+static inline welsbell_answer welsbell_queue_submit(welsbell_queue *queue, uint64_t client, uint64_t deadline)
+{
+    welsbell_answer answer;
+    answer.kind = welsbell_submit(WELSBELL_LEND(queue), client, deadline, &answer.is);
+    return answer;
+}
+
+static inline welsbell_answer welsbell_queue_tick(welsbell_queue *queue)
+{
+    welsbell_answer answer;
+    answer.kind = welsbell_tick(WELSBELL_LEND(queue), &answer.is);
+    return answer;
+}
+
+static inline welsbell_answer welsbell_queue_report(const welsbell_queue *queue, uint64_t client)
+{
+    welsbell_answer answer;
+    answer.kind = welsbell_report(WELSBELL_LEND(queue), client, &answer.is);
+    return answer;
+}
+
+/* The output too may be null: then it has no entries. */
+static inline welsbell_answer welsbell_queue_chart(const welsbell_queue *queue, uint64_t *output, size_t output_length)
+{
+    welsbell_answer answer;
+    answer.kind = welsbell_chart(WELSBELL_LEND(queue), WELSBELL_LEND_TABLE(queue, uint64_t, output, output_length), &answer.is);
+    return answer;
+}
+
+#undef WELSBELL_LEND
+#undef WELSBELL_LEND_TABLE
 
 #ifdef __cplusplus
 }

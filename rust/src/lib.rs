@@ -3,24 +3,18 @@
 //! equal to its definition for all input.
 //!
 //! The caller lends the head and the tables and keeps them: a call allocates nothing, keeps nothing from one call to the next and
-//! ends for all input. One that is refused says so by its number and changes nothing, whatever the tables hold.
+//! ends for all input. One that is refused says why and changes nothing, whatever the tables hold. [`Tables`] owns a head and tables
+//! of a size that is known beforehand; a [`Queue`] borrows them, or any others.
 //!
-//! Every method is safe. The library leaves to its caller that pointers are good for their lengths, that no two tables overlap and
-//! that nobody else uses them meanwhile; here Rust's borrows keep all of that.
+//! Every method is safe. The library leaves to its caller that pointers are good for their lengths, that nothing that is lent
+//! overlaps and that nobody else uses it meanwhile; here Rust's borrows keep all of that.
 //!
 //! ```
-//! use welsbell::{Answer, Head, Queue, Request};
+//! use welsbell::{Answer, Refusal, Tables};
 //!
-//! let mut head = Head::default();
-//! let mut waiting = [Request::default(); 8];
-//! let [mut submitted, mut served, mut dropped] = [[0; 2]; 3];
-//! let mut queue = Queue {
-//!     head: &mut head,
-//!     waiting: &mut waiting,
-//!     submitted: &mut submitted,
-//!     served: &mut served,
-//!     dropped: &mut dropped,
-//! };
+//! // 8 waiting records, 2 clients
+//! let mut tables = Tables::<8, 2>::new();
+//! let mut queue = tables.queue();
 //! assert_eq!(queue.open(2, 100), Answer::Opened);
 //! // two reads that have to end with slot 0: one is too many
 //! assert_eq!(queue.submit(0, 1), Answer::Kept { number: 1, place: 0 });
@@ -28,12 +22,26 @@
 //! assert_eq!(queue.tick(), Answer::Served { slot: 0, number: 1, client: 0 });
 //! assert_eq!(queue.tick(), Answer::Idle { slot: 1 });
 //! // the clock is now 2
-//! assert_eq!(queue.submit(0, 2), Answer::Refused { number: 7 });
-//! assert_eq!(queue.head.clock, 2);
+//! let answer = queue.submit(0, 2);
+//! assert_eq!(answer, Answer::Refused(Refusal::Deadline));
+//! assert_eq!(answer.to_string(), "refused, number 7: the deadline is not 1 to 65535 slots after the clock");
+//! assert_eq!(tables.head.clock, 2);
 //! ```
 #![no_std]
 
 pub mod raw;
+
+use core::fmt::{self, Display, Formatter};
+use core::ptr::{from_mut, from_ref};
+
+/// The version that this crate is written for. An archive of another version does not fit: see [`version`].
+pub const VERSION: u64 = 1;
+
+/// The version of the archive that was linked, to be compared with [`VERSION`] before the first call.
+pub fn version() -> u64 {
+    // SAFETY: it takes nothing and reads nothing.
+    unsafe { raw::welsbell_version() }
+}
 
 /// Clients are 1 to so many, numbered from 0.
 pub const MOST_CLIENTS: usize = 256;
@@ -71,20 +79,79 @@ pub struct Head {
     pub waiting: u64,
 }
 
-// The head as it is passed: its five numbers, in order.
-impl Head {
-    const NUMBERS: usize = 5;
+/// Why a call was refused: the first reason that matches. Nothing has changed.
+#[derive(Clone, Copy, Debug, PartialEq, Eq)]
+pub enum Refusal {
+    /// Clients are not 1 to 256.
+    Clients = 2,
+    /// The period is not 1 to 4,294,967,295 slots.
+    Period = 3,
+    /// The tables do not have the lengths that are needed: see [`Queue`].
+    Lengths = 4,
+    /// The tables are not sound.
+    Unsound = 5,
+    /// The client does not exist.
+    Client = 6,
+    /// The deadline is not after the clock, or more than 65,535 after it.
+    Deadline = 7,
+    /// The client's submitted is 268,435,455.
+    Count = 8,
+    /// The last request number has been given.
+    Number = 9,
+    /// The waiting table is full.
+    Full = 10,
+    /// The clock is at its end.
+    Clock = 11,
+    /// The output is shorter than the waiting count.
+    Output = 12,
+}
 
-    fn as_ptr(&self) -> *const u64 {
-        core::ptr::from_ref(self).cast()
+impl Refusal {
+    /// Every refusal that a call gives, in the order in which they are asked.
+    pub const ALL: [Refusal; 11] = [
+        Refusal::Clients,
+        Refusal::Period,
+        Refusal::Lengths,
+        Refusal::Unsound,
+        Refusal::Client,
+        Refusal::Deadline,
+        Refusal::Count,
+        Refusal::Number,
+        Refusal::Full,
+        Refusal::Clock,
+        Refusal::Output,
+    ];
+
+    /// Its number, 2 to 12.
+    pub const fn number(self) -> u64 {
+        self as u64
     }
 
-    fn as_mut_ptr(&mut self) -> *mut u64 {
-        core::ptr::from_mut(self).cast()
+    fn new(number: u64) -> Refusal {
+        let of_number = Refusal::ALL.into_iter().find(|refusal| refusal.number() == number);
+        of_number.expect("the calls are proved to give one of these numbers")
     }
 }
 
-const _: () = assert!(size_of::<Head>() == Head::NUMBERS * size_of::<u64>());
+impl Display for Refusal {
+    fn fmt(&self, f: &mut Formatter) -> fmt::Result {
+        f.write_str(match self {
+            Refusal::Clients => "clients are not 1 to 256",
+            Refusal::Period => "the period is not 1 to 4294967295 slots",
+            Refusal::Lengths => "the tables do not have the lengths that are needed",
+            Refusal::Unsound => "the tables are not sound",
+            Refusal::Client => "the client does not exist",
+            Refusal::Deadline => "the deadline is not 1 to 65535 slots after the clock",
+            Refusal::Count => "the client has submitted as many requests as can be counted",
+            Refusal::Number => "the last request number has been given",
+            Refusal::Full => "the waiting table is full",
+            Refusal::Clock => "the clock is at its end",
+            Refusal::Output => "the output is shorter than the waiting count",
+        })
+    }
+}
+
+impl core::error::Error for Refusal {}
 
 /// What a call answers.
 #[must_use = "a call may be refused"]
@@ -124,17 +191,12 @@ pub enum Answer {
     Charted {
         count: u64,
     },
-    /// The first refusal that matches, 2 to 12; nothing has changed.
-    Refused {
-        number: u64,
-    },
+    /// Nothing has changed.
+    Refused(Refusal),
 }
 
 impl Answer {
-    const MOST_VALUES: usize = 5;
-
-    fn new(kind: u64, values: [u64; Answer::MOST_VALUES]) -> Answer {
-        let [a, b, c, d, e] = values;
+    fn new(kind: u64, [a, b, c, d, e]: raw::Values) -> Answer {
         match kind {
             raw::OPENED => Answer::Opened,
             raw::KEPT => Answer::Kept { number: a, place: b },
@@ -157,9 +219,71 @@ impl Answer {
                 waiting: e,
             },
             raw::CHARTED => Answer::Charted { count: a },
-            raw::REFUSED => Answer::Refused { number: a },
+            raw::REFUSED => Answer::Refused(Refusal::new(a)),
             _ => unreachable!("the calls are proved to answer one of the eight kinds"),
         }
+    }
+}
+
+impl Display for Answer {
+    fn fmt(&self, f: &mut Formatter) -> fmt::Result {
+        match *self {
+            Answer::Opened => write!(f, "opened"),
+            Answer::Kept { number, place } => write!(f, "number {number} is kept, at place {place}"),
+            Answer::Dropped { number, victim, client } => {
+                write!(f, "number {number} is one too many, number {victim} of client {client} is dropped")
+            }
+            Answer::Served { slot, number, client } => {
+                write!(f, "number {number} of client {client} is served in slot {slot}")
+            }
+            Answer::Idle { slot } => write!(f, "nothing waits in slot {slot}"),
+            Answer::Reported { client, submitted, served, dropped, waiting } => {
+                write!(f, "client {client}: {submitted} submitted, {served} served, {dropped} dropped, {waiting} waiting")
+            }
+            Answer::Charted { count } => write!(f, "{count} waiting"),
+            Answer::Refused(refusal) => write!(f, "refused, number {}: {refusal}", refusal.number()),
+        }
+    }
+}
+
+/// A head and tables that are owned, for so many waiting records and clients: no allocation, all of it inline. [`Tables::queue`]
+/// lends them.
+#[derive(Clone, Debug, PartialEq, Eq)]
+pub struct Tables<const RECORDS: usize, const CLIENTS: usize> {
+    pub head: Head,
+    pub waiting: [Request; RECORDS],
+    pub submitted: [u32; CLIENTS],
+    pub served: [u32; CLIENTS],
+    pub dropped: [u32; CLIENTS],
+}
+
+impl<const RECORDS: usize, const CLIENTS: usize> Tables<RECORDS, CLIENTS> {
+    /// All zero, to be opened. It is `const`, so that tables may be a `static`.
+    pub const fn new() -> Self {
+        Tables {
+            head: Head { clients: 0, period: 0, clock: 0, last: 0, waiting: 0 },
+            waiting: [Request { deadline: 0, number: 0, client: 0 }; RECORDS],
+            submitted: [0; CLIENTS],
+            served: [0; CLIENTS],
+            dropped: [0; CLIENTS],
+        }
+    }
+
+    /// The queue over these tables.
+    pub fn queue(&mut self) -> Queue<'_> {
+        Queue {
+            head: &mut self.head,
+            waiting: &mut self.waiting,
+            submitted: &mut self.submitted,
+            served: &mut self.served,
+            dropped: &mut self.dropped,
+        }
+    }
+}
+
+impl<const RECORDS: usize, const CLIENTS: usize> Default for Tables<RECORDS, CLIENTS> {
+    fn default() -> Self {
+        Tables::new()
     }
 }
 
@@ -168,9 +292,9 @@ impl Answer {
 ///
 /// They may be looked at between calls, and written too. Every call but open first asks whether they are sound, and is refused
 /// where they are not:
-/// - 4: the waiting table has no records or more than 2,048, the shortest column has not as many entries as the head has clients,
-///   or the waiting count exceeds the waiting table's length;
-/// - 5: the tables are not sound.
+/// - [`Refusal::Lengths`]: the waiting table has no records or more than 2,048, the shortest column has not as many entries as the
+///   head has clients, or the waiting count exceeds the waiting table's length;
+/// - [`Refusal::Unsound`]: the tables are not sound.
 ///
 /// What a column has beyond the shortest one decides nothing and stays as it is.
 #[derive(Debug)]
@@ -183,16 +307,15 @@ pub struct Queue<'a> {
 }
 
 // Makes an exported call with the head and the tables, then its own arguments, and hands back its answer. The pointers are for
-// reading and writing, or for reading only.
+// reading and writing (`as_mut_ptr`), or for reading only (`as_ptr`).
 macro_rules! lend {
-    ($exported:ident, $queue:ident.$pointer:ident $(, $argument:expr)*) => {{
-        let mut values = [0; Answer::MOST_VALUES];
-        // SAFETY: each pointer is to as many entries as the length behind it says: the head is five numbers, laid out in order,
-        // and the others are slices. All are borrowed until the call is over, those to be written through by nobody else.
+    ($exported:ident, $queue:ident, $one:path, $pointer:ident $(, $argument:expr)*) => {{
+        let mut values = [0; 5];
+        // SAFETY: the head is one head, and each other pointer is to as many entries as the length behind it says, since they are
+        // slices. All are borrowed until the call is over, those to be written through by nobody else.
         let kind = unsafe {
             raw::$exported(
-                $queue.head.$pointer(),
-                Head::NUMBERS,
+                $one($queue.head),
                 $queue.waiting.$pointer(),
                 $queue.waiting.len(),
                 $queue.submitted.$pointer(),
@@ -202,8 +325,7 @@ macro_rules! lend {
                 $queue.dropped.$pointer(),
                 $queue.dropped.len(),
                 $($argument,)*
-                values.as_mut_ptr(),
-                values.len(),
+                &mut values,
             )
         };
         Answer::new(kind, values)
@@ -214,53 +336,42 @@ impl Queue<'_> {
     /// Begins anew, whatever head and tables hold: clock, last number and waiting count become 0 and every record zero. Gives
     /// `Opened`.
     ///
-    /// Refusals:
-    /// - 2: clients are not 1 to 256;
-    /// - 3: the period is not 1 to 4,294,967,295 slots;
-    /// - 4: the waiting table has no records or more than 2,048, or the shortest column has not as many entries as clients are
-    ///   given.
+    /// Refusals: `Clients`, `Period`, and `Lengths` where the waiting table has no records or more than 2,048, or the shortest
+    /// column has not as many entries as clients are given.
     pub fn open(&mut self, clients: u64, period: u64) -> Answer {
-        lend!(queue_open, self.as_mut_ptr, clients, period)
+        lend!(welsbell_open, self, from_mut, as_mut_ptr, clients, period)
     }
 
     /// A client submits a request, which is to be served in a slot that ends by the deadline: slot `deadline - 1` at the latest.
     /// Gives `Kept` if every request can still finish. Otherwise it gives `Dropped`: of the requests whose removal helps, the new
     /// one included, one goes whose client has the smallest miss ratio, and among equals the last in chart order.
     ///
-    /// Refusals, besides 4 and 5:
-    /// - 6: the client does not exist;
-    /// - 7: the deadline is not after the clock, or more than 65,535 after it;
-    /// - 8: the client's submitted is 268,435,455;
-    /// - 9: the last request number, 281,474,976,710,655, has been given;
-    /// - 10: the waiting table is full.
+    /// Refusals, besides `Lengths` and `Unsound`: `Client`, `Deadline`, `Count`, `Number`, `Full`.
     pub fn submit(&mut self, client: u64, deadline: u64) -> Answer {
-        lend!(queue_submit, self.as_mut_ptr, client, deadline)
+        lend!(welsbell_submit, self, from_mut, as_mut_ptr, client, deadline)
     }
 
     /// One slot passes, the one that starts at the clock. Gives `Served` with the first waiting record, which is taken out, or
     /// `Idle` where none waits; then the clock rises by 1. Where it comes to a multiple of the period, each client's submitted
     /// becomes its waiting count, and served and dropped become 0.
     ///
-    /// Refusals, besides 4 and 5:
-    /// - 11: the clock is at its end, 281,474,976,710,655.
+    /// Refusals, besides `Lengths` and `Unsound`: `Clock`.
     pub fn tick(&mut self) -> Answer {
-        lend!(queue_tick, self.as_mut_ptr)
+        lend!(welsbell_tick, self, from_mut, as_mut_ptr)
     }
 
     /// Gives `Reported`, a client's three counts and its waiting count, and changes nothing.
     ///
-    /// Refusals, besides 4 and 5:
-    /// - 6: the client does not exist.
+    /// Refusals, besides `Lengths` and `Unsound`: `Client`.
     pub fn report(&self, client: u64) -> Answer {
-        lend!(queue_report, self.as_ptr, client)
+        lend!(welsbell_report, self, from_ref, as_ptr, client)
     }
 
     /// Writes one start slot a waiting record, the latest that it can have, in chart order to the front of the output; entries
     /// beyond are untouched. Gives `Charted` with their count. Head and tables stay as they are.
     ///
-    /// Refusals, besides 4 and 5:
-    /// - 12: the output is shorter than the waiting count.
+    /// Refusals, besides `Lengths` and `Unsound`: `Output`.
     pub fn chart(&self, output: &mut [u64]) -> Answer {
-        lend!(queue_chart, self.as_ptr, output.as_mut_ptr(), output.len())
+        lend!(welsbell_chart, self, from_ref, as_ptr, output.as_mut_ptr(), output.len())
     }
 }

@@ -1,11 +1,12 @@
-//! The exported calls as they are linked: each slice is a pointer and then a length. The result is the answer's kind, and its
-//! values go to the front of `values`, as far as that reaches. `include/welsbell.h` says the same in C.
+//! The exported calls as they are linked: a head and the values are a pointer each, a table is a pointer and then a length. The
+//! result is the answer's kind; its values are written with zeros behind them, five in all. `include/welsbell.h` says the same in C.
 //!
 //! # Safety
 //!
-//! Each pointer has to be aligned and good for as many entries as the length behind it says, and not null even where that is 0.
-//! No two slices of a call may overlap, and nobody else may write them, or use one that is written, until it is over.
-use crate::Request;
+//! Each pointer to a table has to be aligned and good for as many entries as the length behind it says, and not null even where that
+//! is 0; a pointer to a head or to values has to be good for one. Nothing that is lent to a call may overlap, and nobody else may
+//! write it, or use what is written, until the call is over.
+use crate::{Head, Request};
 
 pub const OPENED: u64 = 0x81;
 pub const KEPT: u64 = 0x82;
@@ -16,16 +17,23 @@ pub const REPORTED: u64 = 0x86;
 pub const CHARTED: u64 = 0x88;
 pub const REFUSED: u64 = 0xFF;
 
-// A record is laid out alike on both sides.
-const _: () = assert!(size_of::<Request>() == 24);
+/// The values of an answer.
+pub type Values = [u64; 5];
+
+// A head and a record are laid out alike on both sides.
+const _: () = assert!(size_of::<Head>() == 40 && size_of::<Request>() == 24);
+
+extern "C" {
+    /// The archive's version. It asks nothing of its caller.
+    pub fn welsbell_version() -> u64;
+}
 
 // Declares a call: the head and the tables, to be written (`mut`) or only read (`const`), its own arguments, and the values.
 macro_rules! exported {
     ($name:ident, $access:tt $(, $argument:ident: $type:ty)*) => {
         extern "C" {
             pub fn $name(
-                head: *$access u64,
-                head_length: usize,
+                head: *$access Head,
                 waiting: *$access Request,
                 waiting_length: usize,
                 submitted: *$access u32,
@@ -35,15 +43,14 @@ macro_rules! exported {
                 dropped: *$access u32,
                 dropped_length: usize,
                 $($argument: $type,)*
-                values: *mut u64,
-                values_length: usize,
+                values: *mut Values,
             ) -> u64;
         }
     };
 }
 
-exported!(queue_open, mut, clients: u64, period: u64);
-exported!(queue_submit, mut, client: u64, deadline: u64);
-exported!(queue_tick, mut);
-exported!(queue_report, const, client: u64);
-exported!(queue_chart, const, output: *mut u64, output_length: usize);
+exported!(welsbell_open, mut, clients: u64, period: u64);
+exported!(welsbell_submit, mut, client: u64, deadline: u64);
+exported!(welsbell_tick, mut);
+exported!(welsbell_report, const, client: u64);
+exported!(welsbell_chart, const, output: *mut u64, output_length: usize);

@@ -1,6 +1,6 @@
 // The exported calls over tables of a test program, and what they answered.
 pub use crate::tables::*;
-pub use welsbell::raw;
+use welsbell::raw;
 
 // An answer's number and as many values as it has. One that document 01 does not know shows all five.
 pub fn answer(kind: u64, values: &Values) -> Vec<u64> {
@@ -14,16 +14,15 @@ pub fn answer(kind: u64, values: &Values) -> Vec<u64> {
     [&[kind], &values[..count]].concat()
 }
 
-// Makes an exported call, with its own arguments between the tables and the values; head and values may have any lengths. Report
-// and chart only read the tables; they too get pointers that may be written through, so that a write would show.
-#[macro_export]
+// Makes an exported call, with its own arguments between the tables and the values. Report and chart only read the tables; they too
+// get pointers that may be written through, so that a write would show.
 macro_rules! lend {
-    ($exported:ident, $head:expr, $tables:ident, $values:ident $(, $argument:expr)*) => {
-        // SAFETY: each pointer is to as many entries as the length behind it says, and all are lent for this call alone.
+    ($exported:ident, $tables:ident, $values:ident $(, $argument:expr)*) => {
+        // SAFETY: the head and the values are five numbers, as a head of the wrapper is; each other pointer is to as many entries as
+        // the length behind it says, and all are lent for this call alone.
         unsafe {
-            $crate::calls::raw::$exported(
-                $head.as_mut_ptr(),
-                $head.len(),
+            raw::$exported(
+                $tables.head.as_mut_ptr().cast(),
                 $tables.waiting.as_mut_ptr(),
                 $tables.waiting.len(),
                 $tables.submitted.as_mut_ptr(),
@@ -33,29 +32,28 @@ macro_rules! lend {
                 $tables.dropped.as_mut_ptr(),
                 $tables.dropped.len(),
                 $($argument,)*
-                $values.as_mut_ptr(),
-                $values.len(),
+                $values,
             )
         }
     };
 }
 
 pub fn open(t: &mut Tables, clients: u64, period: u64, values: &mut Values) -> u64 {
-    lend!(queue_open, t.head, t, values, clients, period)
+    lend!(welsbell_open, t, values, clients, period)
 }
 
 pub fn submit(t: &mut Tables, client: u64, deadline: u64, values: &mut Values) -> u64 {
-    lend!(queue_submit, t.head, t, values, client, deadline)
+    lend!(welsbell_submit, t, values, client, deadline)
 }
 
 pub fn tick(t: &mut Tables, values: &mut Values) -> u64 {
-    lend!(queue_tick, t.head, t, values)
+    lend!(welsbell_tick, t, values)
 }
 
 pub fn report(t: &mut Tables, client: u64, values: &mut Values) -> u64 {
-    lend!(queue_report, t.head, t, values, client)
+    lend!(welsbell_report, t, values, client)
 }
 
 pub fn chart(t: &mut Tables, output: &mut [u64], values: &mut Values) -> u64 {
-    lend!(queue_chart, t.head, t, values, output.as_mut_ptr(), output.len())
+    lend!(welsbell_chart, t, values, output.as_mut_ptr(), output.len())
 }

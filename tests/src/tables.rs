@@ -36,5 +36,5 @@ impl Tables {
     }
 }
 
-// Where a call writes its answer's values, to the front.
-pub type Values = [u64; 5];
+// Where a call writes its answer's values, with zeros behind them.
+pub use welsbell::raw::Values;

@@ -1,11 +1,10 @@
 // Holds the exported calls to document 01, case by case. After each call the answer, its values, the head, every record of both
 // tables and the output are held to what the case expects, which is written out or comes by simple arithmetic.
 use std::fmt::Debug;
-use std::iter::repeat;
 use std::process::exit;
 use std::thread;
 use tests::calls::*;
-use tests::lend;
+use welsbell::{Answer, Refusal};
 
 // A waiting record: deadline, number, client.
 type Row = (u64, u64, u64);
@@ -65,9 +64,9 @@ impl Library {
         let mut values = [UNWRITTEN; 5];
         let kind = call(&mut self.tables, &mut self.output, &mut values);
         (self.call, self.answer) = (name, answer(kind, &values));
-        // what stands behind the answer's values must stay; if not, it shows as part of the answer
+        // what stands behind the answer's values must be 0; if not, it shows as part of the answer
         let beyond = &values[self.answer.len() - 1..];
-        if beyond.iter().any(|&value| value != UNWRITTEN) {
+        if beyond.iter().any(|&value| value != 0) {
             self.answer.extend(beyond);
         }
         self.calls += 1;
@@ -746,38 +745,6 @@ fn longer_columns(l: &mut Library) {
     }
 }
 
-// So many numbers: these, and others behind them.
-fn cut(length: usize, numbers: &[u64], other: u64) -> Vec<u64> {
-    numbers.iter().copied().chain(repeat(other)).take(length).collect()
-}
-
-// Head and values of other lengths than five: a number that the head does not have is 0, and what does not fit is left out.
-fn other_lengths(l: &mut Library) {
-    for length in 0..8 {
-        l.call = format!("with {length} numbers");
-        let (mut t, mut head, mut values) = (opened(4, 2), vec![9; length], vec![UNWRITTEN; length]);
-        let kind = lend!(queue_open, head, t, values, 2, 100);
-        l.same("kind of open", &[OPENED], &[kind]);
-        l.same("head after open", &cut(length, &[2, 100, 0, 0, 0], 9), &head);
-        l.same("values of open", &cut(length, &[], UNWRITTEN), &values);
-        // the clients are none, which is not the table's length; then the period is 0
-        let (ticked, value, clock) = match length {
-            0 => (REFUSED, 4, 0),
-            1 => (REFUSED, 5, 0),
-            _ => (IDLE, 0, 1),
-        };
-        let kind = lend!(queue_tick, head, t, values);
-        l.same("kind of tick", &[ticked], &[kind]);
-        l.same("head after tick", &cut(length, &[2, 100, clock, 0, 0], 9), &head);
-        l.same("values of tick", &cut(length, &[value], UNWRITTEN), &values);
-        t = good();
-        let kind = lend!(queue_report, t.head, t, values, 1);
-        l.same("kind of report", &[REPORT], &[kind]);
-        l.same("values of report", &cut(length, &[1, 5, 3, 0, 2], UNWRITTEN), &values);
-        l.calls += 3;
-    }
-}
-
 // Every call, in a thread with a stack of 32 KiB.
 fn little_stack(l: &mut Library) {
     thread::scope(|scope| {
@@ -792,25 +759,62 @@ fn little_stack(l: &mut Library) {
     });
 }
 
-// The C header has the bounds that the calls are held to here.
-fn header_bounds(l: &mut Library) {
-    let header = include_str!("../../../include/welsbell.h");
-    for (name, bound) in [
-        ("MOST_CLIENTS", MOST_CLIENTS as u64),
-        ("MOST_RECORDS", MOST_RECORDS as u64),
-        ("MOST_COUNTED", MOST_COUNTED.into()),
-        ("MOST_PERIOD", MOST_PERIOD),
-        ("MOST_AHEAD", MOST_AHEAD),
-        ("END", END),
-    ] {
-        let line = format!("#define QUEUE_{name} {bound}");
-        l.same(&line, &[true], &[header.lines().any(|each| each == line)]);
+// Tables that the wrapper owns, opened, and a call on them that is refused.
+type Refused = fn(&mut welsbell::Tables<2, 2>) -> Answer;
+
+// Each refusal of the wrapper with its number in document 01 and a call that gives it.
+const REFUSALS: [(Refusal, u64, Refused); 11] = [
+    (Refusal::Clients, 2, |t| t.queue().open(0, 1)),
+    (Refusal::Period, 3, |t| t.queue().open(2, 0)),
+    (Refusal::Lengths, 4, |t| t.queue().open(1, 1)),
+    (Refusal::Unsound, 5, |t| {
+        t.head.period = 0;
+        t.queue().tick()
+    }),
+    (Refusal::Client, 6, |t| t.queue().report(2)),
+    (Refusal::Deadline, 7, |t| t.queue().submit(0, 0)),
+    (Refusal::Count, 8, |t| {
+        (t.submitted[0], t.served[0]) = (MOST_COUNTED, MOST_COUNTED);
+        t.queue().submit(0, 1)
+    }),
+    (Refusal::Number, 9, |t| {
+        t.head.last = END;
+        t.queue().submit(0, 1)
+    }),
+    (Refusal::Full, 10, |t| {
+        let answers = [7, 8, 9].map(|deadline| t.queue().submit(0, deadline));
+        answers[2]
+    }),
+    (Refusal::Clock, 11, |t| {
+        t.head.clock = END;
+        t.queue().tick()
+    }),
+    (Refusal::Output, 12, |t| {
+        let _ = t.queue().submit(0, 1);
+        t.queue().chart(&mut [])
+    }),
+];
+
+// The wrapper's refusals by name, and the wrapper's version.
+fn wrapper(l: &mut Library) {
+    l.call = "version".into();
+    l.same("version", &[welsbell::VERSION], &[welsbell::version()]);
+    for (refusal, number, call) in REFUSALS {
+        l.call = format!("{refusal:?}");
+        let mut tables = welsbell::Tables::new();
+        l.same("open", &[Answer::Opened], &[tables.queue().open(2, 100)]);
+        let answer = call(&mut tables);
+        l.same("answer", &[Answer::Refused(refusal)], &[answer]);
+        l.same("number", &[number], &[refusal.number()]);
+        l.same("words", &[format!("refused, number {number}: {refusal}")], &[answer.to_string()]);
+        l.calls += 2;
     }
+    l.same("all refusals", &REFUSALS.map(|(refusal, _, _)| refusal), &Refusal::ALL);
 }
 
 type Case = (&'static str, fn(&mut Library));
 
-const CASES: [Case; 35] = [
+const CASES: [Case; 34] = [
     ("document 01's session", session),
     ("idle ticks", idle_ticks),
     ("deadlines at their bounds", deadlines),
@@ -843,9 +847,8 @@ const CASES: [Case; 35] = [
     ("first match wins: open and submit", first_match_of_open_and_submit),
     ("first match wins: report, tick and chart", first_match_of_the_others),
     ("columns longer than the shortest", longer_columns),
-    ("head and values of other lengths", other_lengths),
     ("a stack of 32 KiB", little_stack),
-    ("the C header's bounds", header_bounds),
+    ("the wrapper's refusals by name", wrapper),
 ];
 
 fn main() {

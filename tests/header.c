@@ -1,0 +1,288 @@
+/* Holds the C header to the archive: the version, layouts, kinds and values of answers, each bound at itself and one past, each
+   refusal's name by the calls that give it, and tables that are null. It is C99 and C++11 alike, and is run as both. */
+#include "welsbell.h"
+
+#include <stdio.h>
+#include <string.h>
+
+/* One more than the largest tables. */
+#define RECORDS (WELSBELL_MOST_RECORDS + 1)
+#define CLIENTS (WELSBELL_MOST_CLIENTS + 1)
+
+static welsbell_request waiting[RECORDS];
+static uint32_t submitted[CLIENTS], served[CLIENTS], dropped[CLIENTS];
+static welsbell_queue queue;
+static unsigned held, failed;
+
+#define HOLD(condition) hold((condition), #condition, __LINE__)
+
+static void hold(int is, const char *condition, int line)
+{
+    held++;
+    if (!is) {
+        failed++;
+        fprintf(stderr, "tests/header.c, line %d: not so: %s\n", line, condition);
+    }
+}
+
+/* Whether an answer is the refusal. */
+static int refused(welsbell_answer answer, uint64_t number)
+{
+    return answer.kind == WELSBELL_REFUSED && answer.is.refused.number == number;
+}
+
+static int is_kind(welsbell_answer answer, uint64_t kind)
+{
+    return answer.kind == kind;
+}
+
+/* A queue of so many records and clients, with nothing in it but zeros. */
+static void lend(size_t records, size_t clients)
+{
+    memset(waiting, 0, sizeof waiting);
+    memset(submitted, 0, sizeof submitted);
+    memset(served, 0, sizeof served);
+    memset(dropped, 0, sizeof dropped);
+    memset(&queue, 0, sizeof queue);
+    queue.waiting = waiting;
+    queue.waiting_length = records;
+    queue.submitted = submitted;
+    queue.served = served;
+    queue.dropped = dropped;
+    queue.clients_length = clients;
+}
+
+/* The same, opened with a period that no case reaches. */
+static void lend_opened(size_t records, size_t clients)
+{
+    lend(records, clients);
+    HOLD(is_kind(welsbell_queue_open(&queue, clients, 1000000), WELSBELL_OPENED));
+}
+
+static void layouts(void)
+{
+    HOLD(sizeof(welsbell_head) == 40);
+    HOLD(offsetof(welsbell_head, clients) == 0);
+    HOLD(offsetof(welsbell_head, period) == 8);
+    HOLD(offsetof(welsbell_head, clock) == 16);
+    HOLD(offsetof(welsbell_head, last) == 24);
+    HOLD(offsetof(welsbell_head, waiting) == 32);
+    HOLD(sizeof(welsbell_request) == 24);
+    HOLD(offsetof(welsbell_request, deadline) == 0);
+    HOLD(offsetof(welsbell_request, number) == 8);
+    HOLD(offsetof(welsbell_request, client) == 16);
+    HOLD(sizeof(welsbell_values) == 40);
+
+    /* and as the archive writes them: all numbers differ */
+    lend(8, 5);
+    HOLD(is_kind(welsbell_queue_open(&queue, 5, 100), WELSBELL_OPENED));
+    for (int i = 0; i < 3; i++)
+        HOLD(is_kind(welsbell_queue_tick(&queue), WELSBELL_IDLE));
+    HOLD(is_kind(welsbell_queue_submit(&queue, 4, 50), WELSBELL_KEPT));
+    HOLD(is_kind(welsbell_queue_submit(&queue, 3, 40), WELSBELL_KEPT));
+    HOLD(queue.head.clients == 5);
+    HOLD(queue.head.period == 100);
+    HOLD(queue.head.clock == 3);
+    HOLD(queue.head.last == 2);
+    HOLD(queue.head.waiting == 2);
+    HOLD(waiting[0].deadline == 40 && waiting[0].number == 2 && waiting[0].client == 3);
+    HOLD(waiting[1].deadline == 50 && waiting[1].number == 1 && waiting[1].client == 4);
+    HOLD(submitted[3] == 1 && served[3] == 0 && dropped[3] == 0);
+}
+
+/* Each kind by the call that gives it, with its values by name. */
+static void answers(void)
+{
+    uint64_t starts[3] = {9, 9, 9};
+    lend(8, 2);
+    welsbell_answer a = welsbell_queue_open(&queue, 2, 100);
+    HOLD(a.kind == WELSBELL_OPENED);
+    a = welsbell_queue_tick(&queue);
+    HOLD(a.kind == WELSBELL_IDLE && a.is.idle.slot == 0);
+    a = welsbell_queue_submit(&queue, 0, 2);
+    HOLD(a.kind == WELSBELL_KEPT && a.is.kept.number == 1 && a.is.kept.place == 0);
+    a = welsbell_queue_submit(&queue, 1, 4);
+    HOLD(a.kind == WELSBELL_KEPT && a.is.kept.number == 2 && a.is.kept.place == 1);
+    /* client 0 has missed none, as client 1; of equals the last in chart order goes */
+    a = welsbell_queue_submit(&queue, 1, 2);
+    HOLD(a.kind == WELSBELL_DROPPED && a.is.dropped.number == 3 && a.is.dropped.victim == 3 && a.is.dropped.client == 1);
+    a = welsbell_queue_chart(&queue, starts, 3);
+    HOLD(a.kind == WELSBELL_CHARTED && a.is.charted.count == 2);
+    HOLD(starts[0] == 1 && starts[1] == 3 && starts[2] == 9);
+    a = welsbell_queue_tick(&queue);
+    HOLD(a.kind == WELSBELL_SERVED && a.is.served.slot == 1 && a.is.served.number == 1 && a.is.served.client == 0);
+    a = welsbell_queue_tick(&queue);
+    HOLD(a.kind == WELSBELL_SERVED && a.is.served.slot == 2 && a.is.served.number == 2 && a.is.served.client == 1);
+    HOLD(is_kind(welsbell_queue_submit(&queue, 1, 9), WELSBELL_KEPT));
+    HOLD(is_kind(welsbell_queue_submit(&queue, 1, 9), WELSBELL_KEPT));
+    HOLD(is_kind(welsbell_queue_submit(&queue, 1, 9), WELSBELL_KEPT));
+    a = welsbell_queue_report(&queue, 1);
+    HOLD(a.kind == WELSBELL_REPORTED && a.is.reported.client == 1 && a.is.reported.submitted == 5);
+    HOLD(a.is.reported.served == 1 && a.is.reported.dropped == 1 && a.is.reported.waiting == 3);
+    HOLD(refused(welsbell_queue_report(&queue, 2), WELSBELL_REFUSED_CLIENT));
+}
+
+/* All five numbers are written, by the calls of the archive. */
+static void values(void)
+{
+    static const welsbell_values unwritten = {{7, 7, 7, 7, 7}};
+    uint64_t output[1];
+    welsbell_values v = unwritten;
+    lend(8, 2);
+    HOLD(welsbell_open(&queue.head, waiting, 8, submitted, 2, served, 2, dropped, 2, 2, 100, &v) == WELSBELL_OPENED);
+    HOLD(!v.numbers[0] && !v.numbers[1] && !v.numbers[2] && !v.numbers[3] && !v.numbers[4]);
+    v = unwritten;
+    HOLD(welsbell_submit(&queue.head, waiting, 8, submitted, 2, served, 2, dropped, 2, 1, 5, &v) == WELSBELL_KEPT);
+    HOLD(v.numbers[0] == 1 && !v.numbers[1] && !v.numbers[2] && !v.numbers[3] && !v.numbers[4]);
+    v = unwritten;
+    HOLD(welsbell_report(&queue.head, waiting, 8, submitted, 2, served, 2, dropped, 2, 2, &v) == WELSBELL_REFUSED);
+    HOLD(v.numbers[0] == 6 && !v.numbers[1] && !v.numbers[2] && !v.numbers[3] && !v.numbers[4]);
+    v = unwritten;
+    HOLD(welsbell_chart(&queue.head, waiting, 8, submitted, 2, served, 2, dropped, 2, output, 0, &v) == WELSBELL_REFUSED);
+    HOLD(v.numbers[0] == 12 && !v.numbers[1] && !v.numbers[2] && !v.numbers[3] && !v.numbers[4]);
+    v = unwritten;
+    HOLD(welsbell_tick(&queue.head, waiting, 8, submitted, 2, served, 2, dropped, 2, &v) == WELSBELL_SERVED);
+    HOLD(!v.numbers[0] && v.numbers[1] == 1 && v.numbers[2] == 1 && !v.numbers[3] && !v.numbers[4]);
+}
+
+/* The bounds of an open, each at itself and one past. */
+static void bounds_of_open(void)
+{
+    lend(1, WELSBELL_MOST_CLIENTS);
+    HOLD(is_kind(welsbell_queue_open(&queue, WELSBELL_MOST_CLIENTS, 1), WELSBELL_OPENED));
+    lend(1, WELSBELL_MOST_CLIENTS + 1);
+    HOLD(refused(welsbell_queue_open(&queue, WELSBELL_MOST_CLIENTS + 1, 1), WELSBELL_REFUSED_CLIENTS));
+    lend(1, 1);
+    HOLD(is_kind(welsbell_queue_open(&queue, 1, 1), WELSBELL_OPENED));
+    lend(1, 0);
+    HOLD(refused(welsbell_queue_open(&queue, 0, 1), WELSBELL_REFUSED_CLIENTS));
+
+    lend(WELSBELL_MOST_RECORDS, 1);
+    HOLD(is_kind(welsbell_queue_open(&queue, 1, 1), WELSBELL_OPENED));
+    lend(WELSBELL_MOST_RECORDS + 1, 1);
+    HOLD(refused(welsbell_queue_open(&queue, 1, 1), WELSBELL_REFUSED_LENGTHS));
+    lend(0, 1);
+    HOLD(refused(welsbell_queue_open(&queue, 1, 1), WELSBELL_REFUSED_LENGTHS));
+
+    lend(1, 1);
+    HOLD(is_kind(welsbell_queue_open(&queue, 1, WELSBELL_MOST_PERIOD), WELSBELL_OPENED));
+    HOLD(queue.head.period == WELSBELL_MOST_PERIOD);
+    HOLD(refused(welsbell_queue_open(&queue, 1, WELSBELL_MOST_PERIOD + 1), WELSBELL_REFUSED_PERIOD));
+    HOLD(refused(welsbell_queue_open(&queue, 1, 0), WELSBELL_REFUSED_PERIOD));
+}
+
+/* The bounds of what an open queue is asked and holds, each at itself and one past. */
+static void bounds_of_others(void)
+{
+    lend_opened(4, 1);
+    queue.head.clock = 10;
+    HOLD(refused(welsbell_queue_submit(&queue, 0, 10), WELSBELL_REFUSED_DEADLINE));
+    HOLD(is_kind(welsbell_queue_submit(&queue, 0, 11), WELSBELL_KEPT));
+    HOLD(is_kind(welsbell_queue_submit(&queue, 0, 10 + WELSBELL_MOST_AHEAD), WELSBELL_KEPT));
+    HOLD(refused(welsbell_queue_submit(&queue, 0, 10 + WELSBELL_MOST_AHEAD + 1), WELSBELL_REFUSED_DEADLINE));
+
+    lend_opened(4, 1);
+    submitted[0] = served[0] = WELSBELL_MOST_COUNTED - 1;
+    HOLD(is_kind(welsbell_queue_submit(&queue, 0, 1), WELSBELL_KEPT));
+    HOLD(submitted[0] == WELSBELL_MOST_COUNTED);
+    HOLD(refused(welsbell_queue_submit(&queue, 0, 2), WELSBELL_REFUSED_COUNT));
+    HOLD(is_kind(welsbell_queue_report(&queue, 0), WELSBELL_REPORTED));
+    submitted[0] = WELSBELL_MOST_COUNTED + 1;
+    served[0] = WELSBELL_MOST_COUNTED;
+    HOLD(refused(welsbell_queue_report(&queue, 0), WELSBELL_REFUSED_UNSOUND));
+
+    lend_opened(4, 1);
+    queue.head.clock = WELSBELL_END - 1;
+    HOLD(is_kind(welsbell_queue_tick(&queue), WELSBELL_IDLE));
+    HOLD(queue.head.clock == WELSBELL_END);
+    HOLD(refused(welsbell_queue_tick(&queue), WELSBELL_REFUSED_CLOCK));
+    queue.head.clock = WELSBELL_END + 1;
+    HOLD(refused(welsbell_queue_tick(&queue), WELSBELL_REFUSED_UNSOUND));
+
+    lend_opened(4, 1);
+    queue.head.last = WELSBELL_END - 1;
+    HOLD(is_kind(welsbell_queue_submit(&queue, 0, 1), WELSBELL_KEPT));
+    HOLD(queue.head.last == WELSBELL_END && waiting[0].number == WELSBELL_END);
+    HOLD(refused(welsbell_queue_submit(&queue, 0, 2), WELSBELL_REFUSED_NUMBER));
+    queue.head.last = WELSBELL_END + 1;
+    HOLD(refused(welsbell_queue_submit(&queue, 0, 2), WELSBELL_REFUSED_UNSOUND));
+}
+
+/* The four calls that ask whether the tables are sound. */
+static void all_but_open(uint64_t number)
+{
+    uint64_t starts[8];
+    HOLD(refused(welsbell_queue_submit(&queue, 0, queue.head.clock + 9), number));
+    HOLD(refused(welsbell_queue_tick(&queue), number));
+    HOLD(refused(welsbell_queue_report(&queue, 0), number));
+    HOLD(refused(welsbell_queue_chart(&queue, starts, 8), number));
+}
+
+/* Refusals that the bounds did not meet, by the calls that give them. */
+static void refusals(void)
+{
+    uint64_t starts[2];
+    lend_opened(4, 2);
+    queue.clients_length = 1;
+    all_but_open(WELSBELL_REFUSED_LENGTHS);
+    HOLD(refused(welsbell_queue_open(&queue, 2, 1), WELSBELL_REFUSED_LENGTHS));
+    queue.clients_length = 3;
+    all_but_open(WELSBELL_REFUSED_LENGTHS);
+    HOLD(refused(welsbell_queue_open(&queue, 2, 1), WELSBELL_REFUSED_LENGTHS));
+    queue.clients_length = 2;
+    queue.head.waiting = 5;
+    all_but_open(WELSBELL_REFUSED_LENGTHS);
+    queue.head.waiting = 4;
+    all_but_open(WELSBELL_REFUSED_UNSOUND);
+
+    lend_opened(2, 2);
+    HOLD(is_kind(welsbell_queue_report(&queue, 1), WELSBELL_REPORTED));
+    HOLD(refused(welsbell_queue_report(&queue, 2), WELSBELL_REFUSED_CLIENT));
+    HOLD(refused(welsbell_queue_submit(&queue, 2, 1), WELSBELL_REFUSED_CLIENT));
+    HOLD(is_kind(welsbell_queue_submit(&queue, 1, 5), WELSBELL_KEPT));
+    HOLD(is_kind(welsbell_queue_submit(&queue, 1, 6), WELSBELL_KEPT));
+    HOLD(refused(welsbell_queue_submit(&queue, 1, 7), WELSBELL_REFUSED_FULL));
+    HOLD(is_kind(welsbell_queue_chart(&queue, starts, 2), WELSBELL_CHARTED));
+    HOLD(refused(welsbell_queue_chart(&queue, starts, 1), WELSBELL_REFUSED_OUTPUT));
+}
+
+/* Tables that are null have no records, whatever their lengths say. */
+static void null_tables(void)
+{
+    lend(0, 0);
+    queue.waiting = NULL;
+    queue.submitted = queue.served = queue.dropped = NULL;
+    all_but_open(WELSBELL_REFUSED_LENGTHS);
+    HOLD(refused(welsbell_queue_open(&queue, 1, 1), WELSBELL_REFUSED_LENGTHS));
+    queue.waiting_length = 8;
+    queue.clients_length = 1;
+    HOLD(refused(welsbell_queue_open(&queue, 1, 1), WELSBELL_REFUSED_LENGTHS));
+    queue.waiting = waiting;
+    HOLD(refused(welsbell_queue_open(&queue, 1, 1), WELSBELL_REFUSED_LENGTHS));
+    queue.submitted = submitted;
+    queue.served = served;
+    HOLD(refused(welsbell_queue_open(&queue, 1, 1), WELSBELL_REFUSED_LENGTHS));
+    queue.dropped = dropped;
+    HOLD(is_kind(welsbell_queue_open(&queue, 1, 1), WELSBELL_OPENED));
+    HOLD(is_kind(welsbell_queue_chart(&queue, NULL, 8), WELSBELL_CHARTED));
+    HOLD(is_kind(welsbell_queue_submit(&queue, 0, 1), WELSBELL_KEPT));
+    HOLD(refused(welsbell_queue_chart(&queue, NULL, 8), WELSBELL_REFUSED_OUTPUT));
+}
+
+int main(void)
+{
+    HOLD(welsbell_version() == WELSBELL_VERSION);
+    layouts();
+    answers();
+    values();
+    bounds_of_open();
+    bounds_of_others();
+    refusals();
+    null_tables();
+    if (failed) {
+        fprintf(stderr, "tests/header.c: %u of %u do not hold\n", failed, held);
+        return 1;
+    }
+    printf("%u facts of the C header: all as the archive has them\n", held);
+    return 0;
+}
