@@ -89,8 +89,8 @@ enum {
     WELSBELL_REFUSED = 0xFF   /* the refusal's number */
 };
 
-/* The values of an answer, 40 bytes. The answer's kind says which member to read. Every call writes all five numbers: the answer's
-   values first, and 0 for those that it does not have. */
+/* The values of an answer, 40 bytes. The answer's kind says which member to read. A call writes the answer's values over the first
+   of the five numbers; the others stay as they were. */
 typedef union welsbell_values {
     uint64_t numbers[5];
     struct {
@@ -116,8 +116,8 @@ typedef union welsbell_values {
     } refused;
 } welsbell_values;
 
-/* Refusals. The first that matches is given, and nothing changes but the values. Number 1 is for lines of the session program; no
-   call here gives it.
+/* Refusals. The first that matches is given, and nothing changes but the first of the values. Number 1 is for lines of the session
+   program; no call here gives it.
 
     number  calls              condition
          2  open               clients outside 1 to 256
@@ -231,7 +231,7 @@ typedef struct welsbell_queue {
     size_t clients_length;
 } welsbell_queue;
 
-/* An answer: its kind, and what it is. Read the member of `is` that the kind names. */
+/* An answer: its kind, and what it is. Read the member of `is` that the kind names; numbers that the answer does not have are 0. */
 typedef struct welsbell_answer {
     uint64_t kind;
     welsbell_values is;
@@ -240,6 +240,8 @@ typedef struct welsbell_answer {
 /* A table with its length. The archive takes no null, so one that is null is lent as the first 0 records at the head's address. */
 #define WELSBELL_LEND_TABLE(queue, type, table, length) \
     (table) ? (table) : (type *)(uintptr_t)&(queue)->head, (table) ? (length) : 0
+
+#define WELSBELL_NO_ANSWER {0, {{0, 0, 0, 0, 0}}}
 
 /* What every call is lent first. */
 #define WELSBELL_LEND(queue) \
@@ -252,28 +254,28 @@ typedef struct welsbell_answer {
 /* The five calls on a queue. */
 static inline welsbell_answer welsbell_queue_open(welsbell_queue *queue, uint64_t clients, uint64_t period)
 {
-    welsbell_answer answer;
+    welsbell_answer answer = WELSBELL_NO_ANSWER;
     answer.kind = welsbell_open(WELSBELL_LEND(queue), clients, period, &answer.is);
     return answer;
 }
 
 static inline welsbell_answer welsbell_queue_submit(welsbell_queue *queue, uint64_t client, uint64_t deadline)
 {
-    welsbell_answer answer;
+    welsbell_answer answer = WELSBELL_NO_ANSWER;
     answer.kind = welsbell_submit(WELSBELL_LEND(queue), client, deadline, &answer.is);
     return answer;
 }
 
 static inline welsbell_answer welsbell_queue_tick(welsbell_queue *queue)
 {
-    welsbell_answer answer;
+    welsbell_answer answer = WELSBELL_NO_ANSWER;
     answer.kind = welsbell_tick(WELSBELL_LEND(queue), &answer.is);
     return answer;
 }
 
 static inline welsbell_answer welsbell_queue_report(const welsbell_queue *queue, uint64_t client)
 {
-    welsbell_answer answer;
+    welsbell_answer answer = WELSBELL_NO_ANSWER;
     answer.kind = welsbell_report(WELSBELL_LEND(queue), client, &answer.is);
     return answer;
 }
@@ -281,12 +283,13 @@ static inline welsbell_answer welsbell_queue_report(const welsbell_queue *queue,
 /* The output too may be null: then it has no entries. */
 static inline welsbell_answer welsbell_queue_chart(const welsbell_queue *queue, uint64_t *output, size_t output_length)
 {
-    welsbell_answer answer;
+    welsbell_answer answer = WELSBELL_NO_ANSWER;
     answer.kind = welsbell_chart(WELSBELL_LEND(queue), WELSBELL_LEND_TABLE(queue, uint64_t, output, output_length), &answer.is);
     return answer;
 }
 
 #undef WELSBELL_LEND
+#undef WELSBELL_NO_ANSWER
 #undef WELSBELL_LEND_TABLE
 
 #ifdef __cplusplus

@@ -1,5 +1,6 @@
 //! The exported calls as they are linked: a head and the values are a pointer each, a table is a pointer and then a length. The
-//! result is the answer's kind; its values are written with zeros behind them, five in all. `include/welsbell.h` says the same in C.
+//! result is the answer's kind; its values go to the front of the five, and those behind them stay. `include/welsbell.h` says the
+//! same in C.
 //!
 //! # Safety
 //!

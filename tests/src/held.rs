@@ -116,15 +116,14 @@ impl Held {
             self.catch_up();
         }
         let (mut output, mut values) = lent_for(call);
-        let (mut drawn, _) = lent_for(call);
+        let (mut drawn, mut expected) = lent_for(call);
         let kind = make(&mut self.lent, call, &mut output, &mut values);
         let answer = self.queue.make(call, &mut drawn);
         write(&self.queue, &mut self.expected);
         self.made += 1;
         self.held += 1;
         self.tally.count(&answer);
-        // zeros behind the answer's values
-        let mut expected = [0; 5];
+        // those beyond the answer's values stay
         expected[..answer.len() - 1].copy_from_slice(&answer[1..]);
         let is_same = kind == answer[0] && values == expected && output == drawn && self.lent == self.expected;
         if is_same {

@@ -36,5 +36,5 @@ impl Tables {
     }
 }
 
-// Where a call writes its answer's values, with zeros behind them.
+// Where a call writes its answer's values, to the front.
 pub use welsbell::raw::Values;

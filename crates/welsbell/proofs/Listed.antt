@@ -42,21 +42,21 @@ lentBy b =
 abbrev pub answerOf : Call → Buffers → Answer
 answerOf c before = outcomeOf c (heldBy (lentBy before)) .answer
 
--- an exported call that meets its contract, with the kind of its answer and what it left in the array of values
-abbrev pub Answered : Call → (before : Buffers) (kind : ℕ) (values : List ℕ) (after : Buffers) → Type 0
-Answered c before kind values after =
-    Exported (outcomeOf c (heldBy (lentBy before))) (before .submitted) (before .served) (before .dropped) kind (after .head)
-    values (after .waitingTable) (after .submitted) (after .served) (after .dropped)
+-- an exported call that meets its contract, with what it found in the array of values, the kind of its answer, and what it left there
+abbrev pub Answered : Call → (before : Buffers) (values₀ : List ℕ) (kind : ℕ) (values : List ℕ) (after : Buffers) → Type 0
+Answered c before values₀ kind values after =
+    Exported (outcomeOf c (heldBy (lentBy before))) values₀ (before .submitted) (before .served) (before .dropped) kind
+    (after .head) values (after .waitingTable) (after .submitted) (after .served) (after .dropped)
 
 -- a list of such calls with the answers whose kinds and values they gave, the newest first. Among them may stand refused calls that
 -- were lent other tables
 pub data Answering (from : Buffers) : List Event → Buffers → Type 0 where
   none : Answering from [] from
-  next : {es : List Event} {before after : Buffers} (c : Call) (kind : ℕ) (values : List ℕ) → Answering from es before
-      → Answered c before kind values after → Answering from (record { call = c; answer = answerOf c before } ∷ es) after
+  next : {es : List Event} {before after : Buffers} (c : Call) (values₀ : List ℕ) (kind : ℕ) (values : List ℕ) → Answering from es before
+      → Answered c before values₀ kind values after → Answering from (record { call = c; answer = answerOf c before } ∷ es) after
   refused :
-      {es : List Event} {now : Buffers} (other otherAfter : Buffers) (c : Call) (kind : ℕ) (values : List ℕ) → Answering from es now
-      → Answered c other kind values otherAfter → isRefused (answerOf c other) ≡ true
+      {es : List Event} {now : Buffers} (other otherAfter : Buffers) (c : Call) (values₀ : List ℕ) (kind : ℕ) (values : List ℕ) → Answering from es now
+      → Answered c other values₀ kind values otherAfter → isRefused (answerOf c other) ≡ true
       → Answering from (record { call = c; answer = answerOf c other } ∷ es) now
 
 -- the definition that each contract cites is the one that lists of calls go by
@@ -70,9 +70,9 @@ same-outcomes a b output s = (refl, refl, refl, refl, refl)
 abbrev replied : Call → (before after : Buffers) → Reply
 replied c before after = record { head = headOf (after .head); answer = answerOf c before }
 
-pub answered-made : (c : Call) (before : Buffers) (kind : ℕ) (values : List ℕ) (after : Buffers)
-    → Answered c before kind values after → Made c (lentBy before) (replied c before after) (lentBy after)
-answered-made c before kind values after x =
+pub answered-made : (c : Call) (before : Buffers) (values₀ : List ℕ) (kind : ℕ) (values : List ℕ) (after : Buffers)
+    → Answered c before values₀ kind values after → Made c (lentBy before) (replied c before after) (lentBy after)
+answered-made c before values₀ kind values after x =
     record {
       head-kept = refl;
       gives =
@@ -87,10 +87,10 @@ answered-made c before kind values after x =
 -- "For every list of calls": exported ones too
 pub answering-ran : {from after : Buffers} {es : List Event} → Answering from es after → Ran (lentBy from) es (lentBy after)
 answering-ran none = runs.none
-answering-ran (next {es} {before} {after} c kind values list x) =
-    runs.next c (replied c before after) (answering-ran list) (answered-made c before kind values after x)
-answering-ran (refused other otherAfter c kind values list x e) =
-    runs.refused c (replied c other otherAfter) (answering-ran list) (answered-made c other kind values otherAfter x) e
+answering-ran (next {es} {before} {after} c values₀ kind values list x) =
+    runs.next c (replied c before after) (answering-ran list) (answered-made c before values₀ kind values after x)
+answering-ran (refused other otherAfter c values₀ kind values list x e) =
+    runs.refused c (replied c other otherAfter) (answering-ran list) (answered-made c other values₀ kind values otherAfter x) e
 
 -- an answer of the kind opened is no refusal
 opened-accepted : (a : Answer) → kindOf a ≡ kindOf Opened → isRefused a ≡ false
@@ -105,14 +105,14 @@ opened-accepted (Charted count) e = refl
 opened-accepted (Refused number) e = absurd (omega (arith, e))
 
 -- an exported open that gave the kind opened, and a list of exported calls from there on in which no other open is accepted
-module _ (clients period : ℕ) (before from after : Buffers) (kind : ℕ) (values : List ℕ) (es : List Event)
-    (x : Answered (opening clients period) before kind values from) (accepted : kind ≡ kindOf Opened)
+module _ (clients period : ℕ) (before from after : Buffers) (values₀ : List ℕ) (kind : ℕ) (values : List ℕ) (es : List Event)
+    (x : Answered (opening clients period) before values₀ kind values from) (accepted : kind ≡ kindOf Opened)
     (list : Answering from es after) (none-opened : exists isOpened es ≡ false) where
   abbrev c : Call
   c = opening clients period
 
   made : Made c (lentBy before) (replied c before from) (lentBy from)
-  made = answered-made c before kind values from x
+  made = answered-made c before values₀ kind values from x
 
   no-refusal : isRefused (answerOf c before) ≡ false
   no-refusal = opened-accepted (answerOf c before) (sym (x .kind-same) ∙ accepted)

@@ -81,7 +81,7 @@ module _ (callee : Name) (of : ℕ → ℕ → State → Outcome) where
       ghost = Unit {0};
       requires = λ g. emp 𝓤;
       ensures = λ g r e. fact 𝓤 (Exported (of (a .1 .1 .1 .1 .1 .0) (a .1 .1 .1 .1 .1 .1 .0) (stateOf (headOf (now (a .0))) (now (a .1 .0)) (now (a .1 .1 .0)) (now (a .1 .1 .1 .0)) (now (a .1 .1 .1 .1 .0))))
-          (now (a .1 .1 .0)) (now (a .1 .1 .1 .0)) (now (a .1 .1 .1 .1 .0)) r (now (e .0)) (now (e .1 .1 .1 .1 .1 .1 .1 .0)) (now (e .1 .0)) (now (e .1 .1 .0)) (now (e .1 .1 .1 .0)) (now (e .1 .1 .1 .1 .0)));
+          (now (a .1 .1 .1 .1 .1 .1 .1 .0)) (now (a .1 .1 .0)) (now (a .1 .1 .1 .0)) (now (a .1 .1 .1 .1 .0)) r (now (e .0)) (now (e .1 .1 .1 .1 .1 .1 .1 .0)) (now (e .1 .0)) (now (e .1 .1 .0)) (now (e .1 .1 .1 .0)) (now (e .1 .1 .1 .1 .0)));
     }
 
   module _ {M : Type 1} (𝓤 : URA M) (H : Heap 𝓤) (A : Atoms 𝓤) (W : Given 𝓤 H A) (mem : Memory → SProp 𝓤) (run : Routine → Fun 𝓤) where
@@ -106,4 +106,4 @@ module _ (callee : Name) (of : ℕ → ℕ → State → Outcome) where
         -- numbers::write_values(values, reply)
         calls-for ! 𝓣 (5 ∷ []) (mut-one W values ∷ given W a-reply reply reply-is ∷ []) (of-number w64) (λ c. known-write-values) (λ c h. h) (id⊢ 𝓤 _) refl (λ c. vars ! (refl, (refl, tt))) (λ _. refl) (λ r last₄ told kept₄ r-is. gives ! refl refl $
         leaves (vint w64 r) r (last₃ .0, (last₂ .1 .0, (last₂ .1 .1 .0, (last₂ .1 .1 .1 .0, (last₂ .1 .1 .1 .1 .0, (last₄ .0, tt)))))) (kept₂ .0, (kept₂ .1 .0, (kept₂ .1 .1 .0, (kept₂ .1 .1 .1 .0, tt))))
-        (made W (of-number w64) r r-is) (so 𝓤 (exports-given (of x y) (head .held) is-head gave told headed))))))
+        (made W (of-number w64) r r-is) (so 𝓤 (exports-given (of x y) (head .held) (values .held) is-head gave told headed))))))

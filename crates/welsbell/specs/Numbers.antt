@@ -1,8 +1,8 @@
 -- Head and answer as numbers in lent arrays: what an exported call reads, and what it hands back and leaves. Assumes nothing.
-use Prim.Native.Nat.{ℕ, _-_}
+use Prim.Native.Nat.{ℕ}
 use mathlib.Core.Path.{_≡_}
 use mathlib.Core.List.{List, _++_, map}
-use lib.ListN.{length, getD, replicate}
+use lib.ListN.{length, getD, drop}
 use Rattle.spec.specs.declared.types.Head.{Head}
 use Rattle.spec.specs.declared.types.Request.{Request}
 use Rattle.spec.specs.declared.types.Answer.{Answer}
@@ -26,15 +26,19 @@ headOf xs =
       waiting = getD xs 4 0;
     }
 
--- an answer's values, in the paper's order, and zeros behind them: five numbers
+-- an answer's values, in the paper's order
 unfoldable pub valueNumbers : Answer → List ℕ
-valueNumbers a = let xs : List ℕ = map (λ f. f .value) (valuesOf a) in xs ++ replicate (5 - length xs) 0
+valueNumbers a = map (λ f. f .value) (valuesOf a)
+
+-- numbers over the front of an array; those behind them stay
+unfoldable pub written : List ℕ → List ℕ → List ℕ
+written xs ys = xs ++ drop (length xs) ys
 
 -- what an exported call hands back, the answer's kind, and leaves in what was lent to it, beside what its definition says
-pub record Exported (o : Outcome) (submitted₀ served₀ dropped₀ : List ℕ) (r : ℕ) (head values : List ℕ) (ws : List Request)
+pub record Exported (o : Outcome) (values₀ submitted₀ served₀ dropped₀ : List ℕ) (r : ℕ) (head values : List ℕ) (ws : List Request)
     (submitted served dropped : List ℕ) : Type 0 where
   pub kind-same : r ≡ kindOf (o .answer)
-  pub values-same : values ≡ valueNumbers (o .answer)
+  pub values-same : values ≡ written (valueNumbers (o .answer)) values₀
   pub head-same : headOf head ≡ o .after .head
   pub waiting-same : ws ≡ o .after .waitingTable
   pub counts-same : Holds (o .after .clientTable) submitted₀ served₀ dropped₀ submitted served dropped

@@ -1,6 +1,6 @@
 // The five calls for programs in other languages, and the version. The head is an array of its five numbers, in the order of its
-// fields. The result is the answer's kind; its values go into an array of five, with zeros behind them. Nothing is asked of the
-// caller but pointers that are good for what is behind them, none lent twice.
+// fields. The result is the answer's kind; its values go over the front of an array of five, and what stands behind them stays.
+// Nothing is asked of the caller but pointers that are good for what is behind them, none lent twice.
 mod numbers;
 
 use spec::types::Request;
@@ -34,7 +34,7 @@ pub extern "C" fn welsbell_open(
     ensures { λ r. ⌜ Exported
         (openOf clients period (stateOf (headOf (now (head .entry))) (now (waiting .entry))
         (now (submitted .entry)) (now (served .entry)) (now (dropped .entry))))
-        (now (submitted .entry)) (now (served .entry)) (now (dropped .entry))
+        (now (values .entry)) (now (submitted .entry)) (now (served .entry)) (now (dropped .entry))
         r (now (head .exit)) (now (values .exit)) (now (waiting .exit))
         (now (submitted .exit)) (now (served .exit)) (now (dropped .exit)) ⌝ }
 {
@@ -59,7 +59,7 @@ pub extern "C" fn welsbell_submit(
     ensures { λ r. ⌜ Exported
         (submitOf client deadline (stateOf (headOf (now (head .entry))) (now (waiting .entry))
         (now (submitted .entry)) (now (served .entry)) (now (dropped .entry))))
-        (now (submitted .entry)) (now (served .entry)) (now (dropped .entry))
+        (now (values .entry)) (now (submitted .entry)) (now (served .entry)) (now (dropped .entry))
         r (now (head .exit)) (now (values .exit)) (now (waiting .exit))
         (now (submitted .exit)) (now (served .exit)) (now (dropped .exit)) ⌝ }
 {
@@ -82,7 +82,7 @@ pub extern "C" fn welsbell_tick(
     ensures { λ r. ⌜ Exported
         (tickOf (stateOf (headOf (now (head .entry))) (now (waiting .entry))
         (now (submitted .entry)) (now (served .entry)) (now (dropped .entry))))
-        (now (submitted .entry)) (now (served .entry)) (now (dropped .entry))
+        (now (values .entry)) (now (submitted .entry)) (now (served .entry)) (now (dropped .entry))
         r (now (head .exit)) (now (values .exit)) (now (waiting .exit))
         (now (submitted .exit)) (now (served .exit)) (now (dropped .exit)) ⌝ }
 {
@@ -106,7 +106,7 @@ pub extern "C" fn welsbell_report(
     ensures { λ r. ⌜ Exported
         (reportOf client (stateOf (headOf (now (head .entry))) (now (waiting .entry))
         (now (submitted .entry)) (now (served .entry)) (now (dropped .entry))))
-        (now (submitted .entry)) (now (served .entry)) (now (dropped .entry))
+        (now (values .entry)) (now (submitted .entry)) (now (served .entry)) (now (dropped .entry))
         r (now (head .entry)) (now (values .exit)) (now (waiting .entry))
         (now (submitted .entry)) (now (served .entry)) (now (dropped .entry)) ⌝ }
 {
@@ -129,7 +129,7 @@ pub extern "C" fn welsbell_chart(
     ensures { λ r. ⌜ Exported
         (chartOf (now (output .entry)) (stateOf (headOf (now (head .entry))) (now (waiting .entry))
         (now (submitted .entry)) (now (served .entry)) (now (dropped .entry))))
-        (now (submitted .entry)) (now (served .entry)) (now (dropped .entry))
+        (now (values .entry)) (now (submitted .entry)) (now (served .entry)) (now (dropped .entry))
         r (now (head .entry)) (now (values .exit)) (now (waiting .entry))
         (now (submitted .entry)) (now (served .entry)) (now (dropped .entry))
         × (now (output .exit) ≡ chartOutput (now (output .entry)) (stateOf (headOf (now (head .entry))) (now (waiting .entry))

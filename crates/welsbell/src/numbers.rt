@@ -2,9 +2,11 @@
 use decide::types::Reply;
 use spec::types::Answer;
 use spec::types::Head;
+ghost use Prim.Native.Nat.{_≤_};
 ghost use mathlib.Core.Path.{_≡_};
+ghost use lib.ListN.{take};
 ghost use Rattle.spec.specs.Frames.{kindOf};
-ghost use Rattle.welsbell.specs.Numbers.{headOf, valueNumbers};
+ghost use Rattle.welsbell.specs.Numbers.{headOf, valueNumbers, written};
 
 // The head whose five numbers these are.
 pub(crate) fn head_of(numbers: &[u64; 5]) -> Head
@@ -33,57 +35,79 @@ pub(crate) fn write_head(numbers: &mut [u64; 5], reply: Reply)
     ];
 }
 
-// An answer as numbers: its kind, and its values with zeros behind them.
+// An answer as numbers: its kind, and its values, which are the first `count` of `numbers`.
 struct Line {
     kind: u64,
     numbers: [u64; 5],
+    count: usize,
 }
 
 impl Line {
-    fn new(kind: u64, numbers: [u64; 5]) -> Self
-        ensures { λ r. ⌜ r ≡ record { kind = kind; numbers = numbers } ⌝ }
+    fn new(kind: u64, numbers: [u64; 5], count: usize) -> Self
+        ensures { λ r. ⌜ r ≡ record { kind = kind; numbers = numbers; count = count } ⌝ }
     {
-        Self { kind, numbers }
+        Self {
+            kind,
+            numbers,
+            count,
+        }
     }
 }
 
 // An answer's line, document 01, "Session lines": kinds and the order of values are the paper's.
 fn line_of(answer: Answer) -> Line
-    ensures { λ r. ⌜ (r .kind ≡ kindOf answer) × (r .numbers ≡ valueNumbers answer) ⌝ }
+    ensures { λ r. ⌜ (r .kind ≡ kindOf answer) × (take (r .count) (r .numbers) ≡ valueNumbers answer) × (r .count ≤ 5) ⌝ }
 {
     match answer {
-        Answer::Opened => Line::new(0x81, [0; 5]),
-        Answer::Kept { number, place } => Line::new(0x82, [number, place, 0, 0, 0]),
+        Answer::Opened => Line::new(0x81, [0; 5], 0),
+        Answer::Kept { number, place } => Line::new(0x82, [number, place, 0, 0, 0], 2),
         Answer::Dropped {
             number,
             victim,
             client,
-        } => Line::new(0x83, [number, victim, client, 0, 0]),
+        } => Line::new(0x83, [number, victim, client, 0, 0], 3),
         Answer::Served {
             slot,
             number,
             client,
-        } => Line::new(0x84, [slot, number, client, 0, 0]),
-        Answer::Idle { slot } => Line::new(0x85, [slot, 0, 0, 0, 0]),
+        } => Line::new(0x84, [slot, number, client, 0, 0], 3),
+        Answer::Idle { slot } => Line::new(0x85, [slot, 0, 0, 0, 0], 1),
         Answer::Reported {
             client,
             submitted,
             served,
             dropped,
             waiting,
-        } => Line::new(0x86, [client, submitted, served, dropped, waiting]),
-        Answer::Charted { count } => Line::new(0x88, [count, 0, 0, 0, 0]),
-        Answer::Refused { number } => Line::new(0xFF, [number, 0, 0, 0, 0]),
+        } => Line::new(0x86, [client, submitted, served, dropped, waiting], 5),
+        Answer::Charted { count } => Line::new(0x88, [count, 0, 0, 0, 0], 1),
+        Answer::Refused { number } => Line::new(0xFF, [number, 0, 0, 0, 0], 1),
     }
+}
+
+// The first of the numbers, so many, over the front of the others.
+fn over(others: [u64; 5], numbers: [u64; 5], count: usize) -> [u64; 5]
+    requires { ⌜ count ≤ 5 ⌝ }
+    ensures { λ r. ⌜ r ≡ written (take count numbers) others ⌝ }
+{
+    let mut all = others;
+    let mut i: usize = 0;
+    while i < count {
+        all[i] = numbers[i];
+        i += 1;
+    }
+    all
 }
 
 // The answer's values are written, and its kind handed back.
 pub(crate) fn write_values(values: &mut [u64; 5], reply: Reply) -> u64
-    ensures { λ r. ⌜ (r ≡ kindOf (reply .answer)) × (now (values .exit) ≡ valueNumbers (reply .answer)) ⌝ }
+    ensures { λ r. ⌜ (r ≡ kindOf (reply .answer))
+        × (now (values .exit) ≡ written (valueNumbers (reply .answer)) (now (values .entry))) ⌝ }
 {
     let answer = reply.answer;
     let line = line_of(answer);
+    let others = *values;
     let numbers = line.numbers;
-    *values = numbers;
+    let all = over(others, numbers, line.count);
+    *values = all;
     line.kind
 }

@@ -64,9 +64,9 @@ impl Library {
         let mut values = [UNWRITTEN; 5];
         let kind = call(&mut self.tables, &mut self.output, &mut values);
         (self.call, self.answer) = (name, answer(kind, &values));
-        // what stands behind the answer's values must be 0; if not, it shows as part of the answer
+        // what stands behind the answer's values must stay; if not, it shows as part of the answer
         let beyond = &values[self.answer.len() - 1..];
-        if beyond.iter().any(|&value| value != 0) {
+        if beyond.iter().any(|&value| value != UNWRITTEN) {
             self.answer.extend(beyond);
         }
         self.calls += 1;

@@ -30,7 +30,7 @@ module _ {M : Type 1} (𝓤 : URA M) (H : Heap 𝓤) (A : Atoms 𝓤) (W : Given
       relends-one ! values refl $
       -- numbers::write_values(values, reply)
       calls-for ! 𝓣 (5 ∷ []) (mut-one W values ∷ given W a-reply reply reply-is ∷ []) (of-number w64) (λ c. known-write-values) (λ c h. h) (id⊢ 𝓤 _) refl (λ c. vars ! (refl, (refl, tt))) (λ _. refl) (λ r last₃ told kept₃ r-is. gives ! refl refl $
-      leaves (vint w64 r) r (last₃ .0, tt) tt (made W (of-number w64) r r-is) (so 𝓤 (exports-read (reportOf client) (head .held) is-head gave told (report-stays client))))))
+      leaves (vint w64 r) r (last₃ .0, tt) tt (made W (of-number w64) r r-is) (so 𝓤 (exports-read (reportOf client) (head .held) (values .held) is-head gave told (report-stays client))))))
 
 pub welsbell-report-spec : {M : Type 1} → f.Statement.statement M
 unfolding f.Code.routine

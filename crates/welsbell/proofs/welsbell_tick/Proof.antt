@@ -36,7 +36,7 @@ module _ {M : Type 1} (𝓤 : URA M) (H : Heap 𝓤) (A : Atoms 𝓤) (W : Given
       -- numbers::write_values(values, reply)
       calls-for ! 𝓣 (5 ∷ []) (mut-one W values ∷ given W a-reply reply reply-is ∷ []) (of-number w64) (λ c. known-write-values) (λ c h. h) (id⊢ 𝓤 _) refl (λ c. vars ! (refl, (refl, tt))) (λ _. refl) (λ r last₄ told kept₄ r-is. gives ! refl refl $
       leaves (vint w64 r) r (last₃ .0, (last₂ .1 .0, (last₂ .1 .1 .0, (last₂ .1 .1 .1 .0, (last₂ .1 .1 .1 .1 .0, (last₄ .0, tt)))))) (kept₂ .0, (kept₂ .1 .0, (kept₂ .1 .1 .0, (kept₂ .1 .1 .1 .0, tt))))
-      (made W (of-number w64) r r-is) (so 𝓤 (exports-given tickOf (head .held) is-head gave told headed))))))
+      (made W (of-number w64) r r-is) (so 𝓤 (exports-given tickOf (head .held) (values .held) is-head gave told headed))))))
 
 pub welsbell-tick-spec : {M : Type 1} → f.Statement.statement M
 unfolding f.Code.routine

@@ -1,0 +1,18 @@
+-- `welsbell::numbers::write_values` meets its contract. Assumes nothing.
+use borrow.Author.Needs.{needs}
+use Rattle.welsbell.proofs.numbers.write_values.Statement.{statement}
+use Rattle.welsbell.proofs.numbers.write_values.Tie as tie
+
+line-of-requires : tie.Need-line-of-requires
+line-of-requires c κs = search needs
+
+over-requires : tie.Need-over-requires
+over-requires c κs = search needs
+
+returns : tie.Need-returns
+returns c =
+    let line = c .before .before .before .line-of .ensures in
+    (line .0, rw (line .1) at (c .over .ensures))
+
+pub write-values-spec : {M : Type 1} → statement M
+write-values-spec = tie.close (tie.spec line-of-requires over-requires returns)
