@@ -1,6 +1,6 @@
 /*
- * Welsbell, the recorder's read queue: five calls over a head and tables that the caller lends. Clients submit reads with deadlines,
- * one read is served in each slot, and where not all can finish one is dropped. Link with libwelsbell.a.
+ * Welsbell, the recorder's read queue: five calls over a head and tables that the caller lends. Clients submit reads with
+ * deadlines, one read is served in each slot, and where not all can finish one is dropped. Link with libwelsbell.a.
  *
  * The short way is a welsbell_queue, which names once what is lent:
  *
@@ -220,7 +220,7 @@ uint64_t welsbell_chart(const welsbell_head *head,
                         uint64_t *output, size_t output_length,
                         welsbell_values *values);
 
-/* A head, and the tables that go with it. Lengths are numbers of records. A table that is null has none, whatever its length says. */
+/* A head, and the tables that go with it. Lengths are numbers of records; a table that is null has none, whatever its length is. */
 typedef struct welsbell_queue {
     welsbell_head head;
     welsbell_request *waiting;

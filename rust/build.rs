@@ -1,5 +1,5 @@
-// Links the archive of the proved calls: the file that WELSBELL_ARCHIVE names, or the one that `rt staticlib welsbell` writes in the
-// repository. A copy of it goes to cargo's folder, so that the file may have any name.
+// Links the archive of the proved calls: the file that WELSBELL_ARCHIVE names, or the one that `rt staticlib welsbell` writes in
+// the repository. A copy of it goes to cargo's folder, so that the file may have any name.
 use std::env::var_os;
 use std::fs::copy;
 use std::path::{Path, PathBuf};

@@ -3,8 +3,8 @@
 //! equal to its definition for all input.
 //!
 //! The caller lends the head and the tables and keeps them: a call allocates nothing, keeps nothing from one call to the next and
-//! ends for all input. One that is refused says why and changes nothing, whatever the tables hold. [`Tables`] owns a head and tables
-//! of a size that is known beforehand; a [`Queue`] borrows them, or any others.
+//! ends for all input. One that is refused says why and changes nothing, whatever the tables hold. [`Tables`] owns a head and
+//! tables of a size that is known beforehand; a [`Queue`] borrows them, or any others.
 //!
 //! Every method is safe. The library leaves to its caller that pointers are good for their lengths, that nothing that is lent
 //! overlaps and that nobody else uses it meanwhile; here Rust's borrows keep all of that.

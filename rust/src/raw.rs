@@ -4,9 +4,9 @@
 //!
 //! # Safety
 //!
-//! Each pointer to a table has to be aligned and good for as many entries as the length behind it says, and not null even where that
-//! is 0; a pointer to a head or to values has to be good for one. Nothing that is lent to a call may overlap, and nobody else may
-//! write it, or use what is written, until the call is over.
+//! Each pointer to a table has to be aligned and good for as many entries as the length behind it says, and not null even where
+//! that is 0; a pointer to a head or to values has to be good for one. Nothing that is lent to a call may overlap, and nobody else
+//! may write it, or use what is written, until the call is over.
 use crate::{Head, Request};
 
 pub const OPENED: u64 = 0x81;

@@ -18,8 +18,8 @@ pub fn answer(kind: u64, values: &Values) -> Vec<u64> {
 // get pointers that may be written through, so that a write would show.
 macro_rules! lend {
     ($exported:ident, $tables:ident, $values:ident $(, $argument:expr)*) => {
-        // SAFETY: the head and the values are five numbers, as a head of the wrapper is; each other pointer is to as many entries as
-        // the length behind it says, and all are lent for this call alone.
+        // SAFETY: the head is five numbers, as a head of the wrapper is, and so are the values; each other pointer is to as many
+        // entries as the length behind it says, and all are lent for this call alone.
         unsafe {
             raw::$exported(
                 $tables.head.as_mut_ptr().cast(),
