@@ -12,7 +12,10 @@ fn folder(variable: &str) -> PathBuf {
 }
 
 fn missing(archive: &Path, reason: &str) -> ! {
-    eprintln!("The archive of the proved calls cannot be read: {}: {reason}.", archive.display());
+    eprintln!(
+        "The archive of the proved calls cannot be read: {}: {reason}.",
+        archive.display()
+    );
     eprintln!("`rt staticlib welsbell`, in Welsbell's repository, writes it to target/staticlib/libwelsbell.a.");
     eprintln!("Where this crate stands elsewhere, set {VARIABLE} to that file's path.");
     exit(1)

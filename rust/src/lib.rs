@@ -231,14 +231,26 @@ impl Display for Answer {
             Answer::Opened => write!(f, "opened"),
             Answer::Kept { number, place } => write!(f, "number {number} is kept, at place {place}"),
             Answer::Dropped { number, victim, client } => {
-                write!(f, "number {number} is one too many, number {victim} of client {client} is dropped")
+                write!(
+                    f,
+                    "number {number} is one too many, number {victim} of client {client} is dropped"
+                )
             }
             Answer::Served { slot, number, client } => {
                 write!(f, "number {number} of client {client} is served in slot {slot}")
             }
             Answer::Idle { slot } => write!(f, "nothing waits in slot {slot}"),
-            Answer::Reported { client, submitted, served, dropped, waiting } => {
-                write!(f, "client {client}: {submitted} submitted, {served} served, {dropped} dropped, {waiting} waiting")
+            Answer::Reported {
+                client,
+                submitted,
+                served,
+                dropped,
+                waiting,
+            } => {
+                write!(
+                    f,
+                    "client {client}: {submitted} submitted, {served} served, {dropped} dropped, {waiting} waiting"
+                )
             }
             Answer::Charted { count } => write!(f, "{count} waiting"),
             Answer::Refused(refusal) => write!(f, "refused, number {}: {refusal}", refusal.number()),
@@ -261,8 +273,18 @@ impl<const RECORDS: usize, const CLIENTS: usize> Tables<RECORDS, CLIENTS> {
     /// All zero, to be opened. It is `const`, so that tables may be a `static`.
     pub const fn new() -> Self {
         Tables {
-            head: Head { clients: 0, period: 0, clock: 0, last: 0, waiting: 0 },
-            waiting: [Request { deadline: 0, number: 0, client: 0 }; RECORDS],
+            head: Head {
+                clients: 0,
+                period: 0,
+                clock: 0,
+                last: 0,
+                waiting: 0,
+            },
+            waiting: [Request {
+                deadline: 0,
+                number: 0,
+                client: 0,
+            }; RECORDS],
             submitted: [0; CLIENTS],
             served: [0; CLIENTS],
             dropped: [0; CLIENTS],

@@ -16,7 +16,6 @@ use base.Logic.{SProp, ent, sep, emp, id⊢, via, fst∗, emp∗}
 use base.Fml.{Lft, GName, Share, Fml, fsep, flft, fat, froom, fdies, fres}
 use prog.Wp.{Heap, Calls, Loops, Tables, WpFn}
 use ghost.Atoms.{Atoms, sem}
-use contract.Monad.{fact, factI}
 use contract.Lifetimes.{Lfts, Shares, toks, AllOutlive}
 use sound.WpLaws.{WpFn-mono}
 use types.Kit.{Go, Given, Item, ‵, raw, _⊛_, ⋆, nth, put, push, pop, ++⊢, ⊢++, Goal, runs, atRet, allocs, params′, passes, prop, Sq, _$_, _∵_, !, qed, by, move, keep, use0, use1, use2, drop, split, join, fsplit, fsplit3, fjoin, feqI, suffices, frame, updating, now as at-once, done}
@@ -24,7 +23,7 @@ use types.Run.{Writes, init, enter, alloc1, alloc0, params1, pass1, pass0}
 use denote.RattleType.{RattleType, Denots, Valss, flat, mirs, owns}
 use denote.Laws.{Typed, Is, Are, Ises, Spells, valss, Tellss, Lawfuls, all-typed}
 use denote.Ref.{RefT, name, now, ptr, at-last, ptr-vals, MutRef, ShrRef, mut-tells, shr-tells, mut-lawful, shr-lawful}
-use denote.Slice.{MutSlice, ShrSlice, Room, slice-vals, finally, res-finally, codedHoleys, heres, mut-slice-tells, shr-slice-tells, mut-slice-lawful, shr-slice-lawful}
+use denote.Slice.{MutSlice, ShrSlice, slice-vals, finally, res-finally, codedHoleys, heres, mut-slice-tells, shr-slice-tells, mut-slice-lawful, shr-slice-lawful}
 use denote.Exit.{yes, left}
 use denote.Signature.{Slot, Signature, plain, typesAt}
 use denote.Steps.{nothing}

@@ -806,7 +806,11 @@ fn wrapper(l: &mut Library) {
         let answer = call(&mut tables);
         l.same("answer", &[Answer::Refused(refusal)], &[answer]);
         l.same("number", &[number], &[refusal.number()]);
-        l.same("words", &[format!("refused, number {number}: {refusal}")], &[answer.to_string()]);
+        l.same(
+            "words",
+            &[format!("refused, number {number}: {refusal}")],
+            &[answer.to_string()],
+        );
         l.calls += 2;
     }
     l.same("all refusals", &REFUSALS.map(|(refusal, _, _)| refusal), &Refusal::ALL);
