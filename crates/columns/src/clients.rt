@@ -11,11 +11,14 @@ ghost use Rattle.spec.specs.Calls.{isPeriodStart};
 ghost use Rattle.columns.specs.Clients.{changedAt, changedAll, saturatingNext, moreSubmitted, moreServed, moreDropped};
 ghost use Rattle.columns.specs.Clients.{waitingCount, restartedCounts, restartedNumbers};
 
+// How many numbers a record is.
+pub const WIDTH: usize = 3;
+
 // How many whole records the numbers hold.
 pub fn record_count(numbers: &[u32]) -> usize
     ensures { λ r. ⌜ r ≡ length (recordsOf (now (numbers .entry))) ⌝ }
 {
-    numbers.len() / 3
+    numbers.len() / WIDTH
 }
 
 // Whether so many numbers are one record for each of so many clients. By division, since a product of any number of clients might
@@ -23,7 +26,7 @@ pub fn record_count(numbers: &[u32]) -> usize
 pub fn are_records(count: usize, clients: u64) -> bool
     ensures { λ r. ⌜ r ≡ eqb count (width * clients) ⌝ }
 {
-    (count % 3 == 0) & ((count / 3) as u64 == clients)
+    (count % WIDTH == 0) & ((count / WIDTH) as u64 == clients)
 }
 
 // The record at an index.
@@ -31,7 +34,7 @@ pub fn get(numbers: &[u32], i: usize) -> Counts
     requires { ⌜ width * i + 2 < length (now numbers) ⌝ }
     ensures { λ r. ⌜ r ≡ getD (recordsOf (now (numbers .entry))) i zeroCounts ⌝ }
 {
-    let at = 3 * i;
+    let at = WIDTH * i;
     Counts {
         submitted: numbers[at],
         served: numbers[at + 1],
@@ -44,7 +47,7 @@ pub fn put(numbers: &mut [u32], i: usize, k: Counts)
     requires { ⌜ width * i + 2 < length (now numbers) ⌝ }
     ensures { λ _. ⌜ now (numbers .exit) ≡ changedAt (λ _. k) i (now (numbers .entry)) ⌝ }
 {
-    let at = 3 * i;
+    let at = WIDTH * i;
     numbers[at] = k.submitted;
     numbers[at + 1] = k.served;
     numbers[at + 2] = k.dropped;

@@ -1,6 +1,6 @@
 -- One turn in the terms of its walk: each part is told by an equation, and the tables come back with the lent parts in front.
 -- Assumes nothing.
-use Prim.Native.Nat.{ℕ, _+_, _≤_}
+use Prim.Native.Nat.{ℕ, _+_, _≤_, _*_}
 use mathlib.Core.Bool.{Bool, true, false, not}
 use mathlib.Core.List.{List, _++_}
 use mathlib.Core.Path.{_≡_, refl}
@@ -11,21 +11,21 @@ use Rattle.spec.specs.declared.types.Frame.{Frame}
 use Rattle.spec.specs.declared.types.Frame.the-variants.{Open, Submit, Tick, Report, Chart, Bad}
 use Rattle.spec.specs.declared.types.Head.{Head}
 use Rattle.spec.specs.declared.types.Request.{Request}
-use Rattle.spec.specs.Tables.{mostRecords, mostClients}
+use Rattle.spec.specs.Tables.{mostRecords, mostClients, width}
 use Rattle.frame.specs.Written.{mostBytes, replyBytes, CanDraw}
 use Rattle.spec.specs.Tables.{stateOf}
 use Rattle.decide.specs.declared.types.Reply.{Reply}
 use Rattle.session.specs.declared.types.Session.{Session}
 use Rattle.session.specs.declared.types.Fed.{Fed}
 use Rattle.session.specs.declared.types.Turn.{Turn}
-use Rattle.session.specs.declared.types.Lent.{Lent}
+use Rattle.session.specs.declared.types.Share.{Share}
 use Rattle.session.specs.Answers.{Answered}
-use Rattle.session.specs.Standing.{doFit, recordsFor, clientsFor}
-use Rattle.session.specs.Feeding.{Next, Steps}
+use Rattle.session.specs.Standing.{reservedOf, doFit, recordsFor, numbersFor}
+use Rattle.session.specs.Feeding.{Next, canWith, Steps}
 use Rattle.session.proofs.Laws.Lending.{fit-facts, up-most}
 use Rattle.session.proofs.Laws.Replied.{Replied}
 use Rattle.session.proofs.Laws.Replies.{replied}
-use Rattle.session.proofs.Stepping.{canWith, answered, next-fits, next-room, answers}
+use Rattle.session.proofs.Stepping.{answered, next-fits, next-room, answers}
 
 pub is-true : (b : Bool) → T b → b ≡ true
 is-true true h = refl
@@ -36,8 +36,8 @@ is-false true h = absurd h
 is-false false h = refl
 
 -- how much of the tables is lent
-abbrev pub lentFor : Turn → Fed → Lent
-lentFor turn fed = record { records = recordsFor (turn .frame) (fed .session); clients = clientsFor (turn .frame) (fed .session) }
+abbrev pub shareFor : Turn → Fed → Share
+shareFor turn fed = record { records = recordsFor (turn .frame) (fed .session); numbers = numbersFor (turn .frame) (fed .session) }
 
 records-most : (frame : Frame) (s : Session) → recordsFor frame s ≤ mostRecords
 unfolding recordsFor
@@ -48,45 +48,43 @@ records-most (Report client) s = up-most mostRecords (s .records)
 records-most Chart s = up-most mostRecords (s .records)
 records-most Bad s = up-most mostRecords (s .records)
 
-clients-most : (frame : Frame) (s : Session) → clientsFor frame s ≤ mostClients
-unfolding clientsFor
-clients-most (Open setup records) s = up-most mostClients (setup .clients)
-clients-most (Submit client deadline) s = up-most mostClients (s .head .setup .clients)
-clients-most Tick s = up-most mostClients (s .head .setup .clients)
-clients-most (Report client) s = up-most mostClients (s .head .setup .clients)
-clients-most Chart s = up-most mostClients (s .head .setup .clients)
-clients-most Bad s = up-most mostClients (s .head .setup .clients)
+numbers-most : (frame : Frame) (s : Session) → numbersFor frame s ≤ width * mostClients
+unfolding numbersFor
+numbers-most (Open setup records) s = omega (arith, up-most mostClients (setup .clients))
+numbers-most (Submit client deadline) s = omega (arith, up-most mostClients (s .head .setup .clients))
+numbers-most Tick s = omega (arith, up-most mostClients (s .head .setup .clients))
+numbers-most (Report client) s = omega (arith, up-most mostClients (s .head .setup .clients))
+numbers-most Chart s = omega (arith, up-most mostClients (s .head .setup .clients))
+numbers-most Bad s = omega (arith, up-most mostClients (s .head .setup .clients))
 
-module _ (line : List ℕ) (behind : ℕ) (fed : Fed) (ws : List Request) (su se dr st out : List ℕ) (turn : Turn) (goes : turn .ends ≡ false)
-    (next : Next line behind fed (canWith fed ws su se dr st out) turn) (l : Lent) (lends : l ≡ lentFor turn fed) where
-  fits : doFit (fed .session) (length ws) (length su) (length se) (length dr) (length st) ≡ true
-  fits = next-fits line behind fed ws su se dr st out turn goes next
+module _ (line : List ℕ) (behind : ℕ) (fed : Fed) (ws : List Request) (xs st out : List ℕ) (turn : Turn) (goes : turn .ends ≡ false)
+    (next : Next line behind fed (canWith fed (reservedOf ws xs) st out) turn) (l : Share) (lends : l ≡ shareFor turn fed) where
+  fits : doFit (fed .session) (length ws) (length xs) (length st) ≡ true
+  fits = next-fits line behind fed (reservedOf ws xs) st out turn goes next
 
   -- it is within the tables
-  pub lent-within : (l .records ≤ length ws) × (l .clients ≤ length su) × (l .clients ≤ length se) × (l .clients ≤ length dr)
+  pub lent-within : (l .records ≤ length ws) × (l .numbers ≤ length xs)
   lent-within =
-      let f = fit-facts (fed .session) (length ws) (length su) (length se) (length dr) (length st) fits in
+      let f = fit-facts (fed .session) (length ws) (length xs) (length st) fits in
       let n : l .records ≤ mostRecords = rw lends (records-most (turn .frame) (fed .session)) in
-      let c : l .clients ≤ mostClients = rw lends (clients-most (turn .frame) (fed .session)) in
-      (omega (arith, f .waiting-long, n), omega (arith, f .submitted-long, c), omega (arith, f .served-long, c), omega (arith, f .dropped-long, c))
+      let c : l .numbers ≤ width * mostClients = rw lends (numbers-most (turn .frame) (fed .session)) in
+      (omega (arith, f .waiting-long, n), omega (arith, f .numbers-long, c))
 
   module _ (asked : Frame) (head : Head) (asks : asked ≡ turn .frame) (heads : head ≡ fed .session .head) (a : Reply)
-      (zs : List Request) (us vs ds st′ : List ℕ)
-      (given : Answered asked st (stateOf head (take (l .records) ws) (take (l .clients) su) (take (l .clients) se) (take (l .clients) dr))
-      (take (l .clients) su) (take (l .clients) se) (take (l .clients) dr) a zs us vs ds st′)
-      (ws-long : length zs ≡ length (take (l .records) ws)) (su-long : length us ≡ length (take (l .clients) su))
-      (se-long : length vs ≡ length (take (l .clients) se)) (dr-long : length ds ≡ length (take (l .clients) dr)) where
-    turn-replied : Replied (turn .frame) (fed .session) ws su se dr st a zs us vs ds st′
+      (zs : List Request) (ys st′ : List ℕ)
+      (given : Answered asked st (stateOf head (take (l .records) ws) (take (l .numbers) xs)) a (stateOf (a .head) zs ys) st′)
+      (ws-long : length zs ≡ length (take (l .records) ws)) (xs-long : length ys ≡ length (take (l .numbers) xs)) where
+    turn-replied : Replied (turn .frame) (fed .session) (reservedOf ws xs) st a zs ys st′
     turn-replied =
-        replied (turn .frame) (fed .session) ws su se dr st fits a zs us vs ds st′ (rw (asks, heads, lends) at given)
-        (rw lends at ws-long) (rw lends at su-long) (rw lends at se-long) (rw lends at dr-long)
+        replied (turn .frame) (fed .session) ws xs st fits a zs ys st′ (rw (asks, heads, lends) at given)
+        (rw lends at ws-long) (rw lends at xs-long)
 
     -- the reply can be written, and once it is, the turn is done
     pub turn-goes : ((fed .put + mostBytes ≤ length out) × CanDraw (a .answer) st′)
         × ((out′ : List ℕ) (put : ℕ) (r : Fed)
         → (fed .put ≤ put) × (put ≤ fed .put + mostBytes) × (take put out′ ≡ take (fed .put) out ++ replyBytes (a .head .setup) (a .answer) st′)
         → r ≡ answered fed turn a put
-        → Steps line behind fed ws su se dr st out r (zs ++ drop (l .records) ws) (us ++ drop (l .clients) su) (vs ++ drop (l .clients) se)
-        (ds ++ drop (l .clients) dr) out′)
+        → Steps line behind fed (reservedOf ws xs) st out r
+        (reservedOf (zs ++ drop (l .records) ws) (ys ++ drop (l .numbers) xs)) out′)
     turn-goes =
-        ((next-room line behind fed ws su se dr st out turn goes next, turn-replied .draws), λ out′ put r written is. rw lends (answers turn put goes next turn-replied written is))
+        ((next-room line behind fed (reservedOf ws xs) st out turn goes next, turn-replied .draws), λ out′ put r written is. rw lends (answers turn put goes next turn-replied written is))

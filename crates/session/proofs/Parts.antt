@@ -17,16 +17,15 @@ use Rattle.frame.specs.Lines.{NoFeed, slice}
 use Rattle.frame.specs.Written.{mostBytes}
 use Rattle.session.specs.declared.types.Session.{Session}
 use Rattle.session.specs.declared.types.Fed.{Fed}
-use Rattle.session.specs.Standing.{heldIn, doFit, longestFrame, Begun, Reached, Leads}
-use Rattle.session.specs.Feeding.{FedBy, Left, owed}
+use Rattle.session.specs.Standing.{Reserved, heldIn, fitsIn, longestFrame, Begun, Reached, Leads}
+use Rattle.session.specs.Feeding.{FedBy, Left, canWith, owed}
 use Rattle.session.specs.Parts.{atStart, Lent, Made, Through, begins, goes}
 use Rattle.session.proofs.Laws.Texts.{begun, text-append, slice-goes-on, take-slice}
 use Rattle.session.proofs.Laws.Leading.{begun-text, leads-none, leads-then}
-use Rattle.session.proofs.Stepping.{canWith}
 
 -- ---- the calls one after the other
 abbrev held : Lent → State
-held l = heldIn (l .session) (l .waitingTable) (l .submitted) (l .served) (l .dropped)
+held l = heldIn (l .session) (l .tables)
 
 -- what is used of the input leads to what is written, whatever calls used it
 record LedBy (input : List ℕ) (used : ℕ) (answers : List ℕ) (l : Lent) : Type 0 where
@@ -35,7 +34,7 @@ record LedBy (input : List ℕ) (used : ℕ) (answers : List ℕ) (l : Lent) : T
 
 -- before the first call, where no table is in use
 led-at-start : (input : List ℕ) (l : Lent) → l .session ≡ atStart → LedBy input 0 [] l
-unfolding rowsOf stateAtStart
+unfolding stateAtStart
 led-at-start input l e =
     record {
       within = omega arith;
@@ -59,7 +58,7 @@ module _ (input : List ℕ) (used : ℕ) (answers : List ℕ) (before after : Le
         leads =
             rw (made .session-kept, used-next cut (made .fed .within))
             (leads-then stateAtStart false (take used input) (held before) (before .session .skip) answers (take (r .used) part)
-            (heldIn (r .session) (after .waitingTable) (after .submitted) (after .served) (after .dropped)) (r .session .skip)
+            (heldIn (r .session) (after .tables)) (r .session .skip)
             (take (r .put) out) (led .leads) (made .fed .leads));
       }
 
@@ -111,13 +110,13 @@ parts-together input {l = l} {used = used} {answers = answers} calls no-feed =
     sym (session-is input used (led .within) no-feed (held l) (l .session .skip) answers (led .leads))
 
 -- so after a call that got all that was left and does not say that lines may be left
-module _ (input : List ℕ) (used : ℕ) {part : List ℕ} {session : Session} {ws : List Request} {su se dr st out₀ : List ℕ} {r : Fed}
-    {ws′ : List Request} {su′ se′ dr′ out : List ℕ} (all : part ≡ drop used input)
-    (f : FedBy session part ws su se dr st out₀ r ws′ su′ se′ dr′ out) where
+module _ (input : List ℕ) (used : ℕ) {part : List ℕ} {session : Session} {t : Reserved} {st out₀ : List ℕ} {r : Fed}
+    {t′ : Reserved} {out : List ℕ} (all : part ≡ drop used input)
+    (f : FedBy session part t st out₀ r t′ out) where
   pub no-feed-left : r .full ≡ false → NoFeed input (used + r .used) (length input)
   no-feed-left e = go (r .full) e (f .left)
     where
-      go : (full : Bool) → full ≡ false → Left full part (r .used) (canWith r ws su se dr st out₀)
+      go : (full : Bool) → full ≡ false → Left full part (r .used) (canWith r t st out₀)
           → NoFeed input (used + r .used) (length input)
       go true e left k h l g = absurd (false≢true (sym e))
       go false e left k h l g =
@@ -147,28 +146,28 @@ leads-nothing s₀ skip₀ s skip o leads =
     let e : textOf (p ++ []) ≡ begun p = rw (append-nil p) (begun-text skip₀ p b) in
     sym (leads p b .answers) ∙ rw e
 
-module _ {session : Session} {part : List ℕ} {ws : List Request} {submitted served dropped starts out : List ℕ} {r : Fed}
-    {ws′ : List Request} {submitted′ served′ dropped′ out′ : List ℕ}
-    (f : FedBy session part ws submitted served dropped starts out r ws′ submitted′ served′ dropped′ out′)
-    (fits : doFit session (length ws) (length submitted) (length served) (length dropped) (length starts) ≡ true)
+module _ {session : Session} {part : List ℕ} {t : Reserved} {starts out : List ℕ} {r : Fed}
+    {t′ : Reserved} {out′ : List ℕ}
+    (f : FedBy session part t starts out r t′ out′)
+    (fits : fitsIn session t starts ≡ true)
     (room : mostBytes ≤ length out) where
   put-none : r .used ≡ 0 → r .put ≡ 0
   put-none none =
       let nothing : take (r .put) out′ ≡ [] =
-      leads-nothing (heldIn session ws submitted served dropped) (session .skip)
-      (heldIn (r .session) ws′ submitted′ served′ dropped′) (r .session .skip) (take (r .put) out′) (rw none at (f .leads))
+      leads-nothing (heldIn session t) (session .skip)
+      (heldIn (r .session) t′) (r .session .skip) (take (r .put) out′) (rw none at (f .leads))
       in
       omega (arith, f .room, f .long .out-long, length-take (r .put) out′, ap length nothing)
 
-  can-still : r .used ≡ 0 → canWith r ws submitted served dropped starts out ≡ true
+  can-still : r .used ≡ 0 → canWith r t starts out ≡ true
   can-still none =
-      and-both (doFit (r .session) (length ws) (length submitted) (length served) (length dropped) (length starts))
+      and-both (fitsIn (r .session) t starts)
       (leb (r .put + mostBytes) (length out)) (f .fits fits)
       (le-leb (r .put + mostBytes) (length out) (omega (arith, put-none none)))
 
   pub feeds-on : r .full ≡ true → 0 < r .used
   feeds-on e =
-      let cannot : canWith r ws submitted served dropped starts out ≡ false = rw e at (f .left) in
+      let cannot : canWith r t starts out ≡ false = rw e at (f .left) in
       elim (order (r .used) 0) [
         | le h ↦ absurd (false≢true (sym cannot ∙ can-still (omega arith)))
         | gt h ↦ h

@@ -18,18 +18,13 @@ use Rattle.session.specs.declared.types.Session.{Session}
 use Rattle.session.specs.declared.types.Fed.{Fed}
 use Rattle.session.specs.declared.types.Turn.{Turn}
 use Rattle.frame.specs.Lines.{slice}
-use Rattle.session.specs.Standing.{heldIn, doFit, recordsFor, clientsFor, recordsAfter, Leads}
-use Rattle.session.specs.Feeding.{HandsBack, Whole, None, NextIf, Next, Left, Ends, can, Stepped, Steps, SameLengths, FedBy}
-use Rattle.session.proofs.Laws.Replied.{Replied}
+use Rattle.session.specs.Standing.{Reserved, heldIn, doFit, fitsIn, recordsAfter, Leads}
+use Rattle.session.specs.Feeding.{HandsBack, Whole, None, NextIf, Next, Left, Ends, canWith, Stepped, Steps, SameLengths, FedBy}
+use Rattle.session.proofs.Laws.Replied.{Replied, putBack}
 use Rattle.session.proofs.Laws.Texts.{take-slice}
 use Rattle.session.proofs.Laws.Leading.{leads-none, leads-then, whole-leads, none-leads}
 
 -- ---- one turn
--- whether a line can be answered with these tables
-abbrev pub canWith : Fed → List Request → List ℕ → List ℕ → List ℕ → List ℕ → List ℕ → Bool
-canWith fed ws submitted served dropped starts out =
-    can fed (length ws) (length submitted) (length served) (length dropped) (length starts) (length out)
-
 module _ (input : List ℕ) (fed : Fed) (s : State) (s₀ : State) (k₀ : Bool) (o : List ℕ) (turn : Turn)
     (so-far : Leads s₀ k₀ (take (fed .used) input) s (fed .session .skip) o) where
   -- what led up to a line leads on over it
@@ -80,10 +75,10 @@ next-if : (line : List ℕ) (behind : ℕ) (fed : Fed) (c : Bool) (turn : Turn) 
     → NextIf b (turn .full) line behind fed c turn
 next-if line behind fed c turn b e next = subst (λ (x : Bool). NextIf x (turn .full) line behind fed c turn) e next
 
-module _ {line : List ℕ} {behind : ℕ} {fed : Fed} {ws : List Request} {submitted served dropped starts out : List ℕ} (turn : Turn) where
-  stop-by : (full : Bool) → fed .put ≤ length out → NextIf true full line behind fed (canWith fed ws submitted served dropped starts out) turn
+module _ {line : List ℕ} {behind : ℕ} {fed : Fed} {t : Reserved} {starts out : List ℕ} (turn : Turn) where
+  stop-by : (full : Bool) → fed .put ≤ length out → NextIf true full line behind fed (canWith fed t starts out) turn
       → (input : List ℕ) → HandsBack input (fed .used) line behind
-      → Stepped input fed ws submitted served dropped starts out (stopped fed turn full) ws submitted served dropped out
+      → Stepped input fed t starts out (stopped fed turn full) t out
   unfolding doFit
   stop-by true put w input h =
       record {
@@ -103,36 +98,36 @@ module _ {line : List ℕ} {behind : ℕ} {fed : Fed} {ws : List Request} {submi
         fits = λ h. h;
         leads =
             λ s₀ k₀ h.
-            leads-begun input fed (heldIn (fed .session) ws submitted served dropped) s₀ k₀ (take (fed .put) out) turn h n;
+            leads-begun input fed (heldIn (fed .session) t) s₀ k₀ (take (fed .put) out) turn h n;
         ends = (n .left, n .no-feed);
       }
 
   pub stops : {r : Fed} → turn .ends ≡ true → fed .put ≤ length out
-      → Next line behind fed (canWith fed ws submitted served dropped starts out) turn → r ≡ stopped fed turn (turn .full)
-      → Steps line behind fed ws submitted served dropped starts out r ws submitted served dropped out
+      → Next line behind fed (canWith fed t starts out) turn → r ≡ stopped fed turn (turn .full)
+      → Steps line behind fed t starts out r t out
   stops e put next is =
       rw is (record {
         used-so = λ goes. absurd (false≢true goes);
         stepped =
             stop-by (turn .full) put
-            (next-if line behind fed (canWith fed ws submitted served dropped starts out) turn true e next);
+            (next-if line behind fed (canWith fed t starts out) turn true e next);
       })
 
 -- what must hold before a line is answered
-module _ (line : List ℕ) (behind : ℕ) (fed : Fed) (ws : List Request) (submitted served dropped starts out : List ℕ) (turn : Turn)
-    (goes : turn .ends ≡ false) (next : Next line behind fed (canWith fed ws submitted served dropped starts out) turn) where
-  next-is : NextIf false (turn .full) line behind fed (canWith fed ws submitted served dropped starts out) turn
-  next-is = next-if line behind fed (canWith fed ws submitted served dropped starts out) turn false goes next
+module _ (line : List ℕ) (behind : ℕ) (fed : Fed) (t : Reserved) (starts out : List ℕ) (turn : Turn)
+    (goes : turn .ends ≡ false) (next : Next line behind fed (canWith fed t starts out) turn) where
+  next-is : NextIf false (turn .full) line behind fed (canWith fed t starts out) turn
+  next-is = next-if line behind fed (canWith fed t starts out) turn false goes next
 
-  pub next-fits : doFit (fed .session) (length ws) (length submitted) (length served) (length dropped) (length starts) ≡ true
+  pub next-fits : fitsIn (fed .session) t starts ≡ true
   next-fits =
-      and-left (doFit (fed .session) (length ws) (length submitted) (length served) (length dropped) (length starts))
+      and-left (fitsIn (fed .session) t starts)
       (leb (fed .put + mostBytes) (length out)) (next-is .0)
 
   pub next-room : fed .put + mostBytes ≤ length out
   next-room =
       leb-true (fed .put + mostBytes) (length out)
-      (and-right (doFit (fed .session) (length ws) (length submitted) (length served) (length dropped) (length starts))
+      (and-right (fitsIn (fed .session) t starts)
       (leb (fed .put + mostBytes) (length out)) (next-is .0))
 
   next-used : turn .used ≡ behind
@@ -141,27 +136,24 @@ module _ (line : List ℕ) (behind : ℕ) (fed : Fed) (ws : List Request) (submi
   next-whole : (input : List ℕ) → HandsBack input (fed .used) line behind → Whole input (fed .used) (fed .session .skip) turn
   next-whole = next-is .2
 
--- the parts zs, us, vs, ds that the call had come back to the tables
-pub answers : {line : List ℕ} {behind : ℕ} {fed : Fed} {ws : List Request} {submitted served dropped starts out : List ℕ} {r : Fed}
-    {a : Reply} {zs : List Request} {us vs ds starts′ out′ : List ℕ} (turn : Turn) (put : ℕ)
-    → turn .ends ≡ false → Next line behind fed (canWith fed ws submitted served dropped starts out) turn
-    → Replied (turn .frame) (fed .session) ws submitted served dropped starts a zs us vs ds starts′
+-- the parts zs and ys that the call had come back to the tables
+pub answers : {line : List ℕ} {behind : ℕ} {fed : Fed} {t : Reserved} {starts out : List ℕ} {r : Fed}
+    {a : Reply} {zs : List Request} {ys starts′ out′ : List ℕ} (turn : Turn) (put : ℕ)
+    → turn .ends ≡ false → Next line behind fed (canWith fed t starts out) turn
+    → Replied (turn .frame) (fed .session) t starts a zs ys starts′
     → (fed .put ≤ put) × (put ≤ fed .put + mostBytes)
     × (take put out′ ≡ take (fed .put) out ++ replyBytes (a .head .setup) (a .answer) starts′)
     → r ≡ answered fed turn a put
-    → Steps line behind fed ws submitted served dropped starts out r
-    (zs ++ drop (recordsFor (turn .frame) (fed .session)) ws)
-    (us ++ drop (clientsFor (turn .frame) (fed .session)) submitted)
-    (vs ++ drop (clientsFor (turn .frame) (fed .session)) served)
-    (ds ++ drop (clientsFor (turn .frame) (fed .session)) dropped) out′
+    → Steps line behind fed t starts out r
+    (putBack (turn .frame) (fed .session) zs ys t) out′
 unfolding doFit
-answers {line} {behind} {fed} {ws} {submitted} {served} {dropped} {starts} {out} turn put goes next q written is =
-    let m = next-room line behind fed ws submitted served dropped starts out turn goes next in
-    let s : State = heldIn (fed .session) ws submitted served dropped in
+answers {line} {behind} {fed} {t} {starts} {out} turn put goes next q written is =
+    let m = next-room line behind fed t starts out turn goes next in
+    let s : State = heldIn (fed .session) t in
     rw is (record {
-      used-so = λ _. next-used line behind fed ws submitted served dropped starts out turn goes next;
+      used-so = λ _. next-used line behind fed t starts out turn goes next;
       stepped = λ input h.
-          let w = next-whole line behind fed ws submitted served dropped starts out turn goes next input h in
+          let w = next-whole line behind fed t starts out turn goes next input h in
           record {
             onward = omega (arith, w .onward);
             within = w .within;
@@ -177,47 +169,47 @@ answers {line} {behind} {fed} {ws} {submitted} {served} {dropped} {starts} {out}
 -- ---- the turns
 -- where the turns stand that feed a part of the input: what is used so far leads on from the state at entry, and after the last
 -- turn no more is answered. Of the start slots only the number counts
-pub record Feeding (session : Session) (input : List ℕ) (ws : List Request) (submitted served dropped starts out : List ℕ)
-    (fed : Fed) (ws′ : List Request) (submitted′ served′ dropped′ out′ : List ℕ) : Type 0 where
+pub record Feeding (session : Session) (input : List ℕ) (t : Reserved) (starts out : List ℕ)
+    (fed : Fed) (t′ : Reserved) (out′ : List ℕ) : Type 0 where
   pub within : fed .used ≤ length input
   pub room : fed .put ≤ length out
-  pub long : SameLengths ws submitted served dropped out ws′ submitted′ served′ dropped′ out′
+  pub long : SameLengths t out t′ out′
   pub fits :
-      doFit session (length ws) (length submitted) (length served) (length dropped) (length starts) ≡ true
-      → doFit (fed .session) (length ws) (length submitted) (length served) (length dropped) (length starts) ≡ true
+      fitsIn session t starts ≡ true
+      → fitsIn (fed .session) t starts ≡ true
   pub leads :
-      Leads (heldIn session ws submitted served dropped) (session .skip) (take (fed .used) input)
-      (heldIn (fed .session) ws′ submitted′ served′ dropped′) (fed .session .skip) (take (fed .put) out′)
+      Leads (heldIn session t) (session .skip) (take (fed .used) input)
+      (heldIn (fed .session) t′) (fed .session .skip) (take (fed .put) out′)
   pub left : fed .going ≡ false
-      → Left (fed .full) input (fed .used) (canWith fed ws submitted served dropped starts out)
+      → Left (fed .full) input (fed .used) (canWith fed t starts out)
 
 -- how many turns there can still be
 abbrev pub turnsLeft : List ℕ → Fed → ℕ
 turnsLeft input fed = toNumber (fed .going) + (length input - fed .used)
 
 -- before the first turn
-pub fed-begins : {session : Session} {input : List ℕ} {ws : List Request} {submitted served dropped starts out : List ℕ}
-    → Feeding session input ws submitted served dropped starts out
-    (record { session = session; used = 0; put = 0; going = true; full = false }) ws submitted served dropped out
-fed-begins {session} {input} {ws} {submitted} {served} {dropped} {starts} {out} =
+pub fed-begins : {session : Session} {input : List ℕ} {t : Reserved} {starts out : List ℕ}
+    → Feeding session input t starts out
+    (record { session = session; used = 0; put = 0; going = true; full = false }) t out
+fed-begins {session} {input} {t} {starts} {out} =
     record {
       within = omega arith;
       room = omega arith;
       long = omega arith;
       fits = λ h. h;
-      leads = leads-none (heldIn session ws submitted served dropped) (session .skip);
+      leads = leads-none (heldIn session t) (session .skip);
       left = λ e. absurd (false≢true (sym e));
     }
 
 -- a turn
-module _ {input : List ℕ} {fed : Fed} {ws₁ : List Request} {submitted₁ served₁ dropped₁ starts₁ out₁ : List ℕ}
-    {r : Fed} {ws₂ : List Request} {submitted₂ served₂ dropped₂ out₂ : List ℕ}
-    (t : Stepped input fed ws₁ submitted₁ served₁ dropped₁ starts₁ out₁ r ws₂ submitted₂ served₂ dropped₂ out₂) where
+module _ {input : List ℕ} {fed : Fed} {t₁ : Reserved} {starts₁ out₁ : List ℕ}
+    {r : Fed} {t₂ : Reserved} {out₂ : List ℕ}
+    (t : Stepped input fed t₁ starts₁ out₁ r t₂ out₂) where
   ends-as : (b : Bool) → r .going ≡ b
-      → Ends b (r .full) input (fed .used) (r .used) (canWith r ws₁ submitted₁ served₁ dropped₁ starts₁ out₁)
+      → Ends b (r .full) input (fed .used) (r .used) (canWith r t₁ starts₁ out₁)
   ends-as b e =
       subst
-      (λ (x : Bool). Ends x (r .full) input (fed .used) (r .used) (canWith r ws₁ submitted₁ served₁ dropped₁ starts₁ out₁))
+      (λ (x : Bool). Ends x (r .full) input (fed .used) (r .used) (canWith r t₁ starts₁ out₁))
       e (t .ends)
 
   pub used-rises : r .going ≡ true → fed .used < r .used
@@ -231,12 +223,12 @@ module _ {input : List ℕ} {fed : Fed} {ws₁ : List Request} {submitted₁ ser
       go true e = omega (arith, used-rises e, t .within)
       go false e = omega (arith, t .onward)
 
-  pub fed-steps : {session : Session} {ws : List Request} {submitted served dropped starts out : List ℕ}
-      → Feeding session input ws submitted served dropped starts out fed ws₁ submitted₁ served₁ dropped₁ out₁
-      → SameLengths ws₁ submitted₁ served₁ dropped₁ out₁ ws₂ submitted₂ served₂ dropped₂ out₂
+  pub fed-steps : {session : Session} {t₀ : Reserved} {starts out : List ℕ}
+      → Feeding session input t₀ starts out fed t₁ out₁
+      → SameLengths t₁ out₁ t₂ out₂
       → length starts₁ ≡ length starts
-      → Feeding session input ws submitted served dropped starts out r ws₂ submitted₂ served₂ dropped₂ out₂
-  fed-steps {session} {ws} {submitted} {served} {dropped} {starts} {out} f l n =
+      → Feeding session input t₀ starts out r t₂ out₂
+  fed-steps {session} {t₀} {starts} {out} f l n =
       let k = f .long in
       record {
         within = t .within;
@@ -244,19 +236,19 @@ module _ {input : List ℕ} {fed : Fed} {ws₁ : List Request} {submitted₁ ser
         long = omega (arith, k, l);
         fits =
             λ h.
-            rw (k .waiting-long, k .submitted-long, k .served-long, k .dropped-long, n) at
-            (t .fits (rw (k .waiting-long, k .submitted-long, k .served-long, k .dropped-long, n) (f .fits h)));
-        leads = t .leads (heldIn session ws submitted served dropped) (session .skip) (f .leads);
+            rw (k .waiting-long, k .numbers-long, n) at
+            (t .fits (rw (k .waiting-long, k .numbers-long, n) (f .fits h)));
+        leads = t .leads (heldIn session t₀) (session .skip) (f .leads);
         left =
             λ e.
-            rw (k .waiting-long, k .submitted-long, k .served-long, k .dropped-long, n, k .out-long) at (ends-as false e);
+            rw (k .waiting-long, k .numbers-long, n, k .out-long) at (ends-as false e);
       }
 
 -- after the last turn
-pub fed-ends : {session : Session} {input : List ℕ} {ws : List Request} {submitted served dropped starts out : List ℕ}
-    {fed : Fed} {ws′ : List Request} {submitted′ served′ dropped′ out′ : List ℕ} → fed .going ≡ false
-    → Feeding session input ws submitted served dropped starts out fed ws′ submitted′ served′ dropped′ out′
-    → FedBy session input ws submitted served dropped starts out fed ws′ submitted′ served′ dropped′ out′
+pub fed-ends : {session : Session} {input : List ℕ} {t : Reserved} {starts out : List ℕ}
+    {fed : Fed} {t′ : Reserved} {out′ : List ℕ} → fed .going ≡ false
+    → Feeding session input t starts out fed t′ out′
+    → FedBy session input t starts out fed t′ out′
 fed-ends e f =
     record {
       within = f .within;

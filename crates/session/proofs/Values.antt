@@ -7,15 +7,15 @@ use denote.Laws.{Is}
 use denote.Struct.Laws as LL
 use Rattle.spec.proofs.types.Frame as TF
 use Rattle.spec.proofs.types.Frame.Laws as TF′
-use Rattle.session.specs.declared.types.Lent.{Lent}
+use Rattle.session.specs.declared.types.Share.{Share}
 use Rattle.session.proofs.types.Session as TS
 use Rattle.session.proofs.types.Session.Laws as TS′
 use Rattle.session.proofs.types.Fed as TFed
 use Rattle.session.proofs.types.Fed.Laws as TFed′
 use Rattle.session.proofs.types.Turn as TT
 use Rattle.session.proofs.types.Turn.Laws as TT′
-use Rattle.session.proofs.types.Lent as TL
-use Rattle.session.proofs.types.Lent.Laws as TL′
+use Rattle.session.proofs.types.Share as TL
+use Rattle.session.proofs.types.Share.Laws as TL′
 use Rattle.walk.proofs.Plain.{PlainType, of-struct, of-enum}
 
 abbrev pub SessionT : RattleType
@@ -33,14 +33,14 @@ a-fed = of-struct TFed.the-type TFed′.the-laws TFed′.the-plain (λ x. tt) (�
 abbrev pub a-turn : PlainType TT.the-row
 a-turn = of-struct TT.the-type TT′.the-laws TT′.the-plain (λ x. tt) (λ x w. refl)
 
-abbrev pub a-lent : PlainType TL.the-row
-a-lent = of-struct TL.the-type TL′.the-laws TL′.the-plain (λ x. tt) (λ x w. refl)
+abbrev pub a-share : PlainType TL.the-row
+a-share = of-struct TL.the-type TL′.the-laws TL′.the-plain (λ x. tt) (λ x w. refl)
 
 abbrev pub a-frame : PlainType TF.the-row
 a-frame = of-enum TF.the-type TF′.the-laws TF′.the-plain tt (λ x. tt) (λ x w. refl)
 
-pub records-fit : (l : Lent) → Is TL.the-row l (a-lent .val l ∷ []) → l .records < 2 ^ 64
+pub records-fit : (l : Share) → Is TL.the-row l (a-share .val l ∷ []) → l .records < 2 ^ 64
 records-fit l is = LL.owed TL.the-type TL′.the-laws l _ is .0 .1
 
-pub clients-fit : (l : Lent) → Is TL.the-row l (a-lent .val l ∷ []) → l .clients < 2 ^ 64
-clients-fit l is = LL.owed TL.the-type TL′.the-laws l _ is .1 .0 .1
+pub numbers-fit : (l : Share) → Is TL.the-row l (a-share .val l ∷ []) → l .numbers < 2 ^ 64
+numbers-fit l is = LL.owed TL.the-type TL′.the-laws l _ is .1 .0 .1

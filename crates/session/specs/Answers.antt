@@ -5,11 +5,9 @@ use mathlib.Core.List.{List}
 use Rattle.spec.specs.declared.types.Answer.the-variants.{Refused}
 use Rattle.spec.specs.declared.types.Frame.{Frame}
 use Rattle.spec.specs.declared.types.Frame.the-variants.{Open, Submit, Tick, Report, Chart, Bad}
-use Rattle.spec.specs.declared.types.Request.{Request}
 use Rattle.spec.specs.Tables.{State}
 use Rattle.spec.specs.Calls.{Outcome, openOf, submitOf, tickOf, reportOf, chartOf, chartOutput}
 use Rattle.decide.specs.declared.types.Reply.{Reply}
-use Rattle.queue.specs.Gives.{Gives}
 
 -- what the call gives that a frame asks for, where the chart's output is starts; no call is made for a line that is no frame
 unfoldable pub outcomeFor : Frame → List ℕ → State → Outcome
@@ -29,7 +27,9 @@ startsFor (Report client) starts s = starts
 startsFor Chart starts s = chartOutput starts s
 startsFor Bad starts s = starts
 
-pub record Answered (frame : Frame) (starts₀ : List ℕ) (s : State) (submitted₀ served₀ dropped₀ : List ℕ) (r : Reply) (ws : List Request)
-    (submitted served dropped starts : List ℕ) : Type 0 where
-  pub gives : Gives (outcomeFor frame starts₀ s) submitted₀ served₀ dropped₀ r ws submitted served dropped
-  pub starts-same : starts ≡ startsFor frame starts₀ s
+-- the answer, the head handed back with the tables, and the chart's output are what the frame's call gives
+pub record Answered (frame : Frame) (starts₀ : List ℕ) (before : State) (r : Reply) (after : State) (starts : List ℕ) : Type 0 where
+  pub answer-same : r .answer ≡ outcomeFor frame starts₀ before .answer
+  pub head-kept : after .head ≡ r .head
+  pub after-same : after ≡ outcomeFor frame starts₀ before .after
+  pub starts-same : starts ≡ startsFor frame starts₀ before

@@ -6,7 +6,6 @@ use mathlib.Core.Path.{_≡_}
 use lib.Dec.{leb}
 use lib.ListN.{length, take}
 use Rattle.spec.specs.declared.types.Answer.the-variants.{Refused}
-use Rattle.spec.specs.declared.types.Request.{Request}
 use Rattle.spec.specs.Tables.{State}
 use Rattle.spec.specs.Frames.{frameOf, answerLine}
 use Rattle.spec.specs.Session.{textOf}
@@ -15,7 +14,7 @@ use Rattle.frame.specs.Written.{longestLine, mostBytes}
 use Rattle.session.specs.declared.types.Session.{Session}
 use Rattle.session.specs.declared.types.Fed.{Fed}
 use Rattle.session.specs.declared.types.Turn.{Turn}
-use Rattle.session.specs.Standing.{heldIn, doFit, longestFrame, Begun, Leads}
+use Rattle.session.specs.Standing.{Reserved, heldIn, doFit, fitsIn, longestFrame, Begun, Leads}
 
 -- ---- what stands next in the input, from `used` on
 -- what a reader of the input that stands at used hands back: a line, and where the reader then stands
@@ -75,59 +74,59 @@ abbrev pub Ends : Bool → Bool → List ℕ → ℕ → ℕ → Bool → Type 0
 Ends true full input before used can = before < used
 Ends false full input before used can = Left full input used can
 
-abbrev pub can : Fed → ℕ → ℕ → ℕ → ℕ → ℕ → ℕ → Bool
-can fed waiting submitted served dropped starts out = canAnswer (doFit (fed .session) waiting submitted served dropped starts) (fed .put) out
+abbrev pub can : Fed → ℕ → ℕ → ℕ → ℕ → Bool
+can fed waiting numbers starts out = canAnswer (doFit (fed .session) waiting numbers starts) (fed .put) out
+
+abbrev pub canWith : Fed → Reserved → List ℕ → List ℕ → Bool
+canWith fed t starts out = can fed (length (t .waitingTable)) (length (t .clientNumbers)) (length starts) (length out)
 
 -- one turn: what led up to where it began leads on to where it ends
-pub record Stepped (input : List ℕ) (fed : Fed) (ws : List Request) (submitted served dropped starts out : List ℕ)
-    (r : Fed) (ws′ : List Request) (submitted′ served′ dropped′ out′ : List ℕ) : Type 0 where
+pub record Stepped (input : List ℕ) (fed : Fed) (t : Reserved) (starts out : List ℕ)
+    (r : Fed) (t′ : Reserved) (out′ : List ℕ) : Type 0 where
   pub onward : fed .used ≤ r .used
   pub within : r .used ≤ length input
   pub room : r .put ≤ length out
   pub fits :
-      doFit (fed .session) (length ws) (length submitted) (length served) (length dropped) (length starts) ≡ true
-      → doFit (r .session) (length ws) (length submitted) (length served) (length dropped) (length starts) ≡ true
+      fitsIn (fed .session) t starts ≡ true
+      → fitsIn (r .session) t starts ≡ true
   pub leads : (s₀ : State) (skip₀ : Bool)
-      → Leads s₀ skip₀ (take (fed .used) input) (heldIn (fed .session) ws submitted served dropped) (fed .session .skip) (take (fed .put) out)
-      → Leads s₀ skip₀ (take (r .used) input) (heldIn (r .session) ws′ submitted′ served′ dropped′) (r .session .skip) (take (r .put) out′)
+      → Leads s₀ skip₀ (take (fed .used) input) (heldIn (fed .session) t) (fed .session .skip) (take (fed .put) out)
+      → Leads s₀ skip₀ (take (r .used) input) (heldIn (r .session) t′) (r .session .skip) (take (r .put) out′)
   pub ends :
       Ends (r .going) (r .full) input (fed .used) (r .used)
-      (can r (length ws) (length submitted) (length served) (length dropped) (length starts) (length out))
+      (canWith r t starts out)
 
 -- the same of any input of which the reader hands back this line and then stands at behind; while lines may still be answered, the
 -- session goes on where the reader stands
-pub record Steps (line : List ℕ) (behind : ℕ) (fed : Fed) (ws : List Request) (submitted served dropped starts out : List ℕ)
-    (r : Fed) (ws′ : List Request) (submitted′ served′ dropped′ out′ : List ℕ) : Type 0 where
+pub record Steps (line : List ℕ) (behind : ℕ) (fed : Fed) (t : Reserved) (starts out : List ℕ)
+    (r : Fed) (t′ : Reserved) (out′ : List ℕ) : Type 0 where
   pub used-so : r .going ≡ true → r .used ≡ behind
   pub stepped : (input : List ℕ) → HandsBack input (fed .used) line behind
-      → Stepped input fed ws submitted served dropped starts out r ws′ submitted′ served′ dropped′ out′
+      → Stepped input fed t starts out r t′ out′
 
 -- tables keep their lengths
-pub record SameLengths (ws : List Request) (submitted served dropped out : List ℕ) (ws′ : List Request) (submitted′ served′ dropped′ out′ : List ℕ)
-    : Type 0 where
-  pub waiting-long : length ws′ ≡ length ws
-  pub submitted-long : length submitted′ ≡ length submitted
-  pub served-long : length served′ ≡ length served
-  pub dropped-long : length dropped′ ≡ length dropped
+pub record SameLengths (t : Reserved) (out : List ℕ) (t′ : Reserved) (out′ : List ℕ) : Type 0 where
+  pub waiting-long : length (t′ .waitingTable) ≡ length (t .waitingTable)
+  pub numbers-long : length (t′ .clientNumbers) ≡ length (t .clientNumbers)
   pub out-long : length out′ ≡ length out
 
 -- a part of the input: what of it is used leads from the state at entry to the state at exit and to what is written. The start
 -- slots at exit, the output behind what is written, and table entries that no session uses are any
-pub record FedBy (session : Session) (input : List ℕ) (ws : List Request) (submitted served dropped starts out : List ℕ)
-    (r : Fed) (ws′ : List Request) (submitted′ served′ dropped′ out′ : List ℕ) : Type 0 where
+pub record FedBy (session : Session) (input : List ℕ) (t : Reserved) (starts out : List ℕ)
+    (r : Fed) (t′ : Reserved) (out′ : List ℕ) : Type 0 where
   pub within : r .used ≤ length input
   pub room : r .put ≤ length out
   pub ended : r .going ≡ false
-  pub long : SameLengths ws submitted served dropped out ws′ submitted′ served′ dropped′ out′
+  pub long : SameLengths t out t′ out′
   pub fits :
-      doFit session (length ws) (length submitted) (length served) (length dropped) (length starts) ≡ true
-      → doFit (r .session) (length ws) (length submitted) (length served) (length dropped) (length starts) ≡ true
+      fitsIn session t starts ≡ true
+      → fitsIn (r .session) t starts ≡ true
   pub leads :
-      Leads (heldIn session ws submitted served dropped) (session .skip) (take (r .used) input)
-      (heldIn (r .session) ws′ submitted′ served′ dropped′) (r .session .skip) (take (r .put) out′)
+      Leads (heldIn session t) (session .skip) (take (r .used) input)
+      (heldIn (r .session) t′) (r .session .skip) (take (r .put) out′)
   pub left :
       Left (r .full) input (r .used)
-      (can r (length ws) (length submitted) (length served) (length dropped) (length starts) (length out))
+      (canWith r t starts out)
 
 -- ---- the end of the input
 -- what is owed where so many characters are left and a line is begun as skip says: "a last line without its line feed gets

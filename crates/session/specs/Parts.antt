@@ -5,10 +5,10 @@ use mathlib.Core.Bool.{false}
 use mathlib.Core.List.{List, [], _++_}
 use mathlib.Core.Path.{_≡_}
 use lib.ListN.{length, take, drop}
-use Rattle.spec.specs.declared.types.Request.{Request}
 use Rattle.spec.specs.Tables.{zeroSetup, openHead}
 use Rattle.session.specs.declared.types.Session.{Session}
 use Rattle.session.specs.declared.types.Fed.{Fed}
+use Rattle.session.specs.Standing.{Reserved}
 use Rattle.session.specs.Feeding.{FedBy}
 
 -- where a session begins
@@ -18,10 +18,7 @@ atStart = record { head = openHead zeroSetup; records = 0; skip = false }
 -- what the caller of `feed` has: where the session stands, and the tables that it lends
 pub record Lent : Type 0 where
   pub session : Session
-  pub waitingTable : List Request
-  pub submitted : List ℕ
-  pub served : List ℕ
-  pub dropped : List ℕ
+  pub tables : Reserved
 
 -- a call of `feed` that meets its contract, on this part of the input, with any start slots and output
 pub record Made (part : List ℕ) (before : Lent) (r : Fed) (out : List ℕ) (after : Lent) : Type 0 where
@@ -29,8 +26,7 @@ pub record Made (part : List ℕ) (before : Lent) (r : Fed) (out : List ℕ) (af
   pub starts : List ℕ
   pub out₀ : List ℕ
   pub fed :
-      FedBy (before .session) part (before .waitingTable) (before .submitted) (before .served) (before .dropped) starts out₀
-      r (after .waitingTable) (after .submitted) (after .served) (after .dropped) out
+      FedBy (before .session) part (before .tables) starts out₀ r (after .tables) out
 
 -- calls of `feed` on an input, from what the caller had first, by which so much of it is used and these answers are written
 pub data Through (first : Lent) (input : List ℕ) : ℕ → List ℕ → Lent → Type 0 where

@@ -1,6 +1,6 @@
 -- Where a session stands between two lines: the state that it holds in the lent tables, and how a line that has no line feed yet
 -- is remembered. Assumes nothing.
-use Prim.Native.Nat.{ℕ, _<_}
+use Prim.Native.Nat.{ℕ, _*_, _<_}
 use mathlib.Core.Bool.{Bool, true, false, cond, _&&_}
 use mathlib.Core.List.{List, [], _++_}
 use mathlib.Core.Path.{_≡_}
@@ -10,32 +10,40 @@ use Rattle.spec.specs.declared.types.Frame.{Frame}
 use Rattle.spec.specs.declared.types.Frame.the-variants.{Open, Submit, Tick, Report, Chart, Bad}
 use Rattle.spec.specs.declared.types.Answer.{Answer}
 use Rattle.spec.specs.declared.types.Request.{Request}
-use Rattle.spec.specs.Tables.{mostRecords, mostClients, State}
+use Rattle.spec.specs.Tables.{mostRecords, mostClients, width, State, stateOf}
 use Rattle.spec.specs.Lists.{isRefused}
 use Rattle.spec.specs.Session.{textOf, replies}
 unfoldable pub use Rattle.spec.specs.Session.{stateAfter}
-use Rattle.spec.specs.Tables.{stateOf}
 use Rattle.session.specs.declared.types.Session.{Session}
 
--- the state that a session holds in the lent tables: "lends the first part that open names, and of 256 client records as many as
--- open names clients"
-abbrev pub heldIn : Session → List Request → List ℕ → List ℕ → List ℕ → State
-heldIn s ws submitted served dropped =
-    stateOf (s .head) (take (s .records) ws)
-    (take (s .head .setup .clients) submitted) (take (s .head .setup .clients) served) (take (s .head .setup .clients) dropped)
+-- "reserves 2,048 waiting records once": the tables that a session is lent, as long as any open can name
+pub record Reserved : Type 0 where
+  pub waitingTable : List Request
+  pub clientNumbers : List ℕ
+
+abbrev pub reservedOf : List Request → List ℕ → Reserved
+reservedOf ws numbers = record { waitingTable = ws; clientNumbers = numbers }
+
+-- the state that a session holds in them: "lends the first part that open names, and of 256 client records as many as open names
+-- clients"
+abbrev pub heldIn : Session → Reserved → State
+heldIn s t =
+    stateOf (s .head) (take (s .records) (t .waitingTable)) (take (width * s .head .setup .clients) (t .clientNumbers))
 
 -- whether tables of these lengths will do for the session and for every later open
-unfoldable pub doFit : Session → ℕ → ℕ → ℕ → ℕ → ℕ → Bool
-doFit s waiting submitted served dropped starts =
+unfoldable pub doFit : Session → ℕ → ℕ → ℕ → Bool
+doFit s waiting numbers starts =
     (leb (s .records) mostRecords && leb (s .head .setup .clients) mostClients)
-    && ((leb mostRecords waiting && leb mostRecords starts)
-    && (leb mostClients submitted && (leb mostClients served && leb mostClients dropped)))
+    && ((leb mostRecords waiting && leb mostRecords starts) && leb (width * mostClients) numbers)
+
+abbrev pub fitsIn : Session → Reserved → List ℕ → Bool
+fitsIn s t starts = doFit s (length (t .waitingTable)) (length (t .clientNumbers)) (length starts)
 
 -- a length that a frame names, or none where it is more than there can be: open is refused by either
 abbrev pub upTo : ℕ → ℕ → ℕ
 upTo most n = cond (leb n most) n 0
 
--- how many waiting records, and how many client records, are lent to the call that a frame asks for
+-- how many waiting records, and how many numbers of client records, are lent to the call that a frame asks for
 unfoldable pub recordsFor : Frame → Session → ℕ
 recordsFor (Open setup records) s = upTo mostRecords records
 recordsFor (Submit client deadline) s = upTo mostRecords (s .records)
@@ -44,13 +52,13 @@ recordsFor (Report client) s = upTo mostRecords (s .records)
 recordsFor Chart s = upTo mostRecords (s .records)
 recordsFor Bad s = upTo mostRecords (s .records)
 
-unfoldable pub clientsFor : Frame → Session → ℕ
-clientsFor (Open setup records) s = upTo mostClients (setup .clients)
-clientsFor (Submit client deadline) s = upTo mostClients (s .head .setup .clients)
-clientsFor Tick s = upTo mostClients (s .head .setup .clients)
-clientsFor (Report client) s = upTo mostClients (s .head .setup .clients)
-clientsFor Chart s = upTo mostClients (s .head .setup .clients)
-clientsFor Bad s = upTo mostClients (s .head .setup .clients)
+unfoldable pub numbersFor : Frame → Session → ℕ
+numbersFor (Open setup records) s = width * upTo mostClients (setup .clients)
+numbersFor (Submit client deadline) s = width * upTo mostClients (s .head .setup .clients)
+numbersFor Tick s = width * upTo mostClients (s .head .setup .clients)
+numbersFor (Report client) s = width * upTo mostClients (s .head .setup .clients)
+numbersFor Chart s = width * upTo mostClients (s .head .setup .clients)
+numbersFor Bad s = width * upTo mostClients (s .head .setup .clients)
 
 -- how many waiting records are in use after a frame got its answer: those that an accepted open names
 unfoldable pub recordsAfter : Frame → Answer → ℕ → ℕ

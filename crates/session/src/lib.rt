@@ -16,6 +16,7 @@ ghost use lib.ListN.{length};
 ghost use Rattle.spec.specs.Tables.{stateOf};
 ghost use Rattle.frame.specs.Digits.{digitTable};
 ghost use Rattle.session.specs.Answers.{Answered};
+ghost use Rattle.session.specs.Standing.{reservedOf};
 ghost use Rattle.session.specs.Feeding.{Steps, FedBy};
 
 // The call that a frame asks for, on the tables as they are lent to it.
@@ -23,31 +24,28 @@ fn answer(
     frame: Frame,
     head: Head,
     waiting: &mut [Request],
-    submitted: &mut [u32],
-    served: &mut [u32],
-    dropped: &mut [u32],
+    clients: &mut [u32],
     starts: &mut [u64],
 ) -> Reply
     ensures { λ r. ⌜ Answered frame (now (starts .entry))
-        (stateOf head (now (waiting .entry)) (now (submitted .entry)) (now (served .entry)) (now (dropped .entry)))
-        (now (submitted .entry)) (now (served .entry)) (now (dropped .entry))
-        r (now (waiting .exit)) (now (submitted .exit)) (now (served .exit)) (now (dropped .exit)) (now (starts .exit)) ⌝ }
+        (stateOf head (now (waiting .entry)) (now (clients .entry))) r
+        (stateOf (r .head) (now (waiting .exit)) (now (clients .exit))) (now (starts .exit)) ⌝ }
 {
     match frame {
         Frame::Open { setup, records: _ } => {
-            return queue::open(head, waiting, submitted, served, dropped, setup);
+            return queue::open(head, waiting, clients, setup);
         }
         Frame::Submit { client, deadline } => {
-            return queue::submit(head, waiting, submitted, served, dropped, client, deadline);
+            return queue::submit(head, waiting, clients, client, deadline);
         }
         Frame::Tick => {
-            return queue::tick(head, waiting, submitted, served, dropped);
+            return queue::tick(head, waiting, clients);
         }
         Frame::Report { client } => {
-            return queue::report(head, waiting, submitted, served, dropped, client);
+            return queue::report(head, waiting, clients, client);
         }
         Frame::Chart => {
-            return queue::chart(head, waiting, submitted, served, dropped, starts);
+            return queue::chart(head, waiting, clients, starts);
         }
         Frame::Bad => {
             return turns::no_frame(head);
@@ -63,16 +61,14 @@ fn step(
     line: &[u8],
     behind: usize,
     waiting: &mut [Request],
-    submitted: &mut [u32],
-    served: &mut [u32],
-    dropped: &mut [u32],
+    clients: &mut [u32],
     starts: &mut [u64],
     out: &mut [u8],
 ) -> Fed
     requires { ⌜ (now table ≡ digitTable) × (fed .used ≤ behind) × (fed .used + length (now line) < 2 ^ 64) × (fed .put ≤ length (now out)) ⌝ }
-    ensures { λ r. ⌜ Steps (now (line .entry)) behind fed (now (waiting .entry)) (now (submitted .entry)) (now (served .entry))
-        (now (dropped .entry)) (now (starts .entry)) (now (out .entry)) r (now (waiting .exit)) (now (submitted .exit))
-        (now (served .exit)) (now (dropped .exit)) (now (out .exit)) ⌝ }
+    ensures { λ r. ⌜ Steps (now (line .entry)) behind fed
+        (reservedOf (now (waiting .entry)) (now (clients .entry))) (now (starts .entry)) (now (out .entry)) r
+        (reservedOf (now (waiting .exit)) (now (clients .exit))) (now (out .exit)) ⌝ }
 {
     let turn = turns::next_turn(
         table,
@@ -80,9 +76,7 @@ fn step(
         fed,
         behind,
         waiting.len(),
-        submitted.len(),
-        served.len(),
-        dropped.len(),
+        clients.len(),
         starts.len(),
         out.len(),
     );
@@ -91,14 +85,12 @@ fn step(
     }
     let frame = turns::frame_of(turn);
     let head = turns::head_of(fed);
-    let lent = turns::lent(fed, turn);
+    let share = turns::share(fed, turn);
     let reply = answer(
         frame,
         head,
-        &mut waiting[..lent.records],
-        &mut submitted[..lent.clients],
-        &mut served[..lent.clients],
-        &mut dropped[..lent.clients],
+        &mut waiting[..share.records],
+        &mut clients[..share.numbers],
         starts,
     );
     let put = turns::put_reply(out, fed, reply, starts);
@@ -111,15 +103,13 @@ pub fn feed(
     session: Session,
     input: &[u8],
     waiting: &mut [Request],
-    submitted: &mut [u32],
-    served: &mut [u32],
-    dropped: &mut [u32],
+    clients: &mut [u32],
     starts: &mut [u64],
     out: &mut [u8],
 ) -> Fed
-    ensures { λ r. ⌜ FedBy session (now (input .entry)) (now (waiting .entry)) (now (submitted .entry)) (now (served .entry))
-        (now (dropped .entry)) (now (starts .entry)) (now (out .entry)) r (now (waiting .exit)) (now (submitted .exit))
-        (now (served .exit)) (now (dropped .exit)) (now (out .exit)) ⌝ }
+    ensures { λ r. ⌜ FedBy session (now (input .entry))
+        (reservedOf (now (waiting .entry)) (now (clients .entry))) (now (starts .entry)) (now (out .entry)) r
+        (reservedOf (now (waiting .exit)) (now (clients .exit))) (now (out .exit)) ⌝ }
 {
     let table = values::digit_table();
     let mut fed = turns::begin(session);
@@ -127,18 +117,7 @@ pub fn feed(
     while fed.going {
         let behind = lines::next(reader);
         let line = lines::digits(reader, behind.at);
-        let next = step(
-            &table,
-            fed,
-            line,
-            behind.at,
-            waiting,
-            submitted,
-            served,
-            dropped,
-            starts,
-            out,
-        );
+        let next = step(&table, fed, line, behind.at, waiting, clients, starts, out);
         fed = next;
         reader = behind;
     }

@@ -1,8 +1,9 @@
 // The parts of a turn that need no table: what is read, how much is lent, what is written, where the session then stands.
 use crate::types::Fed;
-use crate::types::Lent;
 use crate::types::Session;
+use crate::types::Share;
 use crate::types::Turn;
+use columns::clients::WIDTH;
 use decide::types::Reply;
 use frame::answers;
 use frame::frames;
@@ -21,7 +22,7 @@ ghost use Rattle.spec.specs.declared.types.Answer.the-variants.{Refused};
 ghost use Rattle.spec.specs.Lists.{isRefused};
 ghost use Rattle.frame.specs.Digits.{digitTable};
 ghost use Rattle.frame.specs.Written.{mostBytes, CanDraw, replyBytes};
-ghost use Rattle.session.specs.Standing.{doFit, upTo, recordsFor, clientsFor, recordsAfter};
+ghost use Rattle.session.specs.Standing.{doFit, upTo, recordsFor, numbersFor, recordsAfter};
 ghost use Rattle.session.specs.Parts.{atStart};
 ghost use Rattle.session.specs.Feeding.{can, HandsBack, Whole, None, Next, owedIn};
 
@@ -58,20 +59,12 @@ pub(crate) fn begin(session: Session) -> Fed
 }
 
 // Whether tables of these lengths will do.
-fn fit(
-    session: Session,
-    waiting: usize,
-    submitted: usize,
-    served: usize,
-    dropped: usize,
-    starts: usize,
-) -> bool
-    ensures { λ r. ⌜ r ≡ doFit session waiting submitted served dropped starts ⌝ }
+fn fit(session: Session, waiting: usize, numbers: usize, starts: usize) -> bool
+    ensures { λ r. ⌜ r ≡ doFit session waiting numbers starts ⌝ }
 {
     ((session.records <= MOST_RECORDS as u64) & (session.head.setup.clients <= MOST_CLIENTS as u64))
         & (((MOST_RECORDS <= waiting) & (MOST_RECORDS <= starts))
-            & ((MOST_CLIENTS <= submitted)
-                & ((MOST_CLIENTS <= served) & (MOST_CLIENTS <= dropped))))
+            & (WIDTH * MOST_CLIENTS <= numbers))
 }
 
 // A whole line, behind which the reader stands at `behind`. One that was read past so far has more digits than any frame.
@@ -148,16 +141,14 @@ pub(crate) fn next_turn(
     fed: Fed,
     behind: usize,
     waiting: usize,
-    submitted: usize,
-    served: usize,
-    dropped: usize,
+    numbers: usize,
     starts: usize,
     out: usize,
 ) -> Turn
     requires { ⌜ (now table ≡ digitTable) × (fed .used ≤ behind) × (fed .used + length (now line) < 2 ^ 64) × (fed .put ≤ out) ⌝ }
-    ensures { λ r. ⌜ Next (now (line .entry)) behind fed (can fed waiting submitted served dropped starts out) r ⌝ }
+    ensures { λ r. ⌜ Next (now (line .entry)) behind fed (can fed waiting numbers starts out) r ⌝ }
 {
-    let fits = fit(fed.session, waiting, submitted, served, dropped, starts);
+    let fits = fit(fed.session, waiting, numbers, starts);
     let room = answers::MOST_BYTES <= out - fed.put;
     look(table, line, fed, behind, fits & room)
 }
@@ -194,18 +185,18 @@ fn up_to(most: u64, n: u64) -> usize
 }
 
 // How much of the tables the frame's call gets.
-pub(crate) fn lent(fed: Fed, turn: Turn) -> Lent
-    ensures { λ r. ⌜ r ≡ record { records = recordsFor (turn .frame) (fed .session); clients = clientsFor (turn .frame) (fed .session) } ⌝ }
+pub(crate) fn share(fed: Fed, turn: Turn) -> Share
+    ensures { λ r. ⌜ r ≡ record { records = recordsFor (turn .frame) (fed .session); numbers = numbersFor (turn .frame) (fed .session) } ⌝ }
 {
     let frame = turn.frame;
     match frame {
-        Frame::Open { setup, records } => Lent {
+        Frame::Open { setup, records } => Share {
             records: up_to(MOST_RECORDS as u64, records),
-            clients: up_to(MOST_CLIENTS as u64, setup.clients),
+            numbers: WIDTH * up_to(MOST_CLIENTS as u64, setup.clients),
         },
-        _ => Lent {
+        _ => Share {
             records: up_to(MOST_RECORDS as u64, fed.session.records),
-            clients: up_to(MOST_CLIENTS as u64, fed.session.head.setup.clients),
+            numbers: WIDTH * up_to(MOST_CLIENTS as u64, fed.session.head.setup.clients),
         },
     }
 }

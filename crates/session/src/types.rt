@@ -34,8 +34,8 @@ pub struct Turn {
     pub frame: Frame,
 }
 
-// How much of the tables is lent to a call.
-pub struct Lent {
+// How much of the tables is lent to a call: waiting records, and numbers of client records.
+pub struct Share {
     pub records: usize,
-    pub clients: usize,
+    pub numbers: usize,
 }

@@ -1,5 +1,5 @@
 -- Laws of lending: which tables will do, the lengths that a frame names, and what a call hands back. Assumes nothing.
-use Prim.Native.Nat.{ℕ, _≤_}
+use Prim.Native.Nat.{ℕ, _≤_, _*_}
 use mathlib.Core.Path.{_≡_, refl, _∙_}
 use mathlib.Core.Bool.{Bool, true, false, cond, _&&_, and-false, and-eq-true-iff}
 use mathlib.Core.List.{List}
@@ -12,41 +12,34 @@ use Rattle.spec.specs.declared.types.Setup.{Setup}
 use Rattle.spec.specs.declared.types.Answer.the-variants.{Refused}
 use Rattle.spec.specs.declared.types.Request.{Request}
 use Rattle.spec.specs.Every.{isWithin}
-use Rattle.spec.specs.Tables.{mostRecords, mostClients, State}
+use Rattle.spec.specs.Tables.{mostRecords, mostClients, State, width}
 use Rattle.spec.specs.Setup.{Refusal, firstMatch, setupRefusals}
 use Rattle.spec.specs.Refusals.{openRefusals}
 use Rattle.spec.specs.Calls.{Outcome, unlessRefused}
 use Rattle.spec.proofs.Laws.Every.{Value, is-true, is-false, value, cond-true}
 use Rattle.spec.specs.Tables.{stateOf}
-use Rattle.columns.proofs.Counting.{holds-rows}
-use Rattle.decide.specs.declared.types.Reply.{Reply}
-use Rattle.queue.specs.Gives.{Gives}
 use Rattle.session.specs.declared.types.Session.{Session}
 use Rattle.session.specs.Standing.{doFit, upTo}
 
 -- ---- tables that will do, as facts
-pub record Fits (s : Session) (waiting submitted served dropped starts : ℕ) : Type 0 where
+pub record Fits (s : Session) (waiting numbers starts : ℕ) : Type 0 where
   pub records : s .records ≤ mostRecords
   pub clients : s .head .setup .clients ≤ mostClients
   pub waiting-long : mostRecords ≤ waiting
   pub starts-long : mostRecords ≤ starts
-  pub submitted-long : mostClients ≤ submitted
-  pub served-long : mostClients ≤ served
-  pub dropped-long : mostClients ≤ dropped
+  pub numbers-long : width * mostClients ≤ numbers
 
-pub fit-facts : (s : Session) (waiting submitted served dropped starts : ℕ)
-    → doFit s waiting submitted served dropped starts ≡ true → Fits s waiting submitted served dropped starts
+pub fit-facts : (s : Session) (waiting numbers starts : ℕ) → doFit s waiting numbers starts ≡ true
+    → Fits s waiting numbers starts
 unfolding doFit
-fit-facts s waiting submitted served dropped starts e =
+fit-facts s waiting numbers starts e =
     let p = simp and-eq-true-iff at e in
     record {
       records = leb-true (s .records) mostRecords (p .0 .0);
       clients = leb-true (s .head .setup .clients) mostClients (p .0 .1);
       waiting-long = leb-true mostRecords waiting (p .1 .0 .0);
       starts-long = leb-true mostRecords starts (p .1 .0 .1);
-      submitted-long = leb-true mostClients submitted (p .1 .1 .0);
-      served-long = leb-true mostClients served (p .1 .1 .1 .0);
-      dropped-long = leb-true mostClients dropped (p .1 .1 .1 .1);
+      numbers-long = leb-true (width * mostClients) numbers (p .1 .1);
     }
 
 -- ---- lengths that a frame names
@@ -70,8 +63,8 @@ up-within most n = go (leb n most) refl
 
 -- so open is refused alike on tables as long as a frame names and on those that are lent
 pub open-match : (setup : Setup) (records : ℕ) (t u : State)
-    → length (t .waitingTable) ≡ upTo mostRecords records → length (clientTable t) ≡ upTo mostClients (setup .clients)
-    → length (u .waitingTable) ≡ records → length (clientTable u) ≡ setup .clients
+    → length (t .waitingTable) ≡ upTo mostRecords records → length (t .clientNumbers) ≡ width * upTo mostClients (setup .clients)
+    → length (u .waitingTable) ≡ records → length (u .clientNumbers) ≡ width * setup .clients
     → firstMatch (openRefusals setup t) ≡ firstMatch (openRefusals setup u)
 unfolding firstMatch setupRefusals openRefusals
 open-match setup records t u a b c d = go (value (leb (setup .clients) mostClients))
@@ -80,14 +73,6 @@ open-match setup records t u a b c d = go (value (leb (setup .clients) mostClien
         → firstMatch (openRefusals setup t) ≡ firstMatch (openRefusals setup u)
     go (is-true e) = rw (a, b, c, d, up-within mostRecords records, cond-true (leb (setup .clients) mostClients) (setup .clients) 0 e)
     go (is-false e) = rw (e, and-false)
-
--- ---- what a call hands back, as a state
-pub gives-state : {o : Outcome} {su se dr : List ℕ} {r : Reply} {zs : List Request} {us vs ds : List ℕ}
-    → Gives o su se dr r zs us vs ds → length (o .clientTable after) ≡ length (countsOf su se dr)
-    → stateOf (r .head) zs us vs ds ≡ o .after
-gives-state g e =
-    let counts = holds-rows (g .counts-same) e in
-    λ i. record { head = g .head-same i; waitingTable = g .waiting-same i; clientTable = counts i }
 
 -- ---- two calls that are refused alike
 -- what holds where both are accepted and where both are refused

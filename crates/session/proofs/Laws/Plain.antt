@@ -23,7 +23,7 @@ use Rattle.spec.specs.Calls.{reportOf, reportAccepted, chartOf, chartAccepted, 
 use Rattle.spec.specs.Lists.{submit, tick, report, outcomeOf}
 use Rattle.spec.specs.Frames.{answerLine, kindOf}
 use Rattle.spec.specs.Session.{reply, replyOf, blank, chartBytes}
-use Rattle.spec.proofs.Demands.Demand1.{keeps-lengths, Charts, chart-written}
+use Rattle.spec.proofs.Demands.Demand1.{Charts, chart-written}
 use Rattle.spec.proofs.Laws.Every.{all-at}
 use Rattle.spec.proofs.Laws.Sound.{Ahead}
 use Rattle.spec.proofs.Laws.Accepted.{Decided, accepts, refuses, decided, chart-ready, Ready, waiting-length}
@@ -37,7 +37,6 @@ use Rattle.session.proofs.Laws.Lending.{alike}
 -- ---- frames that open no session
 -- the tables keep their shape, and what the call gives is the frame's reply
 pub record Plain (frame : Frame) (starts : List ℕ) (t : State) : Type 0 where
-  pub long : length (outcomeFor frame starts t .clientTable after) ≡ length (clientTable t)
   pub clients : outcomeFor frame starts t .after .head .setup .clients ≡ t .head .setup .clients
   pub after : outcomeFor frame starts t .after ≡ reply frame t .after
   pub bytes : replyBytes (outcomeFor frame starts t .after .head .setup) (outcomeFor frame starts t .answer) (startsFor frame starts t) ≡ reply frame t .bytes
@@ -58,11 +57,9 @@ told a (accepts e) = a
 told {rs} {t} a (refuses e) = told-refused (firstMatch rs) t
 
 told-plain : (frame : Frame) (starts : List ℕ) (t : State) → reply frame t ≡ replyOf (outcomeFor frame starts t)
-    → length (outcomeFor frame starts t .clientTable after) ≡ length (clientTable t) → Told t (outcomeFor frame starts t)
-    → Plain frame starts t
-told-plain frame starts t e l a =
+    → Told t (outcomeFor frame starts t) → Plain frame starts t
+told-plain frame starts t e a =
     record {
-      long = l;
       clients = a .clients;
       after = rw e;
       bytes = rw e (a .line (outcomeFor frame starts t .after .head .setup) (startsFor frame starts t));
@@ -73,7 +70,7 @@ module _ (starts : List ℕ) (t : State) where
   pub submit-plain : (client deadline : ℕ) → Plain (Submit client deadline) starts t
   unfolding outcomeFor outcomeOf reply submitOf submitAccepted kept droppedAt nextState replyBytes
   submit-plain client deadline =
-      told-plain (Submit client deadline) starts t refl (keeps-lengths (submit client deadline) t .1)
+      told-plain (Submit client deadline) starts t refl
       (told (go (hasNoOverfull (t .head) (withNew client deadline t)))
       (decided (submitRefusals client deadline t) t (submitAccepted client deadline t)))
     where
@@ -85,7 +82,7 @@ module _ (starts : List ℕ) (t : State) where
   pub tick-plain : Plain Tick starts t
   unfolding outcomeFor outcomeOf reply tickOf tickAccepted nextState replyBytes
   tick-plain =
-      told-plain Tick starts t refl (keeps-lengths tick t .1)
+      told-plain Tick starts t refl
       (told (go (waiting t)) (decided (tickRefusals t) t (tickAccepted (waiting t) t)))
     where
       go : (ws : List Request) → Told t (tickAccepted ws t)
@@ -95,13 +92,13 @@ module _ (starts : List ℕ) (t : State) where
   pub report-plain : (client : ℕ) → Plain (Report client) starts t
   unfolding outcomeFor outcomeOf reply reportOf reportAccepted replyBytes
   report-plain client =
-      told-plain (Report client) starts t refl (keeps-lengths (report client) t .1)
+      told-plain (Report client) starts t refl
       (told (record { clients = refl; line = λ setup starts. refl; draws = λ starts. tt })
       (decided (reportRefusals client t) t (reportAccepted client t)))
 
   pub bad-plain : Plain Bad starts t
   unfolding outcomeFor reply
-  bad-plain = told-plain Bad starts t refl refl (told-refused 1 t)
+  bad-plain = told-plain Bad starts t refl (told-refused 1 t)
 
 -- ---- the chart
 -- an output as long as a waiting table can be is never too short: only the tables can be refused
@@ -170,7 +167,6 @@ module _ (starts : List ℕ) (t : State) (long : mostRecords ≤ length starts) 
   unfolding outcomeFor startsFor reply
   chart-plain =
       record {
-        long = rw (both-drawn .after);
         clients = rw (both-drawn .after);
         after = both-drawn .after;
         bytes = rw (both-drawn .after) (both-drawn .bytes);

@@ -1,6 +1,6 @@
 -- Laws of turns: what is read where a line ends and where none does, and what stays the same but for an open.
 -- Assumes nothing.
-use Prim.Native.Nat.{ℕ, zero, suc, _+_, _-_, _≤_, _<_}
+use Prim.Native.Nat.{ℕ, zero, suc, _+_, _-_, _≤_, _<_, _*_}
 use mathlib.Core.Bool.{Bool, true, false, false≢true, not, cond, _&&_, _||_}
 use mathlib.Core.List.{List, [], _∷_, _++_, append-nil}
 use mathlib.Core.Path.{_≡_, refl, sym, _∙_, subst, subst₂}
@@ -15,7 +15,7 @@ use Rattle.spec.specs.declared.types.Answer.the-variants.{Opened, Kept, Dropped
 use Rattle.spec.specs.declared.types.Frame.{Frame}
 use Rattle.spec.specs.declared.types.Frame.the-variants.{Open, Submit, Tick, Report, Chart, Bad}
 use Rattle.spec.specs.Frames.{frameOf, answerLine}
-use Rattle.spec.specs.Tables.{mostRecords, mostClients}
+use Rattle.spec.specs.Tables.{mostRecords, mostClients, width}
 use Rattle.spec.specs.Lists.{isRefused}
 use Rattle.spec.specs.Session.{textOf}
 use Rattle.spec.proofs.Laws.Every.{or-none, same-test}
@@ -28,7 +28,7 @@ use Rattle.frame.proofs.Parts.{part-is, part-long}
 use Rattle.session.specs.declared.types.Session.{Session}
 use Rattle.session.specs.declared.types.Fed.{Fed}
 use Rattle.session.specs.declared.types.Turn.{Turn}
-use Rattle.session.specs.Standing.{upTo, recordsFor, clientsFor, recordsAfter, longestFrame, Begun}
+use Rattle.session.specs.Standing.{upTo, recordsFor, numbersFor, recordsAfter, longestFrame, Begun}
 use Rattle.session.specs.Feeding.{HandsBack, Whole, None, NextIf, Next, owed}
 use Rattle.session.proofs.Laws.Texts.{begun, ended, slice-goes-on, slice-ends}
 use Rattle.session.proofs.Laws.Leading.{begun-text}
@@ -175,11 +175,11 @@ module _ (f : Frame) (other : OneOf (1 ∷ 2 ∷ 3 ∷ 4 ∷ 5 ∷ []) (tagOf fr
       go Bad h = bad
 
   -- it is lent what is in use
-  pub lent-other : (s : Session)
-      → (recordsFor f s ≡ upTo mostRecords (s .records)) × (clientsFor f s ≡ upTo mostClients (s .head .setup .clients))
-  unfolding recordsFor clientsFor
-  lent-other s =
-      not-open (λ f. (recordsFor f s ≡ upTo mostRecords (s .records)) × (clientsFor f s ≡ upTo mostClients (s .head .setup .clients)))
+  pub share-other : (s : Session)
+      → (recordsFor f s ≡ upTo mostRecords (s .records)) × (numbersFor f s ≡ width * upTo mostClients (s .head .setup .clients))
+  unfolding recordsFor numbersFor
+  share-other s =
+      not-open (λ f. (recordsFor f s ≡ upTo mostRecords (s .records)) × (numbersFor f s ≡ width * upTo mostClients (s .head .setup .clients)))
       (λ client deadline. (refl, refl)) (refl, refl) (λ client. (refl, refl)) (refl, refl) (refl, refl)
 
   -- and as many records are in use after it

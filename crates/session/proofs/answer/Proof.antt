@@ -13,6 +13,7 @@ use Rattle.spec.proofs.types.Frame as TF
 use Rattle.spec.proofs.types.Frame.Laws as TF′
 use Rattle.table.proofs.Rows.{R}
 use Rattle.session.specs.Answers.{outcomeFor, startsFor}
+use Rattle.spec.specs.Lists.{opening as opening-call, submit as submit-call, tick as tick-call, report as report-call, chart as chart-call, outcomeOf}
 use Rattle.session.proofs.Answering.{answers, answers-bad}
 use Rattle.spec.specs.declared.types.Head.{Head}
 use Rattle.table.proofs.Heads.{HeadT, head-vals, a-head, a-setup, setup-fits}
@@ -47,7 +48,7 @@ module _ {M : Type 1} (𝓤 : URA M) (H : Heap 𝓤) (A : Atoms 𝓤) (W : Given
 
   abbrev shape : Shape W
   shape = record {
-    params = taken a-frame ∷ taken a-head ∷ lent R ∷ lent u32 ∷ lent u32 ∷ lent u32 ∷ lent u64 ∷ [];
+    params = taken a-frame ∷ taken a-head ∷ lent R ∷ lent u32 ∷ lent u64 ∷ [];
     result = ReplyT;
     clauses = f.clauses 𝓤 H A mem run;
     code = f.Code.function;
@@ -55,92 +56,92 @@ module _ {M : Type 1} (𝓤 : URA M) (H : Heap 𝓤) (A : Atoms 𝓤) (W : Given
     callees = opening ∷ submitting ∷ ticking ∷ reporting ∷ charting ∷ refusing ∷ [];
   }
 
-  module _ (𝓣 : Tables 𝓤 H) (κs : Lfts 5) (qs : Shares 5) (head : Head) (head-is : Is HeadT head (head-vals head))
-      (waiting : Slice R (κs .0) (qs .0)) (submitted : Slice u32 (κs .1 .0) (qs .1 .0)) (served : Slice u32 (κs .1 .1 .0) (qs .1 .1 .0))
-      (dropped : Slice u32 (κs .1 .1 .1 .0) (qs .1 .1 .1 .0)) (starts : Slice u64 (κs .1 .1 .1 .1 .0) (qs .1 .1 .1 .1 .0)) where
+  module _ (𝓣 : Tables 𝓤 H) (κs : Lfts 3) (qs : Shares 3) (head : Head) (head-is : Is HeadT head (head-vals head))
+      (waiting : Slice R (κs .0) (qs .0)) (clients : Slice u32 (κs .1 .0) (qs .1 .0))
+      (starts : Slice u64 (κs .1 .1 .0) (qs .1 .1 .0)) where
     -- the head and the tables, lent and shown, in front of others
     abbrev lent-with : List (Param 𝓤 H A) → List (Param 𝓤 H A)
-    lent-with ps = given W a-head head head-is ∷ mut-own W waiting ∷ mut-own W submitted ∷ mut-own W served ∷ mut-own W dropped ∷ ps
+    lent-with ps = given W a-head head head-is ∷ mut-own W waiting ∷ mut-own W clients ∷ ps
 
     abbrev shown-with : List (Param 𝓤 H A) → List (Param 𝓤 H A)
-    shown-with ps = given W a-head head head-is ∷ shr-own W waiting ∷ shr-own W submitted ∷ shr-own W served ∷ shr-own W dropped ∷ ps
+    shown-with ps = given W a-head head head-is ∷ shr-own W waiting ∷ shr-own W clients ∷ ps
 
     -- the lists after a call that was lent the tables, and after one that was not
     abbrev lasts : (ps : List (Param 𝓤 H A)) → Lasts (lent-with ps) → Ends (shape .params)
-    lasts ps last = (last .1 .0, (last .1 .1 .0, (last .1 .1 .1 .0, (last .1 .1 .1 .1 .0, (starts .list, tt)))))
+    lasts ps last = (last .1 .0, (last .1 .1 .0, (starts .list, tt)))
 
-    longs : (frame : Frame) (ps : List (Param 𝓤 H A)) (last : Lasts (lent-with ps)) → Knowns (lent-with ps) last → Long 5 κs 0 (shape .params) (λ κs. κs) (frame, (head, (ref waiting, (ref submitted, (ref served, (ref dropped, (ref starts, tt))))))) (lasts ps last)
-    longs frame ps last kept = (kept .0, (kept .1 .0, (kept .1 .1 .0, (kept .1 .1 .1 .0, (refl, tt)))))
+    longs : (frame : Frame) (ps : List (Param 𝓤 H A)) (last : Lasts (lent-with ps)) → Knowns (lent-with ps) last → Long 3 κs 0 (shape .params) (λ κs. κs) (frame, (head, (ref waiting, (ref clients, (ref starts, tt))))) (lasts ps last)
+    longs frame ps last kept = (kept .0, (kept .1 .0, (refl, tt)))
 
     abbrev with-starts : List ℕ → Ends (shape .params)
-    with-starts st = (waiting .list, (submitted .list, (served .list, (dropped .list, (st, tt)))))
+    with-starts st = (waiting .list, (clients .list, (st, tt)))
 
     abbrev Arm : Frame → Type 2
-    Arm frame = Is TF.the-row frame (a-frame .val frame ∷ []) → (g : Unit {0}) → Runs (shape .params) ReplyT W (shape .clauses) κs qs (frame, (head, (ref waiting, (ref submitted, (ref served, (ref dropped, (ref starts, tt))))))) g (𝓣 .C) (𝓣 .Λ) f.Code.function
+    Arm frame = Is TF.the-row frame (a-frame .val frame ∷ []) → (g : Unit {0}) → Runs (shape .params) ReplyT W (shape .clauses) κs qs (frame, (head, (ref waiting, (ref clients, (ref starts, tt))))) g (𝓣 .C) (𝓣 .Λ) f.Code.function
 
     abbrev Known : Name × Contract 𝓤 → Type 1
     Known k = Triple 𝓤 (𝓣 .C (k .0)) (k .1)
 
     opens : Known opening → (setup : Setup) (records : ℕ) → Arm (Open setup records)
-    unfolding outcomeFor startsFor
+    unfolding outcomeFor outcomeOf startsFor
     opens known setup records is g Q leaves bs =
         let owed = LE.owed TF.the-type TF′.the-laws (Open setup records) _ is in
         let fits = setup-fits setup (owed .0) in
         let ns : List (Param 𝓤 H A) = given W a-setup setup (owed .0) ∷ [] in
-        drop ! $ first ! $ matches ! refl refl refl tt $ sets ! (of-opd ! (payload-var ! refl refl refl refl)) refl (tt, (fit (fits .0), (fit (fits .1), tt))) $ relends ! waiting refl $ relends ! submitted refl $ relends ! served refl $ relends ! dropped refl $
-        hands-on ! 𝓣 (0 ∷ 1 ∷ 2 ∷ 3 ∷ []) (lent-with ns) a-reply (λ c. known) (λ c h. h) (id⊢ 𝓤 _) refl (λ c. vars ! (refl, (refl, (refl, (refl, (refl, (refl, tt))))))) (λ _. refl) Q refl (λ r last. (refl, refl)) (λ r last told kept own.
-        leaves (a-reply .val r) r (lasts ns last) (longs (Open setup records) ns last kept) own (so 𝓤 (answers told refl)))
+        drop ! $ first ! $ matches ! refl refl refl tt $ sets ! (of-opd ! (payload-var ! refl refl refl refl)) refl (tt, (fit (fits .0), (fit (fits .1), tt))) $ relends ! waiting refl $ relends ! clients refl $
+        hands-on ! 𝓣 (0 ∷ 1 ∷ []) (lent-with ns) a-reply (λ c. known) (λ c h. h) (id⊢ 𝓤 _) refl (λ c. vars ! (refl, (refl, (refl, (refl, tt))))) (λ _. refl) Q refl (λ r last. (refl, refl)) (λ r last told kept own.
+        leaves (a-reply .val r) r (lasts ns last) (longs (Open setup records) ns last kept) own (so 𝓤 (answers (Open setup records) (opening-call setup) refl told refl)))
 
     submits : Known submitting → (client deadline : ℕ) → Arm (Submit client deadline)
-    unfolding outcomeFor startsFor
+    unfolding outcomeFor outcomeOf startsFor
     submits known client deadline is g Q leaves bs =
         let owed = LE.owed TF.the-type TF′.the-laws (Submit client deadline) _ is in
         let ns : List (Param 𝓤 H A) = number W client (owed .0 .1) ∷ number W deadline (owed .1 .0 .1) ∷ [] in
-        drop ! $ first ! $ matches ! refl refl refl tt $ sets ! (of-opd ! (payload-var ! refl refl refl refl)) refl (tt, fit (owed .0 .1)) $ sets ! (of-opd ! (payload-var ! refl refl refl refl)) refl (tt, fit (owed .1 .0 .1)) $ relends ! waiting refl $ relends ! submitted refl $ relends ! served refl $ relends ! dropped refl $
-        hands-on ! 𝓣 (0 ∷ 1 ∷ 2 ∷ 3 ∷ []) (lent-with ns) a-reply (λ c. known) (λ c h. h) (id⊢ 𝓤 _) refl (λ c. vars ! (refl, (refl, (refl, (refl, (refl, (refl, (refl, tt)))))))) (λ _. refl) Q refl (λ r last. (refl, refl)) (λ r last told kept own.
-        leaves (a-reply .val r) r (lasts ns last) (longs (Submit client deadline) ns last kept) own (so 𝓤 (answers told refl)))
+        drop ! $ first ! $ matches ! refl refl refl tt $ sets ! (of-opd ! (payload-var ! refl refl refl refl)) refl (tt, fit (owed .0 .1)) $ sets ! (of-opd ! (payload-var ! refl refl refl refl)) refl (tt, fit (owed .1 .0 .1)) $ relends ! waiting refl $ relends ! clients refl $
+        hands-on ! 𝓣 (0 ∷ 1 ∷ []) (lent-with ns) a-reply (λ c. known) (λ c h. h) (id⊢ 𝓤 _) refl (λ c. vars ! (refl, (refl, (refl, (refl, (refl, tt)))))) (λ _. refl) Q refl (λ r last. (refl, refl)) (λ r last told kept own.
+        leaves (a-reply .val r) r (lasts ns last) (longs (Submit client deadline) ns last kept) own (so 𝓤 (answers (Submit client deadline) (submit-call client deadline) refl told refl)))
 
     ticks : Known ticking → Arm Tick
-    unfolding outcomeFor startsFor
+    unfolding outcomeFor outcomeOf startsFor
     ticks known is g Q leaves bs =
-        drop ! $ first ! $ matches ! refl refl refl tt $ relends ! waiting refl $ relends ! submitted refl $ relends ! served refl $ relends ! dropped refl $
-        hands-on ! 𝓣 (0 ∷ 1 ∷ 2 ∷ 3 ∷ []) (lent-with []) a-reply (λ c. known) (λ c h. h) (id⊢ 𝓤 _) refl (λ c. vars ! (refl, (refl, (refl, (refl, (refl, tt)))))) (λ _. refl) Q refl (λ r last. (refl, refl)) (λ r last told kept own.
-        leaves (a-reply .val r) r (lasts [] last) (longs Tick [] last kept) own (so 𝓤 (answers told refl)))
+        drop ! $ first ! $ matches ! refl refl refl tt $ relends ! waiting refl $ relends ! clients refl $
+        hands-on ! 𝓣 (0 ∷ 1 ∷ []) (lent-with []) a-reply (λ c. known) (λ c h. h) (id⊢ 𝓤 _) refl (λ c. vars ! (refl, (refl, (refl, tt)))) (λ _. refl) Q refl (λ r last. (refl, refl)) (λ r last told kept own.
+        leaves (a-reply .val r) r (lasts [] last) (longs Tick [] last kept) own (so 𝓤 (answers Tick tick-call refl told refl)))
 
     reports : Known reporting → (client : ℕ) → Arm (Report client)
-    unfolding outcomeFor startsFor
+    unfolding outcomeFor outcomeOf startsFor
     reports known client is g Q leaves bs =
         let owed = LE.owed TF.the-type TF′.the-laws (Report client) _ is in
         let ns : List (Param 𝓤 H A) = number W client (owed .0 .1) ∷ [] in
-        drop ! $ first ! $ matches ! refl refl refl tt $ sets ! (of-opd ! (payload-var ! refl refl refl refl)) refl (tt, fit (owed .0 .1)) $ relends ! waiting refl $ relends ! submitted refl $ relends ! served refl $ relends ! dropped refl $
-        hands-on ! 𝓣 (0 ∷ 1 ∷ 2 ∷ 3 ∷ []) (shown-with ns) a-reply (λ c. known) (λ c h. h) (id⊢ 𝓤 _) refl (λ c. vars ! (refl, (refl, (refl, (refl, (refl, (refl, tt))))))) (λ _. refl) Q refl (λ r last. (refl, refl)) (λ r last told kept own.
-        leaves (a-reply .val r) r (with-starts (starts .list)) (refl, (refl, (refl, (refl, (refl, tt))))) own (so 𝓤 (answers told refl)))
+        drop ! $ first ! $ matches ! refl refl refl tt $ sets ! (of-opd ! (payload-var ! refl refl refl refl)) refl (tt, fit (owed .0 .1)) $ relends ! waiting refl $ relends ! clients refl $
+        hands-on ! 𝓣 (0 ∷ 1 ∷ []) (shown-with ns) a-reply (λ c. known) (λ c h. h) (id⊢ 𝓤 _) refl (λ c. vars ! (refl, (refl, (refl, (refl, tt))))) (λ _. refl) Q refl (λ r last. (refl, refl)) (λ r last told kept own.
+        leaves (a-reply .val r) r (with-starts (starts .list)) (refl, (refl, (refl, tt))) own (so 𝓤 (answers (Report client) (report-call client) refl told refl)))
 
     charts : Known charting → Arm Chart
-    unfolding outcomeFor startsFor
+    unfolding outcomeFor outcomeOf startsFor
     charts known is g Q leaves bs =
         let ns : List (Param 𝓤 H A) = mut-own W starts ∷ [] in
-        drop ! $ first ! $ matches ! refl refl refl tt $ relends ! waiting refl $ relends ! submitted refl $ relends ! served refl $ relends ! dropped refl $ relends ! starts refl $
-        hands-on ! 𝓣 (0 ∷ 1 ∷ 2 ∷ 3 ∷ 4 ∷ []) (shown-with ns) a-reply (λ c. known) (λ c h. h) (id⊢ 𝓤 _) refl (λ c. vars ! (refl, (refl, (refl, (refl, (refl, (refl, tt))))))) (λ _. refl) Q refl (λ r last. (refl, refl)) (λ r last told kept own.
-        leaves (a-reply .val r) r (with-starts (last .1 .1 .1 .1 .1 .0)) (refl, (refl, (refl, (refl, (kept .1 .1 .1 .1 .0, tt))))) own (so 𝓤 (answers (told .0) (told .1))))
+        drop ! $ first ! $ matches ! refl refl refl tt $ relends ! waiting refl $ relends ! clients refl $ relends ! starts refl $
+        hands-on ! 𝓣 (0 ∷ 1 ∷ 2 ∷ []) (shown-with ns) a-reply (λ c. known) (λ c h. h) (id⊢ 𝓤 _) refl (λ c. vars ! (refl, (refl, (refl, (refl, tt))))) (λ _. refl) Q refl (λ r last. (refl, refl)) (λ r last told kept own.
+        leaves (a-reply .val r) r (with-starts (last .1 .1 .1 .0)) (refl, (refl, (kept .1 .1 .0, tt))) own (so 𝓤 (answers Chart (chart-call (starts .list)) refl (told .0) (told .1))))
 
     refuses : Known refusing → Arm Bad
     unfolding outcomeFor startsFor
     refuses known is g Q leaves bs =
         drop ! $ first ! $ matches ! refl refl refl tt $
         hands-on ! 𝓣 [] (given W a-head head head-is ∷ []) a-reply (λ c. known) (λ c h. h) (id⊢ 𝓤 _) refl (λ c. vars ! (refl, tt)) (λ _. refl) Q refl (λ r last. (refl, refl)) (λ r last told kept own.
-        leaves (a-reply .val r) r (with-starts (starts .list)) (refl, (refl, (refl, (refl, (refl, tt))))) own (so 𝓤 (answers-bad told)))
+        leaves (a-reply .val r) r (with-starts (starts .list)) (refl, (refl, (refl, tt))) own (so 𝓤 (answers-bad told)))
 
   walk : (𝓣 : Tables 𝓤 H) → Walk shape 𝓣
-  walk 𝓣 known-open known-submit known-tick known-report known-chart known-no-frame κs qs frame is head head-is waiting submitted served dropped starts = arm frame is
+  walk 𝓣 known-open known-submit known-tick known-report known-chart known-no-frame κs qs frame is head head-is waiting clients starts = arm frame is
     where
-      arm : (frame : Frame) → Arm 𝓣 κs qs head head-is waiting submitted served dropped starts frame
-      arm (Open setup records) = opens 𝓣 κs qs head head-is waiting submitted served dropped starts known-open setup records
-      arm (Submit client deadline) = submits 𝓣 κs qs head head-is waiting submitted served dropped starts known-submit client deadline
-      arm Tick = ticks 𝓣 κs qs head head-is waiting submitted served dropped starts known-tick
-      arm (Report client) = reports 𝓣 κs qs head head-is waiting submitted served dropped starts known-report client
-      arm Chart = charts 𝓣 κs qs head head-is waiting submitted served dropped starts known-chart
-      arm Bad = refuses 𝓣 κs qs head head-is waiting submitted served dropped starts known-no-frame
+      arm : (frame : Frame) → Arm 𝓣 κs qs head head-is waiting clients starts frame
+      arm (Open setup records) = opens 𝓣 κs qs head head-is waiting clients starts known-open setup records
+      arm (Submit client deadline) = submits 𝓣 κs qs head head-is waiting clients starts known-submit client deadline
+      arm Tick = ticks 𝓣 κs qs head head-is waiting clients starts known-tick
+      arm (Report client) = reports 𝓣 κs qs head head-is waiting clients starts known-report client
+      arm Chart = charts 𝓣 κs qs head head-is waiting clients starts known-chart
+      arm Bad = refuses 𝓣 κs qs head head-is waiting clients starts known-no-frame
 
 pub answer-spec : {M : Type 1} → f.Statement.statement M
 unfolding f.Code.routine

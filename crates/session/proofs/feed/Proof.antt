@@ -22,6 +22,7 @@ use Rattle.frame.proofs.Reading.{reading, calls-reader, calls-part}
 use Rattle.table.proofs.Rows.{R}
 use Rattle.session.specs.declared.types.Session.{Session}
 use Rattle.session.specs.declared.types.Fed.{Fed}
+use Rattle.session.specs.Standing.{Reserved, reservedOf}
 use Rattle.session.specs.Feeding.{HandsBack}
 use Rattle.session.proofs.Laws.Turning.{line-within}
 use Rattle.session.proofs.Values.{FedT, a-session, a-fed}
@@ -37,25 +38,23 @@ use Rattle.session.proofs.feed as f
 use Rattle.session.proofs.feed.Code.Mir as mir
 
 -- ---- where a turn of the loop stands
-record Turns (session : Session) (inp : List ℕ) (ws₀ : List Request) (su₀ se₀ dr₀ st₀ out₀ : List ℕ) (Reader-is : ℕ → Type 0) : Type 0 where
+record Turns (session : Session) (inp : List ℕ) (t₀ : Reserved) (st₀ out₀ : List ℕ) (Reader-is : ℕ → Type 0) : Type 0 where
   pub fed : Fed
   pub at : ℕ
   pub ws : List Request
-  pub su : List ℕ
-  pub se : List ℕ
-  pub dr : List ℕ
+  pub xs : List ℕ
   pub st : List ℕ
   pub out : List ℕ
   pub fed-is : Is FedT fed (a-fed .val fed ∷ [])
   pub reader-is : Reader-is at
   pub at-used : fed .going ≡ true → at ≡ fed .used
   pub starts-long : length st ≡ length st₀
-  pub fed-so : Feeding session inp ws₀ su₀ se₀ dr₀ st₀ out₀ fed ws su se dr out
+  pub fed-so : Feeding session inp t₀ st₀ out₀ fed (reservedOf ws xs) out
 
 module _ {M : Type 1} (𝓤 : URA M) (H : Heap 𝓤) (A : Atoms 𝓤) (W : Given 𝓤 H A) (mem : Memory → SProp 𝓤) (run : Routine → Fun 𝓤) where
   abbrev shape : Shape W
   shape = record {
-    params = taken a-session ∷ shown u8 ∷ lent R ∷ lent u32 ∷ lent u32 ∷ lent u32 ∷ lent u64 ∷ lent u8 ∷ [];
+    params = taken a-session ∷ shown u8 ∷ lent R ∷ lent u32 ∷ lent u64 ∷ lent u8 ∷ [];
     result = FedT;
     clauses = f.clauses 𝓤 H A mem run;
     code = f.Code.function;
@@ -72,12 +71,12 @@ module _ {M : Type 1} (𝓤 : URA M) (H : Heap 𝓤) (A : Atoms 𝓤) (W : Given
 
   walk : (𝓣 : Tables 𝓤 H) → Walk shape 𝓣
   unfolding afterTurn
-  walk 𝓣 known-digit-table known-begin known-new known-next known-digits known-step κs qs session session-is input waiting submitted served dropped starts out g Q leaves bs =
+  walk 𝓣 known-digit-table known-begin known-new known-next known-digits known-step κs qs session session-is input waiting clients starts out g Q leaves bs =
       let table : PlainType (Array u8 256) = of-array (of-number w8) 256 (λ x. tt) (λ x w. refl) in
       drop ! $
       -- let table = values::digit_table();
       calls-for ! 𝓣 [] [] table (λ c. known-digit-table) (λ c h. h) (id⊢ 𝓤 _) refl (λ c. no-more !) (λ _. refl) (λ values last₁ is-table kept₁ values-is.
-      copies ! refl refl (table .lawful 𝓤 H A W .typed values _ values-is .0) $ empties ! 15 refl $ takes-out ! 9 refl $
+      copies ! refl refl (table .lawful 𝓤 H A W .typed values _ values-is .0) $ empties ! 13 refl $ takes-out ! 7 refl $
       use0 W (‵ (Array u8 256 .own values (table .val values ∷ []))) (made W table values values-is) $ move ! (1 ∷ 0 ∷ []) $
       use2 W (‵ (Held-array u8 256 at-table values)) (array-in W u8 256 at-table values (table .val values)) $ rewrite ! 0 (λ (xs : List ℕ). ‵ (Held-array u8 256 at-table xs)) is-table refl $
       -- let mut fed = turns::begin(session);
@@ -85,14 +84,14 @@ module _ {M : Type 1} (𝓤 : URA M) (H : Heap 𝓤) (A : Atoms 𝓤) (W : Given
       -- let mut reader = lines::new(input, 0);
       calls-reader ! 𝓣 (1 ∷ []) (passed-on W input ∷ number W 0 (lit< tt) ∷ []) input (λ n. n ≡ 0) (λ c. known-new) (λ c h. h) (id⊢ 𝓤 _) refl (λ c. and-then ! (var ! refl) (and-then ! (lit ! tt) (no-more !))) (λ _. refl) (λ n last₃ begins-at reader-is.
       first ! $ blocks ! $ loops ! 𝓣 Nearer (InvImage·wf (λ (t : Turn). turnsLeft (input .list) (t .fed)) (Nat·lt-wfRel .wf)) At turns
-      (record { fed = fed; at = n; ws = waiting .list; su = submitted .list; se = served .list; dr = dropped .list; st = starts .list; out = out .list; fed-is = fed-is; reader-is = reader-is; at-used = λ _. begins-at ∙ sym (ap (λ (f : Fed). f .used) begins); starts-long = refl; fed-so = rw begins fed-begins }))))
+      (record { fed = fed; at = n; ws = waiting .list; xs = clients .list; st = starts .list; out = out .list; fed-is = fed-is; reader-is = reader-is; at-used = λ _. begins-at ∙ sym (ap (λ (f : Fed). f .used) begins); starts-long = refl; fed-so = rw begins fed-begins }))))
     where
       E : Env 𝓤 H
       E = envAt (f.Code.function .locals) bs
 
       -- the block of the digit table
       at-table : ℕ
-      at-table = spotOf 𝓤 H E 9 .1
+      at-table = spotOf 𝓤 H E 7 .1
 
       κ : Lft
       κ = κs .0
@@ -105,7 +104,7 @@ module _ {M : Type 1} (𝓤 : URA M) (H : Heap 𝓤) (A : Atoms 𝓤) (W : Given
       Reader-is n = Is (ReaderT κ) (reader n) (reader-val (reader n) ∷ [])
 
       Turn : Type 0
-      Turn = Turns session (input .list) (waiting .list) (submitted .list) (served .list) (dropped .list) (starts .list) (out .list) Reader-is
+      Turn = Turns session (input .list) (reservedOf (waiting .list) (clients .list)) (starts .list) (out .list) Reader-is
 
       Nearer : Turn → Turn → Type 0
       Nearer u t = turnsLeft (input .list) (u .fed) < turnsLeft (input .list) (t .fed)
@@ -117,8 +116,8 @@ module _ {M : Type 1} (𝓤 : URA M) (H : Heap 𝓤) (A : Atoms 𝓤) (W : Given
       At : Turn → List (Item 𝓤)
       At t =
           ‵ (Held-array u8 256 at-table digitTable)
-          ∷ puts H A 9 (‵ ftrue) (‵ (Shown input) ∷ ‵ (Lent-at waiting (t .ws)) ∷ ‵ (Lent-at submitted (t .su)) ∷ ‵ (Lent-at served (t .se)) ∷ ‵ (Lent-at dropped (t .dr)) ∷ ‵ (Lent-at starts (t .st)) ∷ ‵ (Lent-at out (t .out))
-          ∷ standing E (empty ∷ holds (a-session .val session) ∷ passed input ∷ passed waiting ∷ passed submitted ∷ passed served ∷ passed dropped ∷ passed starts ∷ passed out ∷ empty ∷ holds (a-fed .val (t .fed)) ∷ holds (reader-val (reader (t .at))) ∷ []) [])
+          ∷ puts H A 7 (‵ ftrue) (‵ (Shown input) ∷ ‵ (Lent-at waiting (t .ws)) ∷ ‵ (Lent-at clients (t .xs)) ∷ ‵ (Lent-at starts (t .st)) ∷ ‵ (Lent-at out (t .out))
+          ∷ standing E (empty ∷ holds (a-session .val session) ∷ passed input ∷ passed waiting ∷ passed clients ∷ passed starts ∷ passed out ∷ empty ∷ holds (a-fed .val (t .fed)) ∷ holds (reader-val (reader (t .at))) ∷ []) [])
 
       Turned : Turn → Out → SProp 𝓤
       Turned t = afterTurn 𝓤 H (Below 𝓤 H A Nearer At t) (afterBlock 𝓤 H (afterSeq 𝓤 H (Wp 𝓤 H (𝓣 .C) (𝓣 .Λ) E mir.t-6 (atReturn 𝓤 H E Q)) (atReturn 𝓤 H E Q)))
@@ -149,33 +148,31 @@ module _ {M : Type 1} (𝓤 : URA M) (H : Heap 𝓤) (A : Atoms 𝓤) (W : Given
           sets ! (addr ! (from ! (stop !))) refl (tt, tt) $
           sets ! (agg ! (and-then ! (var ! refl) (and-then ! (lit ! tt) (no-more !)))) refl (tt, (tt, (fit (lit< tt), tt))) $
           sets ! (of-opd ! (field-var ! refl refl refl)) refl (tt, behind-typed .1 .1 .0) $
-          relends ! waiting refl $ relends ! submitted refl $ relends ! served refl $ relends ! dropped refl $ relends ! starts refl $ relends ! out refl $
-          -- let next = step(&table, fed, line, behind.at, waiting, submitted, served, dropped, starts, out);
-          calls-for ! 𝓣 (2 ∷ 0 ∷ 3 ∷ 4 ∷ 5 ∷ 6 ∷ 7 ∷ 8 ∷ []) (loan (array-shared W u8 256 at-table tt digitTable (subst (Room u8) (sym table-length) (lit< tt, lit< tt)) table-length) ∷ given W a-fed (t .fed) (t .fed-is) ∷ passed-on W line ∷ number W n (behind-typed .1 .1 .0 .fits) ∷ mut-of W waiting (t .ws) (long .waiting-long) ∷ mut-of W submitted (t .su) (long .submitted-long) ∷ mut-of W served (t .se) (long .served-long) ∷ mut-of W dropped (t .dr) (long .dropped-long) ∷ mut-of W starts (t .st) (t .starts-long) ∷ mut-of W out (t .out) (long .out-long) ∷ []) a-fed (λ c. known-step) (λ c h. h)
-          (so 𝓤 (refl, hands .behind-so .onward, lt-of-le-of-lt (line-within (input .list) (t .fed .used) (line .list) n hands) (input .room .0), rw (long .out-long) (t .fed-so .room))) refl (λ c. vars ! (refl, (refl, (refl, (refl, (refl, (refl, (refl, (refl, (refl, (refl, tt))))))))))) (λ _. refl) (λ r last stepped kept r-is.
+          relends ! waiting refl $ relends ! clients refl $ relends ! starts refl $ relends ! out refl $
+          -- let next = step(&table, fed, line, behind.at, waiting, clients, starts, out);
+          calls-for ! 𝓣 (2 ∷ 0 ∷ 3 ∷ 4 ∷ 5 ∷ 6 ∷ []) (loan (array-shared W u8 256 at-table tt digitTable (subst (Room u8) (sym table-length) (lit< tt, lit< tt)) table-length) ∷ given W a-fed (t .fed) (t .fed-is) ∷ passed-on W line ∷ number W n (behind-typed .1 .1 .0 .fits) ∷ mut-of W waiting (t .ws) (long .waiting-long) ∷ mut-of W clients (t .xs) (long .numbers-long) ∷ mut-of W starts (t .st) (t .starts-long) ∷ mut-of W out (t .out) (long .out-long) ∷ []) a-fed (λ c. known-step) (λ c h. h)
+          (so 𝓤 (refl, hands .behind-so .onward, lt-of-le-of-lt (line-within (input .list) (t .fed .used) (line .list) n hands) (input .room .0), rw (long .out-long) (t .fed-so .room))) refl (λ c. vars ! (refl, (refl, (refl, (refl, (refl, (refl, (refl, (refl, tt))))))))) (λ _. refl) (λ r last stepped kept r-is.
           sets ! (of-opd ! (var ! refl)) refl (a-fed .lawful 𝓤 H A W .typed r (a-fed .val r ∷ []) r-is .0) $
           sets-last ! (of-opd ! (var ! refl)) refl behind-typed $
           fsplit ! $ drop ! $ move ! (1 ∷ 0 ∷ []) $ fjoin ! $ move ! (1 ∷ 0 ∷ []) $
-          empties ! 12 refl $ empties ! 13 refl $ empties ! 14 refl $ empties ! 16 refl $ empties ! 17 refl $ empties ! 18 refl $ empties ! 19 refl $ empties ! 20 refl $ empties ! 21 refl $ empties ! 22 refl $ empties ! 23 refl $ empties ! 24 refl $ empties ! 25 refl $ empties ! 26 refl $ empties ! 27 refl $ empties ! 28 refl $ empties ! 29 refl $ empties ! 30 refl $ empties ! 31 refl $ empties ! 32 refl $ empties ! 33 refl $ empties ! 34 refl $
+          empties ! 10 refl $ empties ! 11 refl $ empties ! 12 refl $ empties ! 14 refl $ empties ! 15 refl $ empties ! 16 refl $ empties ! 17 refl $ empties ! 18 refl $ empties ! 19 refl $ empties ! 20 refl $ empties ! 21 refl $ empties ! 22 refl $ empties ! 23 refl $ empties ! 24 refl $ empties ! 25 refl $ empties ! 26 refl $ empties ! 27 refl $ empties ! 28 refl $
           again ! Nearer At t (record {
             fed = r;
             at = n;
             ws = last .1 .1 .1 .1 .0;
-            su = last .1 .1 .1 .1 .1 .0;
-            se = last .1 .1 .1 .1 .1 .1 .0;
-            dr = last .1 .1 .1 .1 .1 .1 .1 .0;
-            st = last .1 .1 .1 .1 .1 .1 .1 .1 .0;
-            out = last .1 .1 .1 .1 .1 .1 .1 .1 .1 .0;
+            xs = last .1 .1 .1 .1 .1 .0;
+            st = last .1 .1 .1 .1 .1 .1 .0;
+            out = last .1 .1 .1 .1 .1 .1 .1 .0;
             fed-is = r-is;
             reader-is = behind-is;
             at-used = λ goes. sym (stepped .used-so goes);
-            starts-long = kept .1 .1 .1 .1 .1 .1 .0 ∙ t .starts-long;
-            fed-so = fed-steps (stepped .stepped (input .list) hands) (t .fed-so) (record { waiting-long = kept .1 .1 .0; submitted-long = kept .1 .1 .1 .0; served-long = kept .1 .1 .1 .1 .0; dropped-long = kept .1 .1 .1 .1 .1 .0; out-long = kept .1 .1 .1 .1 .1 .1 .1 .0 }) (t .starts-long);
+            starts-long = kept .1 .1 .1 .1 .0 ∙ t .starts-long;
+            fed-so = fed-steps (stepped .stepped (input .list) hands) (t .fed-so) (record { waiting-long = kept .1 .1 .0; numbers-long = kept .1 .1 .1 .0; out-long = kept .1 .1 .1 .1 .1 .0 }) (t .starts-long);
           }) (turns-less (stepped .stepped (input .list) hands) going)))))
           (λ over. exec ! (𝓣 .C) (𝓣 .Λ) E mir.t-6 (atRet E Q) $
           copies ! refl refl (a-fed .lawful 𝓤 H A W .typed (t .fed) (a-fed .val (t .fed) ∷ []) (t .fed-is) .0) $
-          ends-array ! 9 u8 256 at-table digitTable $ gives ! refl refl $
-          leaves (a-fed .val (t .fed)) (t .fed) (t .ws, (t .su, (t .se, (t .dr, (t .st, (t .out, tt)))))) (long .waiting-long, (long .submitted-long, (long .served-long, (long .dropped-long, (t .starts-long, (long .out-long, tt))))))
+          ends-array ! 7 u8 256 at-table digitTable $ gives ! refl refl $
+          leaves (a-fed .val (t .fed)) (t .fed) (t .ws, (t .xs, (t .st, (t .out, tt)))) (long .waiting-long, (long .numbers-long, (t .starts-long, (long .out-long, tt))))
           (made W a-fed (t .fed) (t .fed-is)) (so 𝓤 (fed-ends (is-false (t .fed .going) over) (t .fed-so))))
 
 pub feed-spec : {M : Type 1} → f.Statement.statement M
