@@ -13,13 +13,13 @@ use Rattle.columns.specs.Widths.{largest64}
 use Rattle.session.specs.declared.types.Fed.{Fed}
 use Rattle.frame.specs.Lines.{NoFeed}
 use Rattle.frame.specs.Written.{mostBytes}
-use Rattle.session.specs.Standing.{doFit, longestFrame}
-use Rattle.session.specs.Feeding.{FedBy, Left, can, owed}
+use Rattle.session.specs.Standing.{Reserved, fitsIn, doFit, longestFrame}
+use Rattle.session.specs.Feeding.{FedBy, Left, canWith, owed}
 use Rattle.session.proofs.Parts.{parts-together, no-feed-left, feeds-on}
 use Rattle.session.specs.Parts.{Lent, Through, begins, goes}
 use Rattle.session_main.specs.declared.flow.Flow.{Flow}
 use Rattle.session_main.specs.declared.system.Got.{Got}
-use Rattle.session_main.specs.Flowing.{bufferLength, deliveredBy, isFailed, atFirst, afterRead, CanRead, ReadsOn, toWrite, GoesOn, Reserved, first, amount, AllDeliver, Delivers, Write, handedTo, AllWritten, Writes, Handed, Served}
+use Rattle.session_main.specs.Flowing.{bufferLength, deliveredBy, isFailed, atFirst, afterRead, CanRead, ReadsOn, toWrite, GoesOn, Suffices, first, amount, AllDeliver, Delivers, Write, handedTo, AllWritten, Writes, Handed, Served}
 use Rattle.session_main.proofs.Reading.{at-most, failed-none}
 
 -- ---- an input of which more is read
@@ -55,7 +55,7 @@ drop-take n have buffer h k =
 -- ---- what was read and written so far
 -- what is still to be fed stands at the front of the buffer: all that is read and not used. The tables, with so many start slots,
 -- do for the session
-pub record Stands (begun : Lent) (slots : ℕ) (flow : Flow) (buffer : List ℕ) (ws : List Request) (submitted served dropped : List ℕ) : Type 0 where
+pub record Stands (begun : Lent) (slots : ℕ) (flow : Flow) (buffer : List ℕ) (t : Reserved) : Type 0 where
   pub input : List ℕ
   pub used : ℕ
   pub answers : List ℕ
@@ -63,11 +63,11 @@ pub record Stands (begun : Lent) (slots : ℕ) (flow : Flow) (buffer : List ℕ)
   pub writes : List Write
   pub through :
       Through begun input used answers
-      (record { session = flow .session; waitingTable = ws; submitted = submitted; served = served; dropped = dropped })
+      (record { session = flow .session; tables = t })
   pub read : used ≤ length input
   pub front : take (flow .have) buffer ≡ drop used input
   pub within : flow .have ≤ length buffer
-  pub fits : doFit (flow .session) (length ws) (length submitted) (length served) (length dropped) slots ≡ true
+  pub fits : doFit (flow .session) (length (t .waitingTable)) (length (t .clientNumbers)) slots ≡ true
   pub long : amount reads ≡ length input
   pub delivers : Delivers (flow .ended) (flow .unreadable) reads
   pub written : Writes (flow .unwritten) writes
@@ -78,8 +78,8 @@ spare true = 1
 spare false = 0
 
 -- before a read: where no lines are left, the beginning of a frame at most is still to be fed
-pub record Flows (begun : Lent) (slots : ℕ) (flow : Flow) (buffer : List ℕ) (ws : List Request) (submitted served dropped : List ℕ) : Type 0 where
-  pub stands : Stands begun slots flow buffer ws submitted served dropped
+pub record Flows (begun : Lent) (slots : ℕ) (flow : Flow) (buffer : List ℕ) (t : Reserved) : Type 0 where
+  pub stands : Stands begun slots flow buffer t
   pub handed : Handed (flow .ended) (stands .input) (stands .answers) (handedTo (stands .writes))
   pub begun-left : flow .full ≡ false → (flow .have ≤ longestFrame) × NoFeed (stands .input) (stands .used) (length (stands .input))
   pub ends : flow .ended ≡ true → flow .turns ≡ 0
@@ -88,19 +88,19 @@ pub record Flows (begun : Lent) (slots : ℕ) (flow : Flow) (buffer : List ℕ) 
       → largest64 + spare (flow .full) ≤ flow .turns + stands .used + length (stands .input)
 
 -- before a feed: more was read, or lines were left, or the input is at its end
-pub record Feeds (begun : Lent) (slots : ℕ) (flow : Flow) (buffer : List ℕ) (ws : List Request) (submitted served dropped : List ℕ) : Type 0 where
-  pub stands : Stands begun slots flow buffer ws submitted served dropped
+pub record Feeds (begun : Lent) (slots : ℕ) (flow : Flow) (buffer : List ℕ) (t : Reserved) : Type 0 where
+  pub stands : Stands begun slots flow buffer t
   pub handed : handedTo (stands .writes) ≡ stands .answers
   pub whole : flow .ended ≡ true → NoFeed (stands .input) (stands .used) (length (stands .input))
   pub going : 0 < flow .turns
   pub good : flow .unwritten ≡ false
   pub spent : flow .ended ≡ false → largest64 + 1 ≤ flow .turns + stands .used + length (stands .input)
 
-pub flows-begin : {flow : Flow} {ws : List Request} {submitted served dropped starts buffer out : List ℕ} → flow ≡ atFirst
-    → Reserved ws submitted served dropped starts buffer out
-    → Flows (first ws submitted served dropped) (length starts) flow buffer ws submitted served dropped
-flows-begin {flow} {ws} {submitted} {served} {dropped} {starts} {buffer} {out} e reserved =
-    subst (λ (flow : Flow). Flows (first ws submitted served dropped) (length starts) flow buffer ws submitted served dropped) (sym e)
+pub flows-begin : {flow : Flow} {t : Reserved} {starts buffer out : List ℕ} → flow ≡ atFirst
+    → Suffices t starts buffer out
+    → Flows (first t) (length starts) flow buffer t
+flows-begin {flow} {t} {starts} {buffer} {out} e suffices =
+    subst (λ (flow : Flow). Flows (first t) (length starts) flow buffer t) (sym e)
     (record {
       stands =
           record {
@@ -113,7 +113,7 @@ flows-begin {flow} {ws} {submitted} {served} {dropped} {starts} {buffer} {out} e
             read = omega arith;
             front = refl;
             within = omega arith;
-            fits = reserved .fits;
+            fits = suffices .fits;
             long = refl;
             delivers = (refl, tt);
             written = tt;
@@ -135,8 +135,8 @@ some zero e = absurd (eqb-false 0 0 e refl)
 some (suc n) e = omega arith
 
 -- ---- a read
-module _ {begun : Lent} {slots : ℕ} {flow : Flow} {buffer : List ℕ} {ws : List Request} {submitted served dropped : List ℕ}
-    (flows : Flows begun slots flow buffer ws submitted served dropped) (buffer-long : length buffer ≡ bufferLength) (going : 0 < flow .turns) where
+module _ {begun : Lent} {slots : ℕ} {flow : Flow} {buffer : List ℕ} {t : Reserved}
+    (flows : Flows begun slots flow buffer t) (buffer-long : length buffer ≡ bufferLength) (going : 0 < flow .turns) where
   -- what `read_on` asks
   pub can-read : CanRead (flow .full) flow
   can-read = go (flow .full) (flows .begun-left)
@@ -160,7 +160,7 @@ module _ {begun : Lent} {slots : ℕ} {flow : Flow} {buffer : List ℕ} {ws : Li
   all-deliver = subst (λ (ended : Bool). Delivers ended (flow .unreadable) (flows .stands .reads)) open-input (flows .stands .delivers) .1
 
   -- lines are left
-  reads-none : flow .full ≡ true → Feeds begun slots flow buffer ws submitted served dropped
+  reads-none : flow .full ≡ true → Feeds begun slots flow buffer t
   reads-none full =
       record {
         stands = flows .stands;
@@ -188,7 +188,7 @@ module _ {begun : Lent} {slots : ℕ} {flow : Flow} {buffer : List ℕ} {ws : Li
         no-failure true f = absurd (eqb-false (deliveredBy got) 0 e (failed-none (got .answer) f))
         no-failure false f = refl
 
-    reads-some : Feeds begun slots (afterRead flow got) buffer′ ws submitted served dropped
+    reads-some : Feeds begun slots (afterRead flow got) buffer′ t
     reads-some =
         let stands = flows .stands in
         let input : List ℕ = stands .input in
@@ -225,15 +225,15 @@ module _ {begun : Lent} {slots : ℕ} {flow : Flow} {buffer : List ℕ} {ws : Li
         }
 
   pub reads-on : (buffer′ : List ℕ) (r : Flow) → ReadsOn (flow .full) flow buffer buffer′ r → length buffer′ ≡ length buffer
-      → Feeds begun slots r buffer′ ws submitted served dropped × (r .turns ≡ flow .turns)
+      → Feeds begun slots r buffer′ t × (r .turns ≡ flow .turns)
   reads-on buffer′ r reads long′ = go (flow .full) refl reads
     where
       go : (full : Bool) → flow .full ≡ full → ReadsOn full flow buffer buffer′ r
-          → Feeds begun slots r buffer′ ws submitted served dropped × (r .turns ≡ flow .turns)
+          → Feeds begun slots r buffer′ t × (r .turns ≡ flow .turns)
       go true full same = rw (same .0, same .1) (reads-none full, refl)
       go false full read =
           let room : flow .have < bufferLength = subst (λ (full : Bool). CanRead full flow) full can-read in
-          subst (λ (r : Flow). Feeds begun slots r buffer′ ws submitted served dropped × (r .turns ≡ flow .turns)) (sym (read .is)) (
+          subst (λ (r : Flow). Feeds begun slots r buffer′ t × (r .turns ≡ flow .turns)) (sym (read .is)) (
             reads-some full buffer′ long′ (read .got) (read .behind .0)
                 (omega (arith, room, buffer-long, at-most (bufferLength - flow .have) (read .got .answer) (read .behind .1))),
             refl,
@@ -260,18 +260,18 @@ falls true false turns h = omega arith
 falls false ended turns h = h
 
 -- ---- a feed, and the write of its answers
-module _ {begun : Lent} {slots : ℕ} {flow : Flow} {fed : Fed} {buffer : List ℕ} {ws ws′ : List Request}
-    {submitted served dropped starts out submitted′ served′ dropped′ out′ : List ℕ}
-    (feeds : Feeds begun slots flow buffer ws submitted served dropped) (slots-are : length starts ≡ slots)
-    (f : FedBy (flow .session) (take (flow .have) buffer) ws submitted served dropped starts out
-    fed ws′ submitted′ served′ dropped′ out′) where
-  do-fit : doFit (flow .session) (length ws) (length submitted) (length served) (length dropped) (length starts) ≡ true
+module _ {begun : Lent} {slots : ℕ} {flow : Flow} {fed : Fed} {buffer : List ℕ} {t t′ : Reserved}
+    {starts out out′ : List ℕ}
+    (feeds : Feeds begun slots flow buffer t) (slots-are : length starts ≡ slots)
+    (f : FedBy (flow .session) (take (flow .have) buffer) t starts out
+    fed t′ out′) where
+  do-fit : fitsIn (flow .session) t starts ≡ true
   do-fit = rw slots-are (feeds .stands .fits)
 
   pub fed-within : fed .used ≤ flow .have
   fed-within = omega (arith, f .within, length-take-le (flow .have) buffer (feeds .stands .within))
 
-  abbrev stands : Stands begun slots flow buffer ws submitted served dropped
+  abbrev stands : Stands begun slots flow buffer t
   stands = feeds .stands
 
   abbrev input : List ℕ
@@ -306,7 +306,7 @@ module _ {begun : Lent} {slots : ℕ} {flow : Flow} {fed : Fed} {buffer : List �
         let left =
         subst
         (λ (full : Bool). Left full (take (flow .have) buffer) (fed .used)
-        (can fed (length ws) (length submitted) (length served) (length dropped) (length starts) (length out))) e (f .left)
+        (canWith fed t starts out)) e (f .left)
         in (
           omega (arith, left .0, length-take-le (flow .have) buffer (stands .within)),
           no-feed-left input (stands .used) (stands .front) f e,
@@ -320,10 +320,10 @@ module _ {begun : Lent} {slots : ℕ} {flow : Flow} {fed : Fed} {buffer : List �
     abbrev written : Bool
     written = on .receipt .written
 
-    pub feeds-through : Flows begun slots r buffer′ ws′ submitted′ served′ dropped′ × (r .turns < flow .turns)
+    pub feeds-through : Flows begun slots r buffer′ t′ × (r .turns < flow .turns)
     feeds-through =
         let part : List ℕ = take (flow .have) buffer in
-        subst (λ (r : Flow). Flows begun slots r buffer′ ws′ submitted′ served′ dropped′ × (r .turns < flow .turns)) (sym (on .is)) (
+        subst (λ (r : Flow). Flows begun slots r buffer′ t′ × (r .turns < flow .turns)) (sym (on .is)) (
           record {
             stands =
                 record {
@@ -341,7 +341,7 @@ module _ {begun : Lent} {slots : ℕ} {flow : Flow} {fed : Fed} {buffer : List �
                       ∙ ap (drop (fed .used)) (stands .front) ∙ drop-drop (fed .used) (stands .used) input;
                   within = omega (arith, buffer-long, stands .within);
                   fits =
-                      rw (f .long .waiting-long, f .long .submitted-long, f .long .served-long, f .long .dropped-long, sym slots-are)
+                      rw (f .long .waiting-long, f .long .numbers-long, sym slots-are)
                       (f .fits do-fit);
                   long = stands .long;
                   delivers = stands .delivers;
@@ -365,10 +365,9 @@ module _ {begun : Lent} {slots : ℕ} {flow : Flow} {fed : Fed} {buffer : List �
         )
 
 -- ---- the end
-pub flows-end : {flow : Flow} {slots : ℕ} {buffer : List ℕ} {ws₀ ws : List Request}
-    {submitted₀ served₀ dropped₀ submitted served dropped : List ℕ}
-    → Flows (first ws₀ submitted₀ served₀ dropped₀) slots flow buffer ws submitted served dropped → flow .turns ≡ 0
-    → Served ws₀ submitted₀ served₀ dropped₀ ws submitted served dropped flow
+pub flows-end : {flow : Flow} {slots : ℕ} {buffer : List ℕ} {t₀ t : Reserved}
+    → Flows (first t₀) slots flow buffer t → flow .turns ≡ 0
+    → Served t₀ t flow
 flows-end flows over =
     let stands = flows .stands in
     record {

@@ -11,36 +11,33 @@ use lib.ListN.{length}
 use lib.WfN.{Nat·lt-wfRel}
 use denote.Laws.{Is}
 use Rattle.spec.specs.declared.types.Request.{Request}
+use Rattle.session.specs.Standing.{reservedOf}
 use Rattle.session_main.specs.declared.flow.Flow.{Flow}
 use Rattle.session_main.specs.Flowing.{first as tables}
 use Rattle.session_main.proofs.Values.{FlowT, flow-vals}
 use Rattle.session_main.proofs.Flows.{Flows}
 
-pub record Turns (ws₀ : List Request) (su₀ se₀ dr₀ st₀ bu₀ out₀ : List ℕ) : Type 0 where
+pub record Turns (ws₀ : List Request) (xs₀ st₀ bu₀ out₀ : List ℕ) : Type 0 where
   pub flow : Flow
   pub ws : List Request
-  pub su : List ℕ
-  pub se : List ℕ
-  pub dr : List ℕ
+  pub xs : List ℕ
   pub st : List ℕ
   pub bu : List ℕ
   pub out : List ℕ
   pub flow-is : Is FlowT flow (flow-vals flow)
   pub ws-long : length ws ≡ length ws₀
-  pub su-long : length su ≡ length su₀
-  pub se-long : length se ≡ length se₀
-  pub dr-long : length dr ≡ length dr₀
+  pub xs-long : length xs ≡ length xs₀
   pub st-long : length st ≡ length st₀
   pub bu-long : length bu ≡ length bu₀
   pub out-long : length out ≡ length out₀
-  pub so : Flows (tables ws₀ su₀ se₀ dr₀) (length st₀) flow bu ws su se dr
+  pub so : Flows (tables (reservedOf ws₀ xs₀)) (length st₀) flow bu (reservedOf ws xs)
 
-module _ {ws : List Request} {su se dr st bu out : List ℕ} where
-  abbrev pub Nearer : Turns ws su se dr st bu out → Turns ws su se dr st bu out → Type 0
+module _ {ws : List Request} {xs st bu out : List ℕ} where
+  abbrev pub Nearer : Turns ws xs st bu out → Turns ws xs st bu out → Type 0
   Nearer u t = u .flow .turns < t .flow .turns
 
   pub Nearer-wf : WellFounded Nearer
-  Nearer-wf = InvImage·wf (λ (t : Turns ws su se dr st bu out). t .flow .turns) (Nat·lt-wfRel .wf)
+  Nearer-wf = InvImage·wf (λ (t : Turns ws xs st bu out). t .flow .turns) (Nat·lt-wfRel .wf)
 
 pub as-long : {m n : ℕ} (k : ℕ) → m ≡ n → k ≤ n → k ≤ m
 as-long k e h = omega arith

@@ -18,12 +18,11 @@ use lib.Dec.{eqb}
 use lib.IntN.{ℤ, pos, negsuc}
 use lib.ListN.{length, take, drop}
 use Rattle.libc.specs.Io.{Moved}
-use Rattle.spec.specs.declared.types.Request.{Request}
 use Rattle.session.specs.declared.types.Fed.{Fed}
 use Rattle.spec.specs.Session.{session as sessionOf}
 use Rattle.columns.specs.Widths.{largest64}
 use Rattle.frame.specs.Written.{mostBytes}
-use Rattle.session.specs.Standing.{doFit}
+use Rattle.session.specs.Standing.{Reserved, fitsIn}
 use Rattle.session.specs.Feeding.{owed}
 use Rattle.session.specs.Parts.{atStart, Lent, Through}
 use Rattle.session_main.specs.declared.flow.Flow.{Flow}
@@ -144,15 +143,14 @@ pub record GoesOn (flow : Flow) (fed : Fed) (buffer out buffer′ out′ : List 
 
 -- ---- the program
 -- what the program needs for each turn to use or read something: tables for every session, room for an answer, and room to read
-pub record Reserved (ws : List Request) (submitted served dropped starts buffer out : List ℕ) : Type 0 where
-  pub fits : doFit atStart (length ws) (length submitted) (length served) (length dropped) (length starts) ≡ true
+pub record Suffices (t : Reserved) (starts buffer out : List ℕ) : Type 0 where
+  pub fits : fitsIn atStart t starts ≡ true
   pub answer-fits : mostBytes ≤ length out
   pub buffer-long : length buffer ≡ bufferLength
 
 -- the tables that the program begins with, and where the session then stands
-abbrev pub first : List Request → List ℕ → List ℕ → List ℕ → Lent
-first ws submitted served dropped =
-    record { session = atStart; waitingTable = ws; submitted = submitted; served = served; dropped = dropped }
+abbrev pub first : Reserved → Lent
+first t = record { session = atStart; tables = t }
 
 -- the reads, the last one first: how much they delivered, and that each delivered something, but for the last where the input ends
 abbrev pub amount : List Got → ℕ
@@ -192,18 +190,16 @@ abbrev pub Handed : Bool → List ℕ → List ℕ → List ℕ → Type 0
 Handed true input answers handed = handed ≡ sessionOf input
 Handed false input answers handed = handed ≡ answers
 
--- from the tables ws₀ .. dropped₀ the program came to ws .. dropped by feeding a session one input from its start, part behind
+-- from the tables t₀ the program came to t by feeding a session one input from its start, part behind
 -- part, nothing left out and nothing twice, and it handed the answers to the write, in order; which input that is, no contract says
-pub record Served (ws₀ : List Request) (submitted₀ served₀ dropped₀ : List ℕ) (ws : List Request)
-    (submitted served dropped : List ℕ) (r : Flow) : Type 0 where
+pub record Served (t₀ t : Reserved) (r : Flow) : Type 0 where
   pub input : List ℕ
   pub used : ℕ
   pub answers : List ℕ
   pub reads : List Got
   pub writes : List Write
   pub through :
-      Through (first ws₀ submitted₀ served₀ dropped₀) input used answers
-      (record { session = r .session; waitingTable = ws; submitted = submitted; served = served; dropped = dropped })
+      Through (first t₀) input used answers (record { session = r .session; tables = t })
   pub long : amount reads ≡ length input
   pub delivers : Delivers (r .ended) (r .unreadable) reads
   pub handed : Handed (r .ended) input answers (handedTo writes)

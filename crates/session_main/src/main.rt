@@ -3,12 +3,14 @@
 mod flow;
 mod system;
 
+use columns::clients::WIDTH;
 use flow::Flow;
 use frame::answers::MOST_BYTES;
 use spec::bounds::MOST_CLIENTS;
 use spec::bounds::MOST_RECORDS;
 use spec::types::Request;
-ghost use Rattle.session_main.specs.Flowing.{Reserved, Served};
+ghost use Rattle.session.specs.Standing.{reservedOf};
+ghost use Rattle.session_main.specs.Flowing.{Suffices, Served};
 
 // The characters that the buffer has room for.
 const BUFFER: usize = 65536;
@@ -16,16 +18,14 @@ const BUFFER: usize = 65536;
 // Feeds the session part by part, until the input ends or a read or a write fails, and hands back where that was.
 fn serve(
     waiting: &mut [Request],
-    submitted: &mut [u32],
-    served: &mut [u32],
-    dropped: &mut [u32],
+    clients: &mut [u32],
     starts: &mut [u64],
     buffer: &mut [u8],
     out: &mut [u8],
 ) -> Flow
-    requires { ⌜ Reserved (now waiting) (now submitted) (now served) (now dropped) (now starts) (now buffer) (now out) ⌝ }
-    ensures { λ r. ⌜ Served (now (waiting .entry)) (now (submitted .entry)) (now (served .entry)) (now (dropped .entry))
-        (now (waiting .exit)) (now (submitted .exit)) (now (served .exit)) (now (dropped .exit)) r ⌝ }
+    requires { ⌜ Suffices (reservedOf (now waiting) (now clients)) (now starts) (now buffer) (now out) ⌝ }
+    ensures { λ r. ⌜ Served (reservedOf (now (waiting .entry)) (now (clients .entry)))
+        (reservedOf (now (waiting .exit)) (now (clients .exit))) r ⌝ }
 {
     let mut flow = flow::start();
     while flow.turns > 0 {
@@ -34,9 +34,7 @@ fn serve(
             read.session,
             &buffer[..read.have],
             waiting,
-            submitted,
-            served,
-            dropped,
+            clients,
             starts,
             out,
         );
@@ -54,17 +52,13 @@ fn main() {
         number: 0,
         client: 0,
     }; MOST_RECORDS];
-    let mut submitted = [0u32; MOST_CLIENTS];
-    let mut served = [0u32; MOST_CLIENTS];
-    let mut dropped = [0u32; MOST_CLIENTS];
+    let mut clients = [0u32; WIDTH * MOST_CLIENTS];
     let mut starts = [0u64; MOST_RECORDS];
     let mut buffer = [0u8; BUFFER];
     let mut out = [0u8; 4 * MOST_BYTES];
     let flow = serve(
         &mut waiting,
-        &mut submitted,
-        &mut served,
-        &mut dropped,
+        &mut clients,
         &mut starts,
         &mut buffer,
         &mut out,

@@ -9,7 +9,8 @@ use Rattle.spec.specs.declared.types.Request.{Request}
 use Rattle.spec.specs.Tables.{zeroRequest}
 use Rattle.table.proofs.Rows.{R, mach, vals, lawful, copy, makes, zero-is}
 use Rattle.session.specs.Standing.{doFit}
-use Rattle.session_main.specs.Flowing.{bufferLength, Reserved}
+use Rattle.session.specs.Standing.{reservedOf}
+use Rattle.session_main.specs.Flowing.{bufferLength, Suffices}
 use Rattle.session_main.proofs.serve as serve
 use Rattle.session_main.proofs.flow.say_why as say-why
 use Rattle.session_main.proofs.main as f
@@ -27,11 +28,11 @@ unfolding records
 records-long = length-replicate {A = Request} 2048 zeroRequest
 
 -- which are as long as the program needs
-reserved : Reserved records (zeros 256) (zeros 256) (zeros 256) (zeros 2048) (zeros 65536) (zeros 286748)
+suffices : Suffices (reservedOf records (zeros 768)) (zeros 2048) (zeros 65536) (zeros 286748)
 unfolding doFit
-reserved =
+suffices =
     record {
-      fits = rw (records-long, zeros-long 256, zeros-long 2048);
+      fits = rw (records-long, zeros-long 768, zeros-long 2048);
       answer-fits = omega (arith, zeros-long 286748);
       buffer-long = zeros-long bufferLength;
     }
@@ -57,26 +58,22 @@ module _ {M : Type 1} (𝓤 : URA M) (H : Heap 𝓤) (A : Atoms 𝓤) (W : Given
       let l₃ : ℕ = bs .1 .1 .1 .0 in
       let l₄ : ℕ = bs .1 .1 .1 .1 .0 in
       let l₅ : ℕ = bs .1 .1 .1 .1 .1 .0 in
-      let l₆ : ℕ = bs .1 .1 .1 .1 .1 .1 .0 in
-      let l₇ : ℕ = bs .1 .1 .1 .1 .1 .1 .1 .0 in
       drop ! $
       sets ! (agg ! (and-then ! (lit ! tt) (and-then ! (lit ! tt) (and-then ! (lit ! tt) (no-more !))))) refl (lawful 𝓤 H A W .typed zeroRequest (vals zeroRequest) zero-is .0) $
       takes-out ! 1 refl $ repeats ! R (lawful 𝓤 H A W) (copy 𝓤 H A W) (makes 𝓤 H A W) 2048 zeroRequest (mach zeroRequest) zero-is l₁ (var ! refl) (from ! (stop !)) (
       rewrite ! 0 (λ (xs : List Request). ‵ (Held-array R 2048 l₁ xs)) records-is refl $
-      zeroes ! (lit< tt) refl refl $ zeroes ! (lit< tt) refl refl $ zeroes ! (lit< tt) refl refl $ zeroes ! (lit< tt) refl refl $ zeroes ! (lit< tt) refl refl $ zeroes ! (lit< tt) refl refl $
+      zeroes ! (lit< tt) refl refl $ zeroes ! (lit< tt) refl refl $ zeroes ! (lit< tt) refl refl $ zeroes ! (lit< tt) refl refl $
       lends-slice ! (addr ! (from ! (stop !))) (lit< tt) refl refl (big-lit ! (fit (lit< tt))) $
       lends-slice ! (addr ! (from ! (stop !))) (lit< tt) refl refl (lit ! tt) $
-      lends-slice ! (addr ! (from ! (stop !))) (lit< tt) refl refl (lit ! tt) $
-      lends-slice ! (addr ! (from ! (stop !))) (lit< tt) refl refl (lit ! tt) $
       lends-slice ! (addr ! (from ! (stop !))) (lit< tt) refl refl (big-lit ! (fit (lit< tt))) $
       lends-slice ! (addr ! (from ! (stop !))) (lit< tt) refl refl (big-lit ! (fit (lit< tt))) $
       lends-slice ! (addr ! (from ! (stop !))) (lit< tt) refl refl (big-lit ! (fit (lit< tt))) $
-      -- let flow = serve(&mut waiting, &mut submitted, &mut served, &mut dropped, &mut starts, &mut buffer, &mut out);
-      calls-for ! 𝓣 (6 ∷ 5 ∷ 4 ∷ 3 ∷ 2 ∷ 1 ∷ 0 ∷ []) (loan (array-lent W R 2048 l₁ tt records (subst (Room R) (sym records-long) (lit< tt, lit< tt)) records-long) ∷ mut-zeros W w32 256 l₂ (lit< tt, lit< tt) ∷ mut-zeros W w32 256 l₃ (lit< tt, lit< tt) ∷ mut-zeros W w32 256 l₄ (lit< tt, lit< tt) ∷ mut-zeros W w64 2048 l₅ (lit< tt, lit< tt) ∷ mut-zeros W w8 65536 l₆ (lit< tt, lit< tt) ∷ mut-zeros W w8 286748 l₇ (lit< tt, lit< tt) ∷ []) a-flow (λ c. known-serve) (λ c h. h) (so 𝓤 reserved) refl (λ c. vars ! (refl, (refl, (refl, (refl, (refl, (refl, (refl, tt)))))))) (λ _. refl) (λ flow last served kept flow-is.
+      -- let flow = serve(&mut waiting, &mut clients, &mut starts, &mut buffer, &mut out);
+      calls-for ! 𝓣 (4 ∷ 3 ∷ 2 ∷ 1 ∷ 0 ∷ []) (loan (array-lent W R 2048 l₁ tt records (subst (Room R) (sym records-long) (lit< tt, lit< tt)) records-long) ∷ mut-zeros W w32 768 l₂ (lit< tt, lit< tt) ∷ mut-zeros W w64 2048 l₃ (lit< tt, lit< tt) ∷ mut-zeros W w8 65536 l₄ (lit< tt, lit< tt) ∷ mut-zeros W w8 286748 l₅ (lit< tt, lit< tt) ∷ []) a-flow (λ c. known-serve) (λ c h. h) (so 𝓤 suffices) refl (λ c. vars ! (refl, (refl, (refl, (refl, (refl, tt)))))) (λ _. refl) (λ flow last served kept flow-is.
       -- flow::say_why(flow);
       calls-for ! 𝓣 [] (given W a-flow flow flow-is ∷ []) of-flag (λ c. known-say-why) (λ c h. h) (id⊢ 𝓤 _) refl (λ c. vars ! (refl, tt)) (λ _. refl) (λ said last′ told kept′ said-is.
       sets ! (of-opd ! (unit-lit !)) refl (tt, tt) $
-      ends-array ! 7 u8 286748 l₇ (last .1 .1 .1 .1 .1 .1 .0) $ ends-array ! 6 u8 65536 l₆ (last .1 .1 .1 .1 .1 .0) $ ends-array ! 5 u64 2048 l₅ (last .1 .1 .1 .1 .0) $ ends-array ! 4 u32 256 l₄ (last .1 .1 .1 .0) $ ends-array ! 3 u32 256 l₃ (last .1 .1 .0) $ ends-array ! 2 u32 256 l₂ (last .1 .0) $ ends-array ! 1 R 2048 l₁ (last .0) $
+      ends-array ! 5 u8 286748 l₅ (last .1 .1 .1 .1 .0) $ ends-array ! 4 u8 65536 l₄ (last .1 .1 .1 .0) $ ends-array ! 3 u64 2048 l₃ (last .1 .1 .0) $ ends-array ! 2 u32 768 l₂ (last .1 .0) $ ends-array ! 1 R 2048 l₁ (last .0) $
       gives ! refl refl $ leaves vunit tt tt tt (made W of-nothing tt refl) (id⊢ 𝓤 (emp 𝓤)))))
 
 pub main-spec : {M : Type 1} → f.Statement.statement M

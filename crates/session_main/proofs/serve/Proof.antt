@@ -12,7 +12,8 @@ use Rattle.session.proofs.Values.{a-session, a-fed}
 use Rattle.spec.specs.declared.types.Request.{Request}
 use Rattle.frame.specs.Written.{mostBytes}
 use Rattle.table.proofs.Rows.{R}
-use Rattle.session_main.specs.Flowing.{bufferLength, Reserved}
+use Rattle.session.specs.Standing.{reservedOf}
+use Rattle.session_main.specs.Flowing.{bufferLength, Suffices}
 use Rattle.session_main.proofs.Values.{FlowT, flow-vals, have-fits, session-in, a-flow}
 use Rattle.session_main.proofs.Flows.{flows-begin, can-read, reads-on, fed-within, feeds-through, flows-end}
 use Rattle.session_main.proofs.Turns.{Turns, Nearer, Nearer-wf, as-long, none-left}
@@ -35,7 +36,7 @@ module _ {M : Type 1} (𝓤 : URA M) (H : Heap 𝓤) (A : Atoms 𝓤) (W : Given
 
   abbrev shape : Shape W
   shape = record {
-    params = lent R ∷ lent u32 ∷ lent u32 ∷ lent u32 ∷ lent u64 ∷ lent u8 ∷ lent u8 ∷ [];
+    params = lent R ∷ lent u32 ∷ lent u64 ∷ lent u8 ∷ lent u8 ∷ [];
     result = FlowT;
     clauses = f.clauses 𝓤 H A mem run;
     code = f.Code.function;
@@ -44,14 +45,14 @@ module _ {M : Type 1} (𝓤 : URA M) (H : Heap 𝓤) (A : Atoms 𝓤) (W : Given
   }
 
   module _ (𝓣 : Tables 𝓤 H) (known-read-on : Triple 𝓤 (𝓣 .C (reading .0)) (reading .1)) (known-feed : Triple 𝓤 (𝓣 .C (feeding .0)) (feeding .1)) (known-go-on : Triple 𝓤 (𝓣 .C (going-on .0)) (going-on .1))
-      (κs : Lfts 7) (qs : Shares 7) (waiting : Slice R (κs .0) (qs .0)) (submitted : Slice u32 (κs .1 .0) (qs .1 .0)) (served : Slice u32 (κs .1 .1 .0) (qs .1 .1 .0)) (dropped : Slice u32 (κs .1 .1 .1 .0) (qs .1 .1 .1 .0)) (starts : Slice u64 (κs .1 .1 .1 .1 .0) (qs .1 .1 .1 .1 .0)) (buffer : Slice u8 (κs .1 .1 .1 .1 .1 .0) (qs .1 .1 .1 .1 .1 .0)) (out : Slice u8 (κs .1 .1 .1 .1 .1 .1 .0) (qs .1 .1 .1 .1 .1 .1 .0))
-      (reserved : Reserved (waiting .list) (submitted .list) (served .list) (dropped .list) (starts .list) (buffer .list) (out .list)) (Q : Val → SProp 𝓤)
-      (leaves : Leaves (shape .params) FlowT W (f.clauses 𝓤 H A mem run) κs qs (ref waiting, (ref submitted, (ref served, (ref dropped, (ref starts, (ref buffer, (ref out, tt))))))) tt Q) (bs : Blocks (f.Code.function .locals)) where
+      (κs : Lfts 5) (qs : Shares 5) (waiting : Slice R (κs .0) (qs .0)) (clients : Slice u32 (κs .1 .0) (qs .1 .0)) (starts : Slice u64 (κs .1 .1 .0) (qs .1 .1 .0)) (buffer : Slice u8 (κs .1 .1 .1 .0) (qs .1 .1 .1 .0)) (out : Slice u8 (κs .1 .1 .1 .1 .0) (qs .1 .1 .1 .1 .0))
+      (suffices : Suffices (reservedOf (waiting .list) (clients .list)) (starts .list) (buffer .list) (out .list)) (Q : Val → SProp 𝓤)
+      (leaves : Leaves (shape .params) FlowT W (f.clauses 𝓤 H A mem run) κs qs (ref waiting, (ref clients, (ref starts, (ref buffer, (ref out, tt))))) tt Q) (bs : Blocks (f.Code.function .locals)) where
     abbrev E : Env 𝓤 H
     E = envAt (f.Code.function .locals) bs
 
     abbrev Turn : Type 0
-    Turn = Turns (waiting .list) (submitted .list) (served .list) (dropped .list) (starts .list) (buffer .list) (out .list)
+    Turn = Turns (waiting .list) (clients .list) (starts .list) (buffer .list) (out .list)
 
     abbrev passed : {S : RattleType} {κ : Lft} {q : Share} → Slice S κ q → Held
     passed s = holds (sliceVal (s .block, s .offset) (length (s .list)))
@@ -59,8 +60,8 @@ module _ {M : Type 1} (𝓤 : URA M) (H : Heap 𝓤) (A : Atoms 𝓤) (W : Given
     -- the loop's invariant
     abbrev At : Turn → List (Item 𝓤)
     At t =
-        ‵ (Lent-at waiting (t .ws)) ∷ ‵ (Lent-at submitted (t .su)) ∷ ‵ (Lent-at served (t .se)) ∷ ‵ (Lent-at dropped (t .dr)) ∷ ‵ (Lent-at starts (t .st)) ∷ ‵ (Lent-at buffer (t .bu)) ∷ ‵ (Lent-at out (t .out))
-        ∷ standing E (empty ∷ passed waiting ∷ passed submitted ∷ passed served ∷ passed dropped ∷ passed starts ∷ passed buffer ∷ passed out ∷ holds (a-flow .val (t .flow)) ∷ []) []
+        ‵ (Lent-at waiting (t .ws)) ∷ ‵ (Lent-at clients (t .xs)) ∷ ‵ (Lent-at starts (t .st)) ∷ ‵ (Lent-at buffer (t .bu)) ∷ ‵ (Lent-at out (t .out))
+        ∷ standing E (empty ∷ passed waiting ∷ passed clients ∷ passed starts ∷ passed buffer ∷ passed out ∷ holds (a-flow .val (t .flow)) ∷ []) []
 
     -- a turn's postcondition: fewer turns are left, or the loop is left and the rest of the body runs
     abbrev Turned : Turn → Out → SProp 𝓤
@@ -69,49 +70,47 @@ module _ {M : Type 1} (𝓤 : URA M) (H : Heap 𝓤) (A : Atoms 𝓤) (W : Given
     turns : (t : Turn) → Sq W (At t) (runs (𝓣 .C) (𝓣 .Λ) E code.turn-1 (anyQ (Turned t)))
     unfolding afterTurn
     turns t =
-        let buffer-long : length (t .bu) ≡ bufferLength = t .bu-long ∙ reserved .buffer-long in
+        let buffer-long : length (t .bu) ≡ bufferLength = t .bu-long ∙ suffices .buffer-long in
         sets ! (bin ! (lit ! tt) (field-var ! refl refl refl) tt) refl (tt, tt) $
         tests ! (var ! refl)
         (λ held.
         let going : 0 < t .flow .turns = ltb→lt 0 (t .flow .turns) held in
         -- let read = flow::read_on(flow, buffer);
         relends ! buffer refl $
-        calls-for ! 𝓣 (5 ∷ []) (given W a-flow (t .flow) (t .flow-is) ∷ mut-of W buffer (t .bu) (t .bu-long) ∷ []) a-flow (λ c. known-read-on) (λ c h. h) (so 𝓤 (buffer-long, can-read (t .so) buffer-long going)) refl (λ c. vars ! (refl, (refl, tt))) (λ _. refl) (λ read last₁ reads kept₁ read-is.
+        calls-for ! 𝓣 (3 ∷ []) (given W a-flow (t .flow) (t .flow-is) ∷ mut-of W buffer (t .bu) (t .bu-long) ∷ []) a-flow (λ c. known-read-on) (λ c h. h) (so 𝓤 (buffer-long, can-read (t .so) buffer-long going)) refl (λ c. vars ! (refl, (refl, tt))) (λ _. refl) (λ read last₁ reads kept₁ read-is.
         let bu₁ : List ℕ = last₁ .1 .0 in
         let bu₁-long : length bu₁ ≡ length (buffer .list) = kept₁ .0 ∙ t .bu-long in
         let fed-so = reads-on (t .so) buffer-long going bu₁ read reads (kept₁ .0) in
-        -- let fed = session::feed(read.session, &buffer[..read.have], waiting, submitted, served, dropped, starts, out);
+        -- let fed = session::feed(read.session, &buffer[..read.have], waiting, clients, starts, out);
         lends-front ! (have-fits read read-is) refl (field-var ! refl refl refl) $
-        relends ! waiting refl $ relends ! submitted refl $ relends ! served refl $ relends ! dropped refl $ relends ! starts refl $ relends ! out refl $
-        calls-for ! 𝓣 (5 ∷ 0 ∷ 1 ∷ 2 ∷ 3 ∷ 4 ∷ 6 ∷ []) (given W a-session (read .session) (session-in read read-is) ∷ shr-front W buffer bu₁ bu₁-long (read .have) (fed-so .0 .stands .within) ∷ mut-of W waiting (t .ws) (t .ws-long) ∷ mut-of W submitted (t .su) (t .su-long) ∷ mut-of W served (t .se) (t .se-long) ∷ mut-of W dropped (t .dr) (t .dr-long) ∷ mut-of W starts (t .st) (t .st-long) ∷ mut-of W out (t .out) (t .out-long) ∷ []) a-fed (λ c. known-feed) (λ c h. h) (id⊢ 𝓤 _) refl (λ c. and-then ! (field-var ! refl refl refl) (vars ! (refl, (refl, (refl, (refl, (refl, (refl, (refl, tt))))))))) (λ _. refl) (λ fed last₂ is-fed kept₂ fed-is.
+        relends ! waiting refl $ relends ! clients refl $ relends ! starts refl $ relends ! out refl $
+        calls-for ! 𝓣 (3 ∷ 0 ∷ 1 ∷ 2 ∷ 4 ∷ []) (given W a-session (read .session) (session-in read read-is) ∷ shr-front W buffer bu₁ bu₁-long (read .have) (fed-so .0 .stands .within) ∷ mut-of W waiting (t .ws) (t .ws-long) ∷ mut-of W clients (t .xs) (t .xs-long) ∷ mut-of W starts (t .st) (t .st-long) ∷ mut-of W out (t .out) (t .out-long) ∷ []) a-fed (λ c. known-feed) (λ c h. h) (id⊢ 𝓤 _) refl (λ c. and-then ! (field-var ! refl refl refl) (vars ! (refl, (refl, (refl, (refl, (refl, tt))))))) (λ _. refl) (λ fed last₂ is-fed kept₂ fed-is.
         let ws₁ : List Request = last₂ .1 .1 .0 in
-        let su₁ : List ℕ = last₂ .1 .1 .1 .0 in
-        let se₁ : List ℕ = last₂ .1 .1 .1 .1 .0 in
-        let dr₁ : List ℕ = last₂ .1 .1 .1 .1 .1 .0 in
-        let out₁ : List ℕ = last₂ .1 .1 .1 .1 .1 .1 .1 .0 in
+        let xs₁ : List ℕ = last₂ .1 .1 .1 .0 in
+        let out₁ : List ℕ = last₂ .1 .1 .1 .1 .1 .0 in
         let long = kept₂ .1 in
-        let out₁-long : length out₁ ≡ length (out .list) = long .1 .1 .1 .1 .1 .0 ∙ t .out-long in
+        let out₁-long : length out₁ ≡ length (out .list) = long .1 .1 .1 .0 ∙ t .out-long in
         -- let next = flow::go_on(read, fed, buffer, out);
         relends ! buffer refl $ relends ! out refl $
-        calls-for ! 𝓣 (5 ∷ 6 ∷ []) (given W a-flow read read-is ∷ given W a-fed fed fed-is ∷ mut-of W buffer bu₁ bu₁-long ∷ mut-of W out out₁ out₁-long ∷ []) a-flow (λ c. known-go-on) (λ c h. h) (so 𝓤 (fed-so .0 .going, bu₁-long ∙ reserved .buffer-long, as-long (read .have) (sym (bu₁-long ∙ reserved .buffer-long)) (fed-so .0 .stands .within), fed-within (fed-so .0) (t .st-long) is-fed, as-long mostBytes out₁-long (reserved .answer-fits), as-long (fed .put) (long .1 .1 .1 .1 .1 .0) (is-fed .room))) refl (λ c. vars ! (refl, (refl, (refl, (refl, tt))))) (λ _. refl) (λ next last₃ on kept₃ next-is.
+        calls-for ! 𝓣 (3 ∷ 4 ∷ []) (given W a-flow read read-is ∷ given W a-fed fed fed-is ∷ mut-of W buffer bu₁ bu₁-long ∷ mut-of W out out₁ out₁-long ∷ []) a-flow (λ c. known-go-on) (λ c h. h) (so 𝓤 (fed-so .0 .going, bu₁-long ∙ suffices .buffer-long, as-long (read .have) (sym (bu₁-long ∙ suffices .buffer-long)) (fed-so .0 .stands .within), fed-within (fed-so .0) (t .st-long) is-fed, as-long mostBytes out₁-long (suffices .answer-fits), as-long (fed .put) (long .1 .1 .1 .0) (is-fed .room))) refl (λ c. vars ! (refl, (refl, (refl, (refl, tt))))) (λ _. refl) (λ next last₃ on kept₃ next-is.
         -- flow = next
         sets-last ! (of-opd ! (var ! refl)) refl (a-flow .lawful 𝓤 H A W .typed next (flow-vals next) next-is .0) $
-        empties ! 9 refl $ empties ! 10 refl $ empties ! 11 refl $ empties ! 12 refl $ empties ! 13 refl $ empties ! 14 refl $ empties ! 15 refl $ empties ! 16 refl $ empties ! 17 refl $ empties ! 18 refl $ empties ! 19 refl $ empties ! 20 refl $ empties ! 21 refl $ empties ! 22 refl $ empties ! 23 refl $ empties ! 24 refl $ empties ! 25 refl $ empties ! 26 refl $ empties ! 27 refl $ empties ! 28 refl $ empties ! 29 refl $ empties ! 30 refl $ empties ! 31 refl $ empties ! 32 refl $
-        let turn = feeds-through (fed-so .0) (t .st-long) is-fed (as-long mostBytes (t .out-long) (reserved .answer-fits)) on (kept₃ .0) in
-        again ! Nearer At t (record { flow = next; ws = ws₁; su = su₁; se = se₁; dr = dr₁; st = last₂ .1 .1 .1 .1 .1 .1 .0; bu = last₃ .1 .1 .0; out = last₃ .1 .1 .1 .0; flow-is = next-is; ws-long = long .0 ∙ t .ws-long; su-long = long .1 .0 ∙ t .su-long; se-long = long .1 .1 .0 ∙ t .se-long; dr-long = long .1 .1 .1 .0 ∙ t .dr-long; st-long = long .1 .1 .1 .1 .0 ∙ t .st-long; bu-long = kept₃ .0 ∙ bu₁-long; out-long = kept₃ .1 .0 ∙ out₁-long; so = turn .0 })
+        empties ! 7 refl $ empties ! 8 refl $ empties ! 9 refl $ empties ! 10 refl $ empties ! 11 refl $ empties ! 12 refl $ empties ! 13 refl $ empties ! 14 refl $ empties ! 15 refl $ empties ! 16 refl $ empties ! 17 refl $ empties ! 18 refl $ empties ! 19 refl $ empties ! 20 refl $ empties ! 21 refl $ empties ! 22 refl $ empties ! 23 refl $ empties ! 24 refl $ empties ! 25 refl $ empties ! 26 refl $
+        let turn = feeds-through (fed-so .0) (t .st-long) is-fed (as-long mostBytes (t .out-long) (suffices .answer-fits)) on (kept₃ .0) in
+        again ! Nearer At t (record { flow = next; ws = ws₁; xs = xs₁; st = last₂ .1 .1 .1 .1 .0; bu = last₃ .1 .1 .0; out = last₃ .1 .1 .1 .0; flow-is = next-is; ws-long = long .0 ∙ t .ws-long; xs-long = long .1 .0 ∙ t .xs-long; st-long = long .1 .1 .0 ∙ t .st-long; bu-long = kept₃ .0 ∙ bu₁-long; out-long = kept₃ .1 .0 ∙ out₁-long; so = turn .0 })
         (subst (λ (n : ℕ). next .turns < n) (fed-so .1) (turn .1))))))
         (λ over. exec ! (𝓣 .C) (𝓣 .Λ) E code.t-3 (atRet E Q) $
         copies ! refl refl (a-flow .lawful 𝓤 H A W .typed (t .flow) (flow-vals (t .flow)) (t .flow-is) .0) $ gives ! refl refl $
-        leaves (a-flow .val (t .flow)) (t .flow) (t .ws, (t .su, (t .se, (t .dr, (t .st, (t .bu, (t .out, tt))))))) (t .ws-long, (t .su-long, (t .se-long, (t .dr-long, (t .st-long, (t .bu-long, (t .out-long, tt))))))) (made W a-flow (t .flow) (t .flow-is))
+        leaves (a-flow .val (t .flow)) (t .flow) (t .ws, (t .xs, (t .st, (t .bu, (t .out, tt))))) (t .ws-long, (t .xs-long, (t .st-long, (t .bu-long, (t .out-long, tt))))) (made W a-flow (t .flow) (t .flow-is))
         (so 𝓤 (flows-end (t .so) (none-left (t .flow .turns) over))))
 
   walk : (𝓣 : Tables 𝓤 H) → Walk shape 𝓣
-  walk 𝓣 known-start known-read-on known-feed known-go-on κs qs waiting submitted served dropped starts buffer out g Q leaves bs =
-      heard ! (Reserved (waiting .list) (submitted .list) (served .list) (dropped .list) (starts .list) (buffer .list) (out .list)) (λ reserved.
+  walk 𝓣 known-start known-read-on known-feed known-go-on κs qs waiting clients starts buffer out g Q leaves bs =
+      heard ! (Suffices (reservedOf (waiting .list) (clients .list)) (starts .list) (buffer .list) (out .list)) (λ suffices.
       -- let mut flow = flow::start();
       calls-for ! 𝓣 [] [] a-flow (λ c. known-start) (λ c h. h) (id⊢ 𝓤 _) refl (λ c. no-more !) (λ _. refl) (λ flow last starts-so kept flow-is.
-      first ! $ blocks ! $ loops ! 𝓣 Nearer Nearer-wf (At 𝓣 known-read-on known-feed known-go-on κs qs waiting submitted served dropped starts buffer out reserved Q leaves bs) (turns 𝓣 known-read-on known-feed known-go-on κs qs waiting submitted served dropped starts buffer out reserved Q leaves bs)
-      (record { flow = flow; ws = waiting .list; su = submitted .list; se = served .list; dr = dropped .list; st = starts .list; bu = buffer .list; out = out .list; flow-is = flow-is; ws-long = refl; su-long = refl; se-long = refl; dr-long = refl; st-long = refl; bu-long = refl; out-long = refl; so = flows-begin starts-so reserved })))
+      first ! $ blocks ! $ loops ! 𝓣 Nearer Nearer-wf (At 𝓣 known-read-on known-feed known-go-on κs qs waiting clients starts buffer out suffices Q leaves bs) (turns 𝓣 known-read-on known-feed known-go-on κs qs waiting clients starts buffer out suffices Q leaves bs)
+      (record { flow = flow; ws = waiting .list; xs = clients .list; st = starts .list; bu = buffer .list; out = out .list; flow-is = flow-is; ws-long = refl; xs-long = refl; st-long = refl; bu-long = refl; out-long = refl; so = flows-begin starts-so suffices })))
 
 pub serve-spec : {M : Type 1} → f.Statement.statement M
 unfolding f.Code.routine
