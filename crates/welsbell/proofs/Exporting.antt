@@ -5,12 +5,13 @@ use mathlib.Core.List.{List}
 use Rattle.spec.specs.declared.types.Head.{Head}
 use Rattle.spec.specs.declared.types.Request.{Request}
 use Rattle.spec.specs.declared.types.Answer.{Answer}
-use Rattle.spec.specs.Tables.{State}
-use Rattle.spec.specs.Refusals.{Refusal, reportRefusals, chartRefusals}
-use Rattle.spec.specs.Calls.{Outcome, reportAccepted, reportOf, chartAccepted, chartOf}
+use Rattle.spec.specs.Tables.{State, stateOf}
+use Rattle.spec.specs.Setup.{Refusal}
+use Rattle.spec.specs.Calls.{Outcome, reportAccepted, chartAccepted}
+use Rattle.spec.specs.Lists.{Call, report, chart, outcomeOf}
 use Rattle.spec.specs.Frames.{kindOf}
-use Rattle.spec.proofs.Laws.Accepted.{Decided, accepts, refuses, decided}
-use Rattle.columns.specs.Columns.{stateOf}
+use Rattle.spec.proofs.Laws.Accepted.{Decided, accepts, refuses}
+use Rattle.spec.proofs.Calls.Refused.{outcome-decided}
 use Rattle.decide.specs.declared.types.Reply.{Reply}
 use Rattle.queue.specs.Gives.{Gives}
 use Rattle.welsbell.specs.Numbers.{headOf, valueNumbers, written, Exported}
@@ -20,40 +21,37 @@ stays : {rs : List Refusal} {s : State} {accepted o : Outcome} → accepted .aft
 stays e (accepts z) = e
 stays e (refuses z) = refl
 
-pub report-stays : (client : ℕ) (s : State) → reportOf client s .after ≡ s
-unfolding reportAccepted reportOf
-report-stays client s = stays refl (decided (reportRefusals client s) s (reportAccepted client s))
+pub report-stays : (client : ℕ) (s : State) → outcomeOf (report client) s .after ≡ s
+unfolding reportAccepted
+report-stays client s = stays refl (outcome-decided (report client) s)
 
-pub chart-stays : (output : List ℕ) (s : State) → chartOf output s .after ≡ s
-unfolding chartAccepted chartOf
-chart-stays output s = stays refl (decided (chartRefusals output s) s (chartAccepted s))
+pub chart-stays : (output : List ℕ) (s : State) → outcomeOf (chart output) s .after ≡ s
+unfolding chartAccepted
+chart-stays output s = stays refl (outcome-decided (chart output) s)
 
--- the call `of`, with the head h that was read, gave this reply, whose values were written
-module _ (of : State → Outcome) (head values₀ : List ℕ) {h : Head} (is-head : h ≡ headOf head) {ws ws′ : List Request}
-    {su se dr su′ se′ dr′ : List ℕ} {reply : Reply} {values : List ℕ} {kind : ℕ}
-    (gave : Gives (of (stateOf h ws su se dr)) su se dr reply ws′ su′ se′ dr′)
+-- the call c, with the head h that was read, gave this reply, whose values were written
+module _ (c : Call) (head values₀ : List ℕ) {h : Head} (is-head : h ≡ headOf head) {ws ws′ : List Request} {xs xs′ : List ℕ}
+    {reply : Reply} {values : List ℕ} {kind : ℕ} (gave : Gives c (stateOf h ws xs) reply (stateOf (reply .head) ws′ xs′))
     (told : (kind ≡ kindOf (reply .answer)) × (values ≡ written (valueNumbers (reply .answer)) values₀)) where
   abbrev s : State
-  s = stateOf (headOf head) ws su se dr
+  s = stateOf (headOf head) ws xs
 
-  given : Gives (of s) su se dr reply ws′ su′ se′ dr′
-  given = subst (λ (x : Head). Gives (of (stateOf x ws su se dr)) su se dr reply ws′ su′ se′ dr′) is-head gave
+  given : Gives c s reply (stateOf (reply .head) ws′ xs′)
+  given = subst (λ (x : Head). Gives c (stateOf x ws xs) reply (stateOf (reply .head) ws′ xs′)) is-head gave
 
-  -- the head that is left is the one that the definition gives
-  exports : {head′ : List ℕ} → headOf head′ ≡ of s .after .head → Exported (of s) values₀ su se dr kind head′ values ws′ su′ se′ dr′
-  exports headed =
+  -- the state that is left is the one that the definition gives
+  exports : {after : State} → after ≡ outcomeOf c s .after → Exported c s values₀ kind values after
+  exports same =
       record {
         kind-same = told .0 ∙ ap kindOf (given .answer-same);
         values-same = told .1 ∙ ap (λ (a : Answer). written (valueNumbers a) values₀) (given .answer-same);
-        head-same = headed;
-        waiting-same = given .waiting-same;
-        counts-same = given .counts-same;
+        after-same = same;
       }
 
-  -- the reply's was written
-  pub exports-given : {head′ : List ℕ} → headOf head′ ≡ reply .head → Exported (of s) values₀ su se dr kind head′ values ws′ su′ se′ dr′
-  exports-given headed = exports (headed ∙ given .head-same)
+  -- the reply's head was written
+  pub exports-given : (head′ : List ℕ) → headOf head′ ≡ reply .head → Exported c s values₀ kind values (stateOf (headOf head′) ws′ xs′)
+  exports-given head′ headed = exports (ap (λ (x : Head). stateOf x ws′ xs′) headed ∙ given .after-same)
 
   -- the state stays as it was, so the head need not be written
-  pub exports-read : ((t : State) → of t .after ≡ t) → Exported (of s) values₀ su se dr kind head values ws′ su′ se′ dr′
-  exports-read same = exports (ap (λ (t : State). t .head) (sym (same s)))
+  pub exports-read : ((t : State) → outcomeOf c t .after ≡ t) → Exported c s values₀ kind values s
+  exports-read same = exports (sym (same s))

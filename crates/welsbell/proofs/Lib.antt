@@ -2,6 +2,5 @@ pub mod Calls
 pub mod Entry
 pub mod Exporting
 pub mod Listed
-pub mod Pair
 pub mod Proving
 pub mod References

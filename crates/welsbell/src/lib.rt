@@ -5,9 +5,10 @@ mod numbers;
 
 use spec::types::Request;
 ghost use mathlib.Core.Path.{_≡_};
-ghost use Rattle.spec.specs.Calls.{openOf, submitOf, tickOf, reportOf, chartOf, chartOutput};
-ghost use Rattle.columns.specs.Columns.{stateOf};
-ghost use Rattle.welsbell.specs.Numbers.{version, headOf, Exported};
+ghost use Rattle.spec.specs.Tables.{stateOf};
+ghost use Rattle.spec.specs.Calls.{chartOutput};
+ghost use Rattle.spec.specs.Lists.{opening, submit, tick, report, chart};
+ghost use Rattle.welsbell.specs.Numbers.{version, setupOf, headOf, Exported};
 
 const VERSION: u64 = 1;
 
@@ -24,22 +25,19 @@ pub extern "C" fn welsbell_version() -> u64
 pub extern "C" fn welsbell_open(
     head: &mut [u64; 5],
     waiting: &mut [Request],
-    submitted: &mut [u32],
-    served: &mut [u32],
-    dropped: &mut [u32],
-    clients: u64,
+    clients: &mut [u32],
+    client_count: u64,
     period: u64,
     values: &mut [u64; 5],
 ) -> u64
-    ensures { λ r. ⌜ Exported
-        (openOf clients period (stateOf (headOf (now (head .entry))) (now (waiting .entry))
-        (now (submitted .entry)) (now (served .entry)) (now (dropped .entry))))
-        (now (values .entry)) (now (submitted .entry)) (now (served .entry)) (now (dropped .entry))
-        r (now (head .exit)) (now (values .exit)) (now (waiting .exit))
-        (now (submitted .exit)) (now (served .exit)) (now (dropped .exit)) ⌝ }
+    ensures { λ r. ⌜ Exported (opening (setupOf «client_count» period))
+        (stateOf (headOf (now (head .entry))) (now (waiting .entry)) (now (clients .entry)))
+        (now (values .entry)) r (now (values .exit))
+        (stateOf (headOf (now (head .exit))) (now (waiting .exit)) (now (clients .exit))) ⌝ }
 {
     let h = numbers::head_of(head);
-    let reply = queue::open(h, waiting, submitted, served, dropped, clients, period);
+    let setup = numbers::setup_of(client_count, period);
+    let reply = queue::open(h, waiting, clients, setup);
     numbers::write_head(head, reply);
     numbers::write_values(values, reply)
 }
@@ -49,22 +47,18 @@ pub extern "C" fn welsbell_open(
 pub extern "C" fn welsbell_submit(
     head: &mut [u64; 5],
     waiting: &mut [Request],
-    submitted: &mut [u32],
-    served: &mut [u32],
-    dropped: &mut [u32],
+    clients: &mut [u32],
     client: u64,
     deadline: u64,
     values: &mut [u64; 5],
 ) -> u64
-    ensures { λ r. ⌜ Exported
-        (submitOf client deadline (stateOf (headOf (now (head .entry))) (now (waiting .entry))
-        (now (submitted .entry)) (now (served .entry)) (now (dropped .entry))))
-        (now (values .entry)) (now (submitted .entry)) (now (served .entry)) (now (dropped .entry))
-        r (now (head .exit)) (now (values .exit)) (now (waiting .exit))
-        (now (submitted .exit)) (now (served .exit)) (now (dropped .exit)) ⌝ }
+    ensures { λ r. ⌜ Exported (submit client deadline)
+        (stateOf (headOf (now (head .entry))) (now (waiting .entry)) (now (clients .entry)))
+        (now (values .entry)) r (now (values .exit))
+        (stateOf (headOf (now (head .exit))) (now (waiting .exit)) (now (clients .exit))) ⌝ }
 {
     let h = numbers::head_of(head);
-    let reply = queue::submit(h, waiting, submitted, served, dropped, client, deadline);
+    let reply = queue::submit(h, waiting, clients, client, deadline);
     numbers::write_head(head, reply);
     numbers::write_values(values, reply)
 }
@@ -74,20 +68,16 @@ pub extern "C" fn welsbell_submit(
 pub extern "C" fn welsbell_tick(
     head: &mut [u64; 5],
     waiting: &mut [Request],
-    submitted: &mut [u32],
-    served: &mut [u32],
-    dropped: &mut [u32],
+    clients: &mut [u32],
     values: &mut [u64; 5],
 ) -> u64
-    ensures { λ r. ⌜ Exported
-        (tickOf (stateOf (headOf (now (head .entry))) (now (waiting .entry))
-        (now (submitted .entry)) (now (served .entry)) (now (dropped .entry))))
-        (now (values .entry)) (now (submitted .entry)) (now (served .entry)) (now (dropped .entry))
-        r (now (head .exit)) (now (values .exit)) (now (waiting .exit))
-        (now (submitted .exit)) (now (served .exit)) (now (dropped .exit)) ⌝ }
+    ensures { λ r. ⌜ Exported tick
+        (stateOf (headOf (now (head .entry))) (now (waiting .entry)) (now (clients .entry)))
+        (now (values .entry)) r (now (values .exit))
+        (stateOf (headOf (now (head .exit))) (now (waiting .exit)) (now (clients .exit))) ⌝ }
 {
     let h = numbers::head_of(head);
-    let reply = queue::tick(h, waiting, submitted, served, dropped);
+    let reply = queue::tick(h, waiting, clients);
     numbers::write_head(head, reply);
     numbers::write_values(values, reply)
 }
@@ -97,21 +87,17 @@ pub extern "C" fn welsbell_tick(
 pub extern "C" fn welsbell_report(
     head: &[u64; 5],
     waiting: &[Request],
-    submitted: &[u32],
-    served: &[u32],
-    dropped: &[u32],
+    clients: &[u32],
     client: u64,
     values: &mut [u64; 5],
 ) -> u64
-    ensures { λ r. ⌜ Exported
-        (reportOf client (stateOf (headOf (now (head .entry))) (now (waiting .entry))
-        (now (submitted .entry)) (now (served .entry)) (now (dropped .entry))))
-        (now (values .entry)) (now (submitted .entry)) (now (served .entry)) (now (dropped .entry))
-        r (now (head .entry)) (now (values .exit)) (now (waiting .entry))
-        (now (submitted .entry)) (now (served .entry)) (now (dropped .entry)) ⌝ }
+    ensures { λ r. ⌜ Exported (report client)
+        (stateOf (headOf (now (head .entry))) (now (waiting .entry)) (now (clients .entry)))
+        (now (values .entry)) r (now (values .exit))
+        (stateOf (headOf (now (head .entry))) (now (waiting .entry)) (now (clients .entry))) ⌝ }
 {
     let h = numbers::head_of(head);
-    let reply = queue::report(h, waiting, submitted, served, dropped, client);
+    let reply = queue::report(h, waiting, clients, client);
     numbers::write_values(values, reply)
 }
 
@@ -120,22 +106,18 @@ pub extern "C" fn welsbell_report(
 pub extern "C" fn welsbell_chart(
     head: &[u64; 5],
     waiting: &[Request],
-    submitted: &[u32],
-    served: &[u32],
-    dropped: &[u32],
+    clients: &[u32],
     output: &mut [u64],
     values: &mut [u64; 5],
 ) -> u64
-    ensures { λ r. ⌜ Exported
-        (chartOf (now (output .entry)) (stateOf (headOf (now (head .entry))) (now (waiting .entry))
-        (now (submitted .entry)) (now (served .entry)) (now (dropped .entry))))
-        (now (values .entry)) (now (submitted .entry)) (now (served .entry)) (now (dropped .entry))
-        r (now (head .entry)) (now (values .exit)) (now (waiting .entry))
-        (now (submitted .entry)) (now (served .entry)) (now (dropped .entry))
-        × (now (output .exit) ≡ chartOutput (now (output .entry)) (stateOf (headOf (now (head .entry))) (now (waiting .entry))
-        (now (submitted .entry)) (now (served .entry)) (now (dropped .entry)))) ⌝ }
+    ensures { λ r. ⌜ Exported (chart (now (output .entry)))
+        (stateOf (headOf (now (head .entry))) (now (waiting .entry)) (now (clients .entry)))
+        (now (values .entry)) r (now (values .exit))
+        (stateOf (headOf (now (head .entry))) (now (waiting .entry)) (now (clients .entry)))
+        × (now (output .exit) ≡ chartOutput (now (output .entry))
+        (stateOf (headOf (now (head .entry))) (now (waiting .entry)) (now (clients .entry)))) ⌝ }
 {
     let h = numbers::head_of(head);
-    let reply = queue::chart(h, waiting, submitted, served, dropped, output);
+    let reply = queue::chart(h, waiting, clients, output);
     numbers::write_values(values, reply)
 }

@@ -2,19 +2,26 @@
 use decide::types::Reply;
 use spec::types::Answer;
 use spec::types::Head;
+use spec::types::Setup;
 ghost use Prim.Native.Nat.{_≤_};
 ghost use mathlib.Core.Path.{_≡_};
 ghost use lib.ListN.{take};
 ghost use Rattle.spec.specs.Frames.{kindOf};
-ghost use Rattle.welsbell.specs.Numbers.{headOf, valueNumbers, written};
+ghost use Rattle.welsbell.specs.Numbers.{setupOf, headOf, valueNumbers, written};
+
+// The setup that open takes as two numbers.
+pub(crate) fn setup_of(clients: u64, period: u64) -> Setup
+    ensures { λ r. ⌜ r ≡ setupOf clients period ⌝ }
+{
+    Setup { clients, period }
+}
 
 // The head whose five numbers these are.
 pub(crate) fn head_of(numbers: &[u64; 5]) -> Head
     ensures { λ r. ⌜ r ≡ headOf (now (numbers .entry)) ⌝ }
 {
     Head {
-        clients: numbers[0],
-        period: numbers[1],
+        setup: setup_of(numbers[0], numbers[1]),
         clock: numbers[2],
         last: numbers[3],
         waiting: numbers[4],
@@ -27,8 +34,8 @@ pub(crate) fn write_head(numbers: &mut [u64; 5], reply: Reply)
 {
     let head = reply.head;
     *numbers = [
-        head.clients,
-        head.period,
+        head.setup.clients,
+        head.setup.period,
         head.clock,
         head.last,
         head.waiting,

@@ -3,7 +3,7 @@
 use Rattle.walk.proofs.Prelude.{refl, [], _∷_, URA, w64, vint, SProp, Memory, Routine, Heap, Tables, Atoms, Fun, Given, _$_, !, u32, tripleOf, id⊢}
 use Rattle.walk.proofs.Prelude.{drop, number, so, vars, gives, passed-on, made, of-number, calls-for, given}
 use Rattle.queue.proofs.Values.{a-reply}
-use Rattle.spec.specs.Calls.{reportOf}
+use Rattle.spec.specs.Lists as lists
 use Rattle.table.proofs.Rows.{R}
 use Rattle.table.proofs.Heads.{the-head, a-head}
 use Rattle.welsbell.proofs.Entry.{taken, shown, shown-one, lent-one}
@@ -17,20 +17,20 @@ use Rattle.welsbell.proofs.welsbell_report as f
 module _ {M : Type 1} (𝓤 : URA M) (H : Heap 𝓤) (A : Atoms 𝓤) (W : Given 𝓤 H A) (mem : Memory → SProp 𝓤) (run : Routine → Fun 𝓤) where
   abbrev shape : Shape W
   shape =
-      Exports W mem run (shown-one five ∷ shown R ∷ shown u32 ∷ shown u32 ∷ shown u32 ∷ taken (of-number w64) ∷ lent-one five ∷ []) (f.clauses 𝓤 H A mem run) f.Code.function (λ κs a. refl)
+      Exports W mem run (shown-one five ∷ shown R ∷ shown u32 ∷ taken (of-number w64) ∷ lent-one five ∷ []) (f.clauses 𝓤 H A mem run) f.Code.function (λ κs a. refl)
       ((report.Symbol.name, tripleOf 𝓤 H A report.signature (report.spec 𝓤 H A mem run)) ∷ [])
 
   walk : (𝓣 : Tables 𝓤 H) → Walk shape 𝓣
-  walk 𝓣 known-head-of known-write-values known-report κs qs head waiting submitted served dropped client client-is values g Q leaves bs =
+  walk 𝓣 known-head-of known-write-values known-report κs qs head waiting clients client client-is values g Q leaves bs =
       drop ! $
       -- let h = numbers::head_of(head);
       calls-for ! 𝓣 (0 ∷ []) (passed-on-one W head ∷ []) a-head (λ c. known-head-of) (λ c h. h) (id⊢ 𝓤 _) refl (λ c. vars ! (refl, tt)) (λ _. refl) (λ h last₁ is-head kept₁ h-is.
-      -- let reply = queue::report(h, ..);
-      calls-for ! 𝓣 (1 ∷ 2 ∷ 3 ∷ 4 ∷ []) (the-head W h h-is ∷ passed-on W waiting ∷ passed-on W submitted ∷ passed-on W served ∷ passed-on W dropped ∷ number W client (client-is .1) ∷ []) a-reply (λ c. known-report) (λ c h. h) (id⊢ 𝓤 _) refl (λ c. vars ! (refl, (refl, (refl, (refl, (refl, (refl, tt))))))) (λ _. refl) (λ reply last₂ gave kept₂ reply-is.
+      -- let reply = queue::report(h, waiting, clients, client);
+      calls-for ! 𝓣 (1 ∷ 2 ∷ []) (the-head W h h-is ∷ passed-on W waiting ∷ passed-on W clients ∷ number W client (client-is .1) ∷ []) a-reply (λ c. known-report) (λ c h. h) (id⊢ 𝓤 _) refl (λ c. vars ! (refl, (refl, (refl, (refl, tt))))) (λ _. refl) (λ reply last₂ gave kept₂ reply-is.
       relends-one ! values refl $
       -- numbers::write_values(values, reply)
-      calls-for ! 𝓣 (5 ∷ []) (mut-one W values ∷ given W a-reply reply reply-is ∷ []) (of-number w64) (λ c. known-write-values) (λ c h. h) (id⊢ 𝓤 _) refl (λ c. vars ! (refl, (refl, tt))) (λ _. refl) (λ r last₃ told kept₃ r-is. gives ! refl refl $
-      leaves (vint w64 r) r (last₃ .0, tt) tt (made W (of-number w64) r r-is) (so 𝓤 (exports-read (reportOf client) (head .held) (values .held) is-head gave told (report-stays client))))))
+      calls-for ! 𝓣 (3 ∷ []) (mut-one W values ∷ given W a-reply reply reply-is ∷ []) (of-number w64) (λ c. known-write-values) (λ c h. h) (id⊢ 𝓤 _) refl (λ c. vars ! (refl, (refl, tt))) (λ _. refl) (λ r last₃ told kept₃ r-is. gives ! refl refl $
+      leaves (vint w64 r) r (last₃ .0, tt) tt (made W (of-number w64) r r-is) (so 𝓤 (exports-read (lists.report client) (head .held) (values .held) is-head gave told (report-stays client))))))
 
 pub welsbell-report-spec : {M : Type 1} → f.Statement.statement M
 unfolding f.Code.routine

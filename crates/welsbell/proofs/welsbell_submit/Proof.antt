@@ -1,16 +1,46 @@
--- `welsbell::welsbell_submit` meets its contract: `Pair.antt`'s walk, with `queue::submit` for its callee. Assumes nothing.
-use Rattle.walk.proofs.Prelude.{givenOf, Given}
-use Rattle.spec.specs.Calls.{submitOf}
-use Rattle.welsbell.proofs.Proving.{proves}
-use Rattle.welsbell.proofs.Calls.{cites-numbers, cites-write-head}
-use Rattle.welsbell.proofs.Pair.{shape, walk}
-use Rattle.queue.proofs.submit as library
+-- `welsbell::welsbell_submit` meets its contract: a walk of four calls.
+-- Assumes nothing.
+use Rattle.walk.proofs.Prelude.{refl, [], _∷_, URA, w64, vint, SProp, Memory, Routine, Heap, Tables, Atoms, Fun, Given, _$_, !, u32, tripleOf, id⊢}
+use Rattle.walk.proofs.Prelude.{drop, number, so, vars, relends, gives, made, of-number, of-nothing, calls-for, given, mut-own}
+use Rattle.queue.proofs.Values.{a-reply}
+use Rattle.spec.specs.Lists as lists
+use Rattle.table.proofs.Rows.{R}
+use Rattle.table.proofs.Heads.{the-head, a-head}
+use Rattle.welsbell.proofs.Entry.{taken, lent, lent-one}
+use Rattle.welsbell.proofs.Proving.{Shape, Walk, proved}
+use Rattle.welsbell.proofs.References.{mut-one, shr-one, relends-one}
+use Rattle.welsbell.proofs.Calls.{five, Exports, WriteHead, cites-numbers, cites-write-head}
+use Rattle.welsbell.proofs.Exporting.{exports-given}
+use Rattle.queue.proofs.submit as submit
 use Rattle.welsbell.proofs.welsbell_submit as f
+
+module _ {M : Type 1} (𝓤 : URA M) (H : Heap 𝓤) (A : Atoms 𝓤) (W : Given 𝓤 H A) (mem : Memory → SProp 𝓤) (run : Routine → Fun 𝓤) where
+  abbrev shape : Shape W
+  shape =
+      Exports W mem run (lent-one five ∷ lent R ∷ lent u32 ∷ taken (of-number w64) ∷ taken (of-number w64) ∷ lent-one five ∷ []) (f.clauses 𝓤 H A mem run) f.Code.function (λ κs a. refl)
+      ((submit.Symbol.name, tripleOf 𝓤 H A submit.signature (submit.spec 𝓤 H A mem run)) ∷ WriteHead W mem run ∷ [])
+
+  walk : (𝓣 : Tables 𝓤 H) → Walk shape 𝓣
+  walk 𝓣 known-head-of known-write-values known-submit known-write-head κs qs head waiting clients client client-is deadline deadline-is values g Q leaves bs =
+      drop ! $
+      relends-one ! head refl $
+      -- let h = numbers::head_of(head);
+      calls-for ! 𝓣 (0 ∷ []) (shr-one W head ∷ []) a-head (λ c. known-head-of) (λ c h. h) (id⊢ 𝓤 _) refl (λ c. vars ! (refl, tt)) (λ _. refl) (λ h last₁ is-head kept₁ h-is.
+      relends ! waiting refl $ relends ! clients refl $
+      -- let reply = queue::submit(h, waiting, clients, client, deadline);
+      calls-for ! 𝓣 (1 ∷ 2 ∷ []) (the-head W h h-is ∷ mut-own W waiting ∷ mut-own W clients ∷ number W client (client-is .1) ∷ number W deadline (deadline-is .1) ∷ []) a-reply (λ c. known-submit) (λ c h. h) (id⊢ 𝓤 _) refl (λ c. vars ! (refl, (refl, (refl, (refl, (refl, tt)))))) (λ _. refl) (λ reply last₂ gave kept₂ reply-is.
+      relends-one ! head refl $
+      -- numbers::write_head(head, reply);
+      calls-for ! 𝓣 (0 ∷ []) (mut-one W head ∷ given W a-reply reply reply-is ∷ []) of-nothing (λ c. known-write-head) (λ c h. h) (id⊢ 𝓤 _) refl (λ c. vars ! (refl, (refl, tt))) (λ _. refl) (λ u last₃ headed kept₃ _.
+      relends-one ! values refl $
+      -- numbers::write_values(values, reply)
+      calls-for ! 𝓣 (3 ∷ []) (mut-one W values ∷ given W a-reply reply reply-is ∷ []) (of-number w64) (λ c. known-write-values) (λ c h. h) (id⊢ 𝓤 _) refl (λ c. vars ! (refl, (refl, tt))) (λ _. refl) (λ r last₄ told kept₄ r-is. gives ! refl refl $
+      leaves (vint w64 r) r (last₃ .0, (last₂ .1 .0, (last₂ .1 .1 .0, (last₄ .0, tt)))) (kept₂ .0, (kept₂ .1 .0, tt))
+      (made W (of-number w64) r r-is) (so 𝓤 (exports-given (lists.submit client deadline) (head .held) (values .held) is-head gave told (last₃ .0) headed))))))
 
 pub welsbell-submit-spec : {M : Type 1} → f.Statement.statement M
 unfolding f.Code.routine
 welsbell-submit-spec 𝓤 H 𝓜 𝓖 𝓡 =
-    let W : Given 𝓤 H (𝓖 .A) = givenOf 𝓤 H 𝓜 𝓖 in
-    proves 𝓤 H 𝓜 𝓖 𝓡 (shape library.Symbol.name submitOf 𝓤 H (𝓖 .A) W (𝓜 .mem) (𝓡 .run)) f.Code.env f.Key.name (f.Code.unfolded 𝓤 H 𝓜 𝓡) (walk library.Symbol.name submitOf 𝓤 H (𝓖 .A) W (𝓜 .mem) (𝓡 .run))
+    proved 𝓤 H 𝓜 𝓖 𝓡 (shape 𝓤 H) (walk 𝓤 H) f.Code.env f.Key.name (f.Code.unfolded 𝓤 H 𝓜 𝓡)
     (cites-numbers 𝓤 H 𝓜 𝓖 𝓡 f.Code.env f.Code.calls-welsbell·numbers·head-of f.Code.calls-welsbell·numbers·write-values
-    ((library.Symbol.routine, f.Code.calls-queue·submit, library.Met.met 𝓤 H 𝓜 𝓖 𝓡), cites-write-head 𝓤 H 𝓜 𝓖 𝓡 f.Code.env f.Code.calls-welsbell·numbers·write-head tt))
+    ((submit.Symbol.routine, f.Code.calls-queue·submit, submit.Met.met 𝓤 H 𝓜 𝓖 𝓡), cites-write-head 𝓤 H 𝓜 𝓖 𝓡 f.Code.env f.Code.calls-welsbell·numbers·write-head tt))
