@@ -1,14 +1,14 @@
 -- What the exported functions have in common: each reads the head, calls the library, and writes the answer's values; and each
 -- that changes the state writes the head.
---     Exports          the shape of such a function (`Proving.antt`), where `callees` are the calls beside the head's and
+--     Exports          the shape of such a function (`walk`'s `Proves.antt`), where `callees` are the calls beside the head's and
 --                      the values'
 --     WriteHead        the call that writes the head
 --     cites-numbers, cites-write-head      how the code of such a function comes to hold these calls
 -- Assumes nothing.
 use prog.Routine.{Env}
 use Rattle.walk.proofs.Prelude.{_≡_, List, _∷_, URA, Name, Fn, SProp, Memory, Model, Routine, Heap, Atoms, Fun, GhostRules, Running, givenOf, Given, u64, Array, RattleType, Clauses, tripleOf, Contract, Triple}
-use Rattle.welsbell.proofs.Entry.{Kind, Lies, endedOf}
-use Rattle.welsbell.proofs.Proving.{Shape}
+use Rattle.walk.proofs.Enter.{Kind, Lies, endedOf}
+use Rattle.walk.proofs.Prelude.{Shape}
 use Rattle.welsbell.proofs.numbers.head_of as head-of
 use Rattle.welsbell.proofs.numbers.write_head as write-head
 use Rattle.welsbell.proofs.numbers.write_values as write-values

@@ -9,9 +9,9 @@ use Rattle.spec.specs.Lists as lists
 use Rattle.spec.specs.Tables.{stateOf}
 use Rattle.table.proofs.Rows.{R}
 use Rattle.table.proofs.Heads.{the-head, a-head}
-use Rattle.welsbell.proofs.Entry.{lent, shown, shown-one, lent-one}
-use Rattle.welsbell.proofs.Proving.{Shape, Walk, proved}
-use Rattle.welsbell.proofs.References.{mut-one, passed-on-one, relends-one}
+use Rattle.walk.proofs.Prelude.{lent, shown, shown-one, lent-one}
+use Rattle.walk.proofs.Prelude.{Shape, Walk, proved}
+use Rattle.walk.proofs.Prelude.{mut-one, passed-on-one, relends-one}
 use Rattle.welsbell.proofs.Calls.{five, Exports, cites-numbers}
 use Rattle.welsbell.proofs.Exporting.{chart-stays, exports-read}
 use Rattle.queue.proofs.chart as chart

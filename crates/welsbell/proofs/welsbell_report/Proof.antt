@@ -6,9 +6,9 @@ use Rattle.queue.proofs.Values.{a-reply}
 use Rattle.spec.specs.Lists as lists
 use Rattle.table.proofs.Rows.{R}
 use Rattle.table.proofs.Heads.{the-head, a-head}
-use Rattle.welsbell.proofs.Entry.{taken, shown, shown-one, lent-one}
-use Rattle.welsbell.proofs.Proving.{Shape, Walk, proved}
-use Rattle.welsbell.proofs.References.{mut-one, passed-on-one, relends-one}
+use Rattle.walk.proofs.Prelude.{taken, shown, shown-one, lent-one}
+use Rattle.walk.proofs.Prelude.{Shape, Walk, proved}
+use Rattle.walk.proofs.Prelude.{mut-one, passed-on-one, relends-one}
 use Rattle.welsbell.proofs.Calls.{five, Exports, cites-numbers}
 use Rattle.welsbell.proofs.Exporting.{report-stays, exports-read}
 use Rattle.queue.proofs.report as report

@@ -6,9 +6,7 @@ use Rattle.queue.proofs.Values.{a-reply}
 use Rattle.spec.specs.Lists as lists
 use Rattle.table.proofs.Rows.{R}
 use Rattle.table.proofs.Heads.{the-head, a-head}
-use Rattle.welsbell.proofs.Entry.{taken, lent, lent-one}
-use Rattle.welsbell.proofs.Proving.{Shape, Walk, proved}
-use Rattle.welsbell.proofs.References.{mut-one, shr-one, relends-one}
+use Rattle.walk.proofs.Prelude.{taken, lent, lent-one, Shape, Walk, proved, mut-one, shr-one, relends-one}
 use Rattle.welsbell.proofs.Calls.{five, Exports, WriteHead, cites-numbers, cites-write-head}
 use Rattle.welsbell.proofs.Exporting.{exports-given}
 use Rattle.queue.proofs.submit as submit

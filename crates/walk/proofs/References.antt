@@ -1,4 +1,4 @@
--- References to one value that a function is lent, lent again for a call (`walk`'s `Slices/Loans.antt`).
+-- References to one value that a function is lent, lent again for a call (`Slices/Loans.antt`).
 --     relent-one       a `&mut T`, lent as a `&mut T`
 --     shared-one       a `&mut T`, lent as a `&T`
 --     passed-one       a `&T`, of which a copy is passed on, at its own lifetime
@@ -26,10 +26,10 @@ use denote.RattleType.{RattleType}
 use denote.Ref.{RefT, MutRef, ShrRef, shr-copy}
 use denote.Memory.{partAt, mem}
 use denote.Lend.{LentAgain, lends-again, comes-back, lends-shr}
 use Rattle.walk.proofs.Locals.{back, puts}
 use Rattle.walk.proofs.Slices.Again.{pointer-cell, finds}
 use Rattle.walk.proofs.Slices.Loans.{Loan, Param, loan}
-use Rattle.welsbell.proofs.Entry.{One}
+use Rattle.walk.proofs.Enter.{One}
 
 module _ {M : Type 1} {𝓤 : URA M} {H : Heap 𝓤} {A : Atoms 𝓤} (W : Given 𝓤 H A) (R : RattleType) (κ₀ : Lft) (p : Share) (γ : GName) (b o : ℕ) (x : R .Denot) where
   abbrev at-value : GName → R .Denot → RefT (R .Denot)
