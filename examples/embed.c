@@ -9,13 +9,11 @@
 #define CLIENTS 2
 
 static welsbell_request waiting[RECORDS];
-static uint32_t submitted[CLIENTS], served[CLIENTS], dropped[CLIENTS];
+static welsbell_client clients[CLIENTS];
 static welsbell_queue queue = {
     .waiting = waiting,
     .waiting_length = RECORDS,
-    .submitted = submitted,
-    .served = served,
-    .dropped = dropped,
+    .clients = clients,
     .clients_length = CLIENTS,
 };
 

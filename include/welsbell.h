@@ -5,14 +5,12 @@
  * The short way is a welsbell_queue, which names once what is lent:
  *
  *     static welsbell_request waiting[8];
- *     static uint32_t submitted[2], served[2], dropped[2];
+ *     static welsbell_client clients[2];
  *     static welsbell_queue queue;
  *
  *     queue.waiting = waiting;
  *     queue.waiting_length = 8;
- *     queue.submitted = submitted;
- *     queue.served = served;
- *     queue.dropped = dropped;
+ *     queue.clients = clients;
  *     queue.clients_length = 2;
  *     welsbell_answer answer = welsbell_queue_open(&queue, 2, 100);
  *     if (answer.kind == WELSBELL_REFUSED)
@@ -77,6 +75,13 @@ typedef struct welsbell_request {
     uint64_t client;
 } welsbell_request;
 
+/* A client's record, 12 bytes. In sound tables submitted is served, dropped and the client's waiting records together. */
+typedef struct welsbell_client {
+    uint32_t submitted;
+    uint32_t served;
+    uint32_t dropped;
+} welsbell_client;
+
 /* The kinds of answers, with their values in order. */
 enum {
     WELSBELL_OPENED = 0x81,   /* no values */
@@ -122,8 +127,8 @@ typedef union welsbell_values {
     number  calls              condition
          2  open               clients outside 1 to 256
          3  open               period outside 1 to 4,294,967,295
-         4  all                the waiting table has no records or more than 2,048; or the client table has not as many records
-                               as there are clients (in open, as are given); or, not in open, the waiting count exceeds the
+         4  all                the waiting table has no records or more than 2,048; or the client table is not one record for
+                               each client (in open, for each that is given); or, not in open, the waiting count exceeds the
                                waiting table's length
          5  all but open       the tables are not sound
          6  submit, report     the client does not exist
@@ -150,21 +155,22 @@ enum {
 /* Layouts as the archive has them: an array of a negative length is refused. */
 typedef char welsbell_head_has_40_bytes[sizeof(welsbell_head) == 40 ? 1 : -1];
 typedef char welsbell_request_has_24_bytes[sizeof(welsbell_request) == 24 ? 1 : -1];
+typedef char welsbell_client_has_12_bytes[sizeof(welsbell_client) == 12 ? 1 : -1];
 typedef char welsbell_values_have_40_bytes[sizeof(welsbell_values) == 40 ? 1 : -1];
 
 /*
  * The calls of the archive. Each takes, in this order,
  *
- *   head                         one head
- *   waiting                      the waiting table, 1 to 2,048 records
- *   submitted, served, dropped   the client table in three columns, each with one entry a client. It has as many records as the
- *                                shortest has entries; what another has beyond decides nothing and stays as it was
+ *   head       one head
+ *   waiting    the waiting table, 1 to 2,048 records
+ *   clients    the client table, one record a client
  *
  * each table with its length behind it, then its own arguments, and last
  *
- *   values                       where the answer's values go
+ *   values     where the answer's values go
  *
- * and gives back the answer's kind.
+ * and gives back the answer's kind. The waiting table's length is its number of records; the client table's is its number of
+ * numbers, three for each record, and any other than three for each client meets refusal 4.
  */
 
 /* The version of the archive. */
@@ -174,10 +180,8 @@ uint64_t welsbell_version(void);
    count become 0, every record zero. Gives WELSBELL_OPENED, or refusal 2, 3 or 4. */
 uint64_t welsbell_open(welsbell_head *head,
                        welsbell_request *waiting, size_t waiting_length,
-                       uint32_t *submitted, size_t submitted_length,
-                       uint32_t *served, size_t served_length,
-                       uint32_t *dropped, size_t dropped_length,
-                       uint64_t clients, uint64_t period,
+                       welsbell_client *clients, size_t client_numbers,
+                       uint64_t client_count, uint64_t period,
                        welsbell_values *values);
 
 /* A client submits a request, to be served in slot deadline - 1 at the latest. It gets the next number, and the client's submitted
@@ -185,9 +189,7 @@ uint64_t welsbell_open(welsbell_head *head,
    by 1, and the answer is WELSBELL_DROPPED; the victim may be the new request. Refusals 4 to 10. */
 uint64_t welsbell_submit(welsbell_head *head,
                          welsbell_request *waiting, size_t waiting_length,
-                         uint32_t *submitted, size_t submitted_length,
-                         uint32_t *served, size_t served_length,
-                         uint32_t *dropped, size_t dropped_length,
+                         welsbell_client *clients, size_t client_numbers,
                          uint64_t client, uint64_t deadline,
                          welsbell_values *values);
 
@@ -196,17 +198,13 @@ uint64_t welsbell_submit(welsbell_head *head,
    client's submitted becomes its waiting count, and served and dropped become 0. Refusals 4, 5 and 11. */
 uint64_t welsbell_tick(welsbell_head *head,
                        welsbell_request *waiting, size_t waiting_length,
-                       uint32_t *submitted, size_t submitted_length,
-                       uint32_t *served, size_t served_length,
-                       uint32_t *dropped, size_t dropped_length,
+                       welsbell_client *clients, size_t client_numbers,
                        welsbell_values *values);
 
 /* Gives WELSBELL_REPORTED: a client's three counts and its waiting count. Head and tables are only read. Refusals 4, 5 and 6. */
 uint64_t welsbell_report(const welsbell_head *head,
                          const welsbell_request *waiting, size_t waiting_length,
-                         const uint32_t *submitted, size_t submitted_length,
-                         const uint32_t *served, size_t served_length,
-                         const uint32_t *dropped, size_t dropped_length,
+                         const welsbell_client *clients, size_t client_numbers,
                          uint64_t client,
                          welsbell_values *values);
 
@@ -214,9 +212,7 @@ uint64_t welsbell_report(const welsbell_head *head,
    are untouched. Head and tables are only read. Refusals 4, 5 and 12. */
 uint64_t welsbell_chart(const welsbell_head *head,
                         const welsbell_request *waiting, size_t waiting_length,
-                        const uint32_t *submitted, size_t submitted_length,
-                        const uint32_t *served, size_t served_length,
-                        const uint32_t *dropped, size_t dropped_length,
+                        const welsbell_client *clients, size_t client_numbers,
                         uint64_t *output, size_t output_length,
                         welsbell_values *values);
 
@@ -225,9 +221,7 @@ typedef struct welsbell_queue {
     welsbell_head head;
     welsbell_request *waiting;
     size_t waiting_length;
-    uint32_t *submitted;
-    uint32_t *served;
-    uint32_t *dropped;
+    welsbell_client *clients;
     size_t clients_length;
 } welsbell_queue;
 
@@ -243,19 +237,17 @@ typedef struct welsbell_answer {
 
 #define WELSBELL_NO_ANSWER {0, {{0, 0, 0, 0, 0}}}
 
-/* What every call is lent first. */
+/* What every call is lent first. A client's record is three numbers. */
 #define WELSBELL_LEND(queue) \
     &(queue)->head, \
     WELSBELL_LEND_TABLE(queue, welsbell_request, (queue)->waiting, (queue)->waiting_length), \
-    WELSBELL_LEND_TABLE(queue, uint32_t, (queue)->submitted, (queue)->clients_length), \
-    WELSBELL_LEND_TABLE(queue, uint32_t, (queue)->served, (queue)->clients_length), \
-    WELSBELL_LEND_TABLE(queue, uint32_t, (queue)->dropped, (queue)->clients_length)
+    WELSBELL_LEND_TABLE(queue, welsbell_client, (queue)->clients, 3 * (queue)->clients_length)
 
 /* The five calls on a queue. */
-static inline welsbell_answer welsbell_queue_open(welsbell_queue *queue, uint64_t clients, uint64_t period)
+static inline welsbell_answer welsbell_queue_open(welsbell_queue *queue, uint64_t client_count, uint64_t period)
 {
     welsbell_answer answer = WELSBELL_NO_ANSWER;
-    answer.kind = welsbell_open(WELSBELL_LEND(queue), clients, period, &answer.is);
+    answer.kind = welsbell_open(WELSBELL_LEND(queue), client_count, period, &answer.is);
     return answer;
 }
 

@@ -1,5 +1,5 @@
 /* Holds the C header to the archive: the version, layouts, kinds and values of answers, each bound at itself and one past, each
-   refusal's name by the calls that give it, and tables that are null. It is C99 and C++11 alike, and is run as both. */
+   refusal's name by the calls that give it, lengths of the client table in numbers, and tables that are null. It is C99 and C++11 alike, and is run as both. */
 #include "welsbell.h"
 
 #include <stdio.h>
@@ -10,7 +10,7 @@
 #define CLIENTS (WELSBELL_MOST_CLIENTS + 1)
 
 static welsbell_request waiting[RECORDS];
-static uint32_t submitted[CLIENTS], served[CLIENTS], dropped[CLIENTS];
+static welsbell_client clients[CLIENTS];
 static welsbell_queue queue;
 static unsigned held, failed;
 
@@ -37,26 +37,22 @@ static int is_kind(welsbell_answer answer, uint64_t kind)
 }
 
 /* A queue of so many records and clients, with nothing in it but zeros. */
-static void lend(size_t records, size_t clients)
+static void lend(size_t records, size_t client_count)
 {
     memset(waiting, 0, sizeof waiting);
-    memset(submitted, 0, sizeof submitted);
-    memset(served, 0, sizeof served);
-    memset(dropped, 0, sizeof dropped);
+    memset(clients, 0, sizeof clients);
     memset(&queue, 0, sizeof queue);
     queue.waiting = waiting;
     queue.waiting_length = records;
-    queue.submitted = submitted;
-    queue.served = served;
-    queue.dropped = dropped;
-    queue.clients_length = clients;
+    queue.clients = clients;
+    queue.clients_length = client_count;
 }
 
 /* The same, opened with a period that no case reaches. */
-static void lend_opened(size_t records, size_t clients)
+static void lend_opened(size_t records, size_t client_count)
 {
-    lend(records, clients);
-    HOLD(is_kind(welsbell_queue_open(&queue, clients, 1000000), WELSBELL_OPENED));
+    lend(records, client_count);
+    HOLD(is_kind(welsbell_queue_open(&queue, client_count, 1000000), WELSBELL_OPENED));
 }
 
 static void layouts(void)
@@ -71,6 +67,10 @@ static void layouts(void)
     HOLD(offsetof(welsbell_request, deadline) == 0);
     HOLD(offsetof(welsbell_request, number) == 8);
     HOLD(offsetof(welsbell_request, client) == 16);
+    HOLD(sizeof(welsbell_client) == 12);
+    HOLD(offsetof(welsbell_client, submitted) == 0);
+    HOLD(offsetof(welsbell_client, served) == 4);
+    HOLD(offsetof(welsbell_client, dropped) == 8);
     HOLD(sizeof(welsbell_values) == 40);
 
     /* and as the archive writes them: all numbers differ */
@@ -87,7 +87,14 @@ static void layouts(void)
     HOLD(queue.head.waiting == 2);
     HOLD(waiting[0].deadline == 40 && waiting[0].number == 2 && waiting[0].client == 3);
     HOLD(waiting[1].deadline == 50 && waiting[1].number == 1 && waiting[1].client == 4);
-    HOLD(submitted[3] == 1 && served[3] == 0 && dropped[3] == 0);
+    HOLD(clients[3].submitted == 1 && clients[3].served == 0 && clients[3].dropped == 0);
+    /* client 3 is served in slot 3; then two of its reads have to end with slot 4, and the second is dropped */
+    HOLD(is_kind(welsbell_queue_tick(&queue), WELSBELL_SERVED));
+    HOLD(is_kind(welsbell_queue_submit(&queue, 3, 5), WELSBELL_KEPT));
+    HOLD(is_kind(welsbell_queue_submit(&queue, 3, 5), WELSBELL_DROPPED));
+    HOLD(is_kind(welsbell_queue_submit(&queue, 3, 5), WELSBELL_DROPPED));
+    HOLD(clients[3].submitted == 4 && clients[3].served == 1 && clients[3].dropped == 2);
+    HOLD(clients[4].submitted == 1 && clients[4].served == 0 && clients[4].dropped == 0);
 }
 
 /* Each kind by the call that gives it, with its values by name. */
@@ -139,18 +146,18 @@ static void values(void)
     uint64_t output[1];
     welsbell_values v = unwritten;
     lend(8, 2);
-    HOLD(welsbell_open(&queue.head, waiting, 8, submitted, 2, served, 2, dropped, 2, 2, 100, &v) == WELSBELL_OPENED);
+    HOLD(welsbell_open(&queue.head, waiting, 8, clients, 6, 2, 100, &v) == WELSBELL_OPENED);
     HOLD(wrote(&v, 0, 0, 0, 0));
-    HOLD(welsbell_submit(&queue.head, waiting, 8, submitted, 2, served, 2, dropped, 2, 1, 5, &v) == WELSBELL_KEPT);
+    HOLD(welsbell_submit(&queue.head, waiting, 8, clients, 6, 1, 5, &v) == WELSBELL_KEPT);
     HOLD(wrote(&v, 2, 1, 0, 0));
     v = unwritten;
-    HOLD(welsbell_report(&queue.head, waiting, 8, submitted, 2, served, 2, dropped, 2, 2, &v) == WELSBELL_REFUSED);
+    HOLD(welsbell_report(&queue.head, waiting, 8, clients, 6, 2, &v) == WELSBELL_REFUSED);
     HOLD(wrote(&v, 1, WELSBELL_REFUSED_CLIENT, 0, 0));
     v = unwritten;
-    HOLD(welsbell_chart(&queue.head, waiting, 8, submitted, 2, served, 2, dropped, 2, output, 0, &v) == WELSBELL_REFUSED);
+    HOLD(welsbell_chart(&queue.head, waiting, 8, clients, 6, output, 0, &v) == WELSBELL_REFUSED);
     HOLD(wrote(&v, 1, WELSBELL_REFUSED_OUTPUT, 0, 0));
     v = unwritten;
-    HOLD(welsbell_tick(&queue.head, waiting, 8, submitted, 2, served, 2, dropped, 2, &v) == WELSBELL_SERVED);
+    HOLD(welsbell_tick(&queue.head, waiting, 8, clients, 6, &v) == WELSBELL_SERVED);
     HOLD(wrote(&v, 3, 0, 1, 1));
     /* in a welsbell_answer they are 0 */
     HOLD(welsbell_queue_tick(&queue).is.numbers[4] == 0);
@@ -193,13 +200,13 @@ static void bounds_of_others(void)
     HOLD(refused(welsbell_queue_submit(&queue, 0, 10 + WELSBELL_MOST_AHEAD + 1), WELSBELL_REFUSED_DEADLINE));
 
     lend_opened(4, 1);
-    submitted[0] = served[0] = WELSBELL_MOST_COUNTED - 1;
+    clients[0].submitted = clients[0].served = WELSBELL_MOST_COUNTED - 1;
     HOLD(is_kind(welsbell_queue_submit(&queue, 0, 1), WELSBELL_KEPT));
-    HOLD(submitted[0] == WELSBELL_MOST_COUNTED);
+    HOLD(clients[0].submitted == WELSBELL_MOST_COUNTED);
     HOLD(refused(welsbell_queue_submit(&queue, 0, 2), WELSBELL_REFUSED_COUNT));
     HOLD(is_kind(welsbell_queue_report(&queue, 0), WELSBELL_REPORTED));
-    submitted[0] = WELSBELL_MOST_COUNTED + 1;
-    served[0] = WELSBELL_MOST_COUNTED;
+    clients[0].submitted = WELSBELL_MOST_COUNTED + 1;
+    clients[0].served = WELSBELL_MOST_COUNTED;
     HOLD(refused(welsbell_queue_report(&queue, 0), WELSBELL_REFUSED_UNSOUND));
 
     lend_opened(4, 1);
@@ -257,12 +264,55 @@ static void refusals(void)
     HOLD(refused(welsbell_queue_chart(&queue, starts, 1), WELSBELL_REFUSED_OUTPUT));
 }
 
+/* The calls of the archive on a client table of so many numbers, which are not those of two clients, nor of the head's. */
+static void wrong_numbers(size_t numbers)
+{
+    uint64_t starts[4];
+    welsbell_answer a = welsbell_queue_report(&queue, 0);
+    HOLD(!refused(a, WELSBELL_REFUSED_LENGTHS));
+    a.kind = welsbell_open(&queue.head, waiting, 4, clients, numbers, 2, 100, &a.is);
+    HOLD(refused(a, WELSBELL_REFUSED_LENGTHS));
+    a.is.refused.number = 0;
+    a.kind = welsbell_submit(&queue.head, waiting, 4, clients, numbers, 0, 9, &a.is);
+    HOLD(refused(a, WELSBELL_REFUSED_LENGTHS));
+    a.is.refused.number = 0;
+    a.kind = welsbell_tick(&queue.head, waiting, 4, clients, numbers, &a.is);
+    HOLD(refused(a, WELSBELL_REFUSED_LENGTHS));
+    a.is.refused.number = 0;
+    a.kind = welsbell_report(&queue.head, waiting, 4, clients, numbers, 0, &a.is);
+    HOLD(refused(a, WELSBELL_REFUSED_LENGTHS));
+    a.is.refused.number = 0;
+    a.kind = welsbell_chart(&queue.head, waiting, 4, clients, numbers, starts, 4, &a.is);
+    HOLD(refused(a, WELSBELL_REFUSED_LENGTHS));
+}
+
+/* The client table's length, in numbers, one and more off its bound: with two clients, with none in the head, and with the most. */
+static void numbers_of_clients(void)
+{
+    const size_t most = 3 * WELSBELL_MOST_CLIENTS;
+    welsbell_answer a = {0, {{0, 0, 0, 0, 0}}};
+    lend_opened(4, 2);
+    for (size_t numbers = 0; numbers <= 9; numbers++)
+        if (numbers != 6)
+            wrong_numbers(numbers);
+    queue.head.clients = 0;
+    queue.clients_length = 0;
+    for (size_t numbers = 1; numbers <= 4; numbers++)
+        wrong_numbers(numbers);
+
+    lend(4, WELSBELL_MOST_CLIENTS);
+    for (size_t numbers = most - 1; numbers <= most + 2; numbers++) {
+        a.kind = welsbell_open(&queue.head, waiting, 4, clients, numbers, WELSBELL_MOST_CLIENTS, 100, &a.is);
+        HOLD(numbers == most ? is_kind(a, WELSBELL_OPENED) : refused(a, WELSBELL_REFUSED_LENGTHS));
+    }
+}
+
 /* Tables that are null have no records, whatever their lengths say. */
 static void null_tables(void)
 {
     lend(0, 0);
     queue.waiting = NULL;
-    queue.submitted = queue.served = queue.dropped = NULL;
+    queue.clients = NULL;
     all_but_open(WELSBELL_REFUSED_LENGTHS);
     HOLD(refused(welsbell_queue_open(&queue, 1, 1), WELSBELL_REFUSED_LENGTHS));
     queue.waiting_length = 8;
@@ -270,10 +320,7 @@ static void null_tables(void)
     HOLD(refused(welsbell_queue_open(&queue, 1, 1), WELSBELL_REFUSED_LENGTHS));
     queue.waiting = waiting;
     HOLD(refused(welsbell_queue_open(&queue, 1, 1), WELSBELL_REFUSED_LENGTHS));
-    queue.submitted = submitted;
-    queue.served = served;
-    HOLD(refused(welsbell_queue_open(&queue, 1, 1), WELSBELL_REFUSED_LENGTHS));
-    queue.dropped = dropped;
+    queue.clients = clients;
     HOLD(is_kind(welsbell_queue_open(&queue, 1, 1), WELSBELL_OPENED));
     HOLD(is_kind(welsbell_queue_chart(&queue, NULL, 8), WELSBELL_CHARTED));
     HOLD(is_kind(welsbell_queue_submit(&queue, 0, 1), WELSBELL_KEPT));
@@ -289,6 +336,7 @@ int main(void)
     bounds_of_open();
     bounds_of_others();
     refusals();
+    numbers_of_clients();
     null_tables();
     if (failed) {
         fprintf(stderr, "tests/header.c: %u of %u do not hold\n", failed, held);

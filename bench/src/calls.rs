@@ -15,12 +15,11 @@ pub trait Calls {
             return refuse(values, refusal);
         }
         *t.head = [clients, period, 0, 0, 0];
-        // SAFETY: the pointer is to so many records, and zero bytes are a record.
-        unsafe { t.waiting.as_mut_ptr().write_bytes(0, t.waiting.len()) };
-        let (submitted, served, dropped) = t.columns();
-        submitted.fill(0);
-        served.fill(0);
-        dropped.fill(0);
+        // SAFETY: each pointer is to so many records, and zero bytes are a record.
+        unsafe {
+            t.waiting.as_mut_ptr().write_bytes(0, t.waiting.len());
+            t.clients.as_mut_ptr().write_bytes(0, t.clients.len());
+        }
         OPENED
     }
 
@@ -33,7 +32,7 @@ pub trait Calls {
         let (n, number) = (n as usize, last + 1);
         let new = request(deadline, number, client);
         t.head[3] = number;
-        t.submitted[client as usize] += 1;
+        t.clients[client as usize].submitted += 1;
         let waiting = &t.waiting[..n];
         let place = waiting.partition_point(|w| w.deadline <= deadline);
         let Some(last) = last_candidate(waiting, clock, place, deadline) else {
@@ -44,7 +43,7 @@ pub trait Calls {
         };
         let at = victim(t, client, place, last);
         let lost = put_for(t.waiting, place, new, at);
-        t.dropped[lost.client as usize] += 1;
+        t.clients[lost.client as usize].dropped += 1;
         give(values, DROPPED, [number, lost.number, lost.client])
     }
 
@@ -61,7 +60,7 @@ pub trait Calls {
             t.waiting.copy_within(1..n, 0);
             t.waiting[n - 1] = Request::default();
             t.head[4] -= 1;
-            t.served[first.client as usize] += 1;
+            t.clients[first.client as usize].served += 1;
         }
         if (slot + 1).is_multiple_of(period) {
             start_period(t);
@@ -79,8 +78,8 @@ pub trait Calls {
         if let Err(refusal) = Self::check(t).and(refused_if(t.head[0] <= client, 6)) {
             return refuse(values, refusal);
         }
-        let c = client as usize;
-        let [submitted, served, dropped] = [t.submitted[c], t.served[c], t.dropped[c]].map(u64::from);
+        let c = &t.clients[client as usize];
+        let [submitted, served, dropped] = [c.submitted, c.served, c.dropped].map(u64::from);
         give(
             values,
             REPORT,
@@ -121,7 +120,7 @@ fn submit_refusal(t: &Lent, client: u64, deadline: u64) -> Result<(), u64> {
         Err(6)
     } else if deadline <= clock || clock + MOST_AHEAD < deadline {
         Err(7)
-    } else if t.submitted[client as usize] == MOST_COUNTED {
+    } else if t.clients[client as usize].submitted == MOST_COUNTED {
         Err(8)
     } else if last == END {
         Err(9)
@@ -164,8 +163,8 @@ fn victim(t: &Lent, client: u64, place: usize, last: usize) -> usize {
         last_of[w.client as u8 as usize] = i;
     }
     let (mut found, mut least) = (0, (1, 0));
-    for (c, &at) in last_of[..t.head[0] as usize].iter().enumerate() {
-        let (dropped, submitted) = (t.dropped[c] as u64, t.submitted[c] as u64);
+    for (c, &at) in t.clients.iter().zip(&last_of) {
+        let (dropped, submitted) = (c.dropped as u64, c.submitted as u64);
         let (this, other) = (dropped * least.1, least.0 * submitted);
         if at > 0 && (this < other || (this == other && found < at)) {
             (found, least) = (at, (dropped, submitted));
@@ -195,12 +194,13 @@ fn put_for(waiting: &mut [Request], place: usize, new: Request, victim: usize) -
 
 // Submitted becomes what waits.
 fn start_period(t: &mut Lent) {
-    let (submitted, served, dropped) = t.columns();
-    for ((submitted, served), dropped) in submitted.iter_mut().zip(&*served).zip(&*dropped) {
-        *submitted -= served + dropped;
+    for client in &mut *t.clients {
+        *client = Client {
+            submitted: client.submitted - client.served - client.dropped,
+            served: 0,
+            dropped: 0,
+        };
     }
-    served.fill(0);
-    dropped.fill(0);
 }
 
 // From the back by fours: where the four end by their own deadlines does not wait for the start behind them, so that only one

@@ -1,23 +1,24 @@
 //! The head and the tables as they are lent for one call by hand, and how it answers.
-use tests::tables::{Request, Tables, Values, MOST_RECORDS, REFUSED};
+use tests::tables::{Client, Request, Tables, Values, MOST_RECORDS, REFUSED, WIDTH};
 
 pub struct Lent<'a> {
     pub head: &'a mut [u64; 5],
     pub waiting: &'a mut [Request],
-    pub submitted: &'a mut [u32],
-    pub served: &'a mut [u32],
-    pub dropped: &'a mut [u32],
+    pub clients: &'a mut [Client],
+    // the client table's length in numbers, as it is lent to the proved calls
+    client_numbers: usize,
 }
 
 impl Lent<'_> {
     #[inline(always)]
     pub fn whole(t: &mut Tables) -> Lent<'_> {
+        let client_numbers = t.client_numbers.len();
+        let (head, waiting, clients) = t.parts();
         Lent {
-            head: &mut t.head,
-            waiting: &mut t.waiting,
-            submitted: &mut t.submitted,
-            served: &mut t.served,
-            dropped: &mut t.dropped,
+            head,
+            waiting,
+            clients,
+            client_numbers,
         }
     }
 
@@ -26,29 +27,16 @@ impl Lent<'_> {
     pub fn part(t: &mut Tables, records: usize, clients: usize) -> Lent<'_> {
         let mut lent = Lent::whole(t);
         lent.waiting = &mut lent.waiting[..records];
-        lent.submitted = &mut lent.submitted[..clients];
-        lent.served = &mut lent.served[..clients];
-        lent.dropped = &mut lent.dropped[..clients];
+        lent.clients = &mut lent.clients[..clients];
+        lent.client_numbers = WIDTH * clients;
         lent
-    }
-
-    // The client table's length: that of its shortest column.
-    #[inline(always)]
-    pub fn accounts(&self) -> usize {
-        self.submitted.len().min(self.served.len()).min(self.dropped.len())
     }
 
     // What refusal 4 asks of the lengths, with so many clients.
     #[inline(always)]
     pub fn has_lengths_for(&self, clients: u64) -> bool {
-        (1..=MOST_RECORDS).contains(&self.waiting.len()) && self.accounts() as u64 == clients
-    }
-
-    // Of each column what belongs to the client table: as many as the head has clients.
-    #[inline(always)]
-    pub fn columns(&mut self) -> (&mut [u32], &mut [u32], &mut [u32]) {
-        let k = self.head[0] as usize;
-        (&mut self.submitted[..k], &mut self.served[..k], &mut self.dropped[..k])
+        let are_records = self.client_numbers == WIDTH * self.clients.len();
+        (1..=MOST_RECORDS).contains(&self.waiting.len()) && are_records && self.clients.len() as u64 == clients
     }
 }
 

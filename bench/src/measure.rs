@@ -47,9 +47,7 @@ fn time(queue: &Queue, timed: &Timed, t: &mut Tables, output: &mut [u64]) -> f64
     let (queue, from) = (black_box(queue), &timed.tables);
     t.head = from.head;
     t.waiting.copy_from_slice(&from.waiting);
-    t.submitted.copy_from_slice(&from.submitted);
-    t.served.copy_from_slice(&from.served);
-    t.dropped.copy_from_slice(&from.dropped);
+    t.client_numbers.copy_from_slice(&from.client_numbers);
     let mut values = [0; 5];
     fence(Ordering::SeqCst);
     let start = Instant::now();

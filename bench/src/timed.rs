@@ -19,16 +19,16 @@ const NO_LIMIT: usize = usize::MAX;
 fn tables(records: usize, n: usize, clients: usize, limit: usize) -> Tables {
     let mut random = Random(0x2545_F491_4F6C_DD1D);
     let mut t = Tables::zero([clients as u64, PERIOD, PERIOD + 1, 100_000, n as u64], records);
-    for c in 0..clients {
-        (t.served[c], t.dropped[c]) = (random.below(50) as u32, 1 + random.below(50) as u32);
-        t.submitted[c] = t.served[c] + t.dropped[c];
+    for client in t.clients_mut() {
+        (client.served, client.dropped) = (random.below(50) as u32, 1 + random.below(50) as u32);
+        client.submitted = client.served + client.dropped;
     }
     let mut ahead = 0;
     for i in 0..n {
         ahead = (i + 2).max(ahead + random.below(3)).min(limit);
         let client = random.below(clients);
         t.waiting[i] = request(t.head[2] + ahead as u64, 10 + i as u64, client as u64);
-        t.submitted[client] += 1;
+        t.clients_mut()[client].submitted += 1;
     }
     t
 }

@@ -88,11 +88,9 @@ fn are_zero(behind: &[Request]) -> bool {
 // Where the three counts are within bounds their sum cannot wrap, so that 32 bits do.
 #[inline(always)]
 fn are_balanced<const MOST: usize>(t: &Lent, clients: usize, tallies: &Tallies<MOST>) -> bool {
-    let k = clients.min(MOST);
-    let (submitted, served, dropped) = (&t.submitted[..k], &t.served[..k], &t.dropped[..k]);
     let mut wrong = 0;
-    for c in 0..k {
-        let (s, v, r) = (submitted[c], served[c], dropped[c]);
+    for (c, client) in t.clients[..clients.min(MOST)].iter().enumerate() {
+        let (s, v, r) = (client.submitted, client.served, client.dropped);
         let waiting: u32 = tallies.iter().map(|tally| tally[c] as u32).sum();
         wrong |= (s | v | r) & !MOST_COUNTED;
         wrong |= s ^ v.wrapping_add(r).wrapping_add(waiting);

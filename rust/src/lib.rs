@@ -65,6 +65,15 @@ pub struct Request {
     pub client: u64,
 }
 
+/// A client's record. In sound tables submitted is served, dropped and the client's waiting records together.
+#[repr(C)]
+#[derive(Clone, Copy, Debug, Default, PartialEq, Eq)]
+pub struct Client {
+    pub submitted: u32,
+    pub served: u32,
+    pub dropped: u32,
+}
+
 /// What is passed to each call and handed back; may hold anything before an open.
 #[repr(C)]
 #[derive(Clone, Copy, Debug, Default, PartialEq, Eq)]
@@ -264,9 +273,7 @@ impl Display for Answer {
 pub struct Tables<const RECORDS: usize, const CLIENTS: usize> {
     pub head: Head,
     pub waiting: [Request; RECORDS],
-    pub submitted: [u32; CLIENTS],
-    pub served: [u32; CLIENTS],
-    pub dropped: [u32; CLIENTS],
+    pub clients: [Client; CLIENTS],
 }
 
 impl<const RECORDS: usize, const CLIENTS: usize> Tables<RECORDS, CLIENTS> {
@@ -285,9 +292,11 @@ impl<const RECORDS: usize, const CLIENTS: usize> Tables<RECORDS, CLIENTS> {
                 number: 0,
                 client: 0,
             }; RECORDS],
-            submitted: [0; CLIENTS],
-            served: [0; CLIENTS],
-            dropped: [0; CLIENTS],
+            clients: [Client {
+                submitted: 0,
+                served: 0,
+                dropped: 0,
+            }; CLIENTS],
         }
     }
 
@@ -296,9 +305,7 @@ impl<const RECORDS: usize, const CLIENTS: usize> Tables<RECORDS, CLIENTS> {
         Queue {
             head: &mut self.head,
             waiting: &mut self.waiting,
-            submitted: &mut self.submitted,
-            served: &mut self.served,
-            dropped: &mut self.dropped,
+            clients: &mut self.clients,
         }
     }
 }
@@ -309,23 +316,18 @@ impl<const RECORDS: usize, const CLIENTS: usize> Default for Tables<RECORDS, CLI
     }
 }
 
-/// The head and the tables as they are lent: a waiting table of 1 to 2,048 records, and the client table as three columns with one
-/// entry a client each.
+/// The head and the tables as they are lent: a waiting table of 1 to 2,048 records, and a client table of one record a client.
 ///
 /// They may be looked at between calls, and written too. Every call but open first asks whether they are sound, and is refused
 /// where they are not:
-/// - [`Refusal::Lengths`]: the waiting table has no records or more than 2,048, the shortest column has not as many entries as the
+/// - [`Refusal::Lengths`]: the waiting table has no records or more than 2,048, the client table has not as many records as the
 ///   head has clients, or the waiting count exceeds the waiting table's length;
 /// - [`Refusal::Unsound`]: the tables are not sound.
-///
-/// What a column has beyond the shortest one decides nothing and stays as it is.
 #[derive(Debug)]
 pub struct Queue<'a> {
     pub head: &'a mut Head,
     pub waiting: &'a mut [Request],
-    pub submitted: &'a mut [u32],
-    pub served: &'a mut [u32],
-    pub dropped: &'a mut [u32],
+    pub clients: &'a mut [Client],
 }
 
 // Makes an exported call with the head and the tables, then its own arguments, and hands back its answer. The pointers are for
@@ -333,19 +335,16 @@ pub struct Queue<'a> {
 macro_rules! lend {
     ($exported:ident, $queue:ident, $one:path, $pointer:ident $(, $argument:expr)*) => {{
         let mut values = [0; 5];
-        // SAFETY: the head is one head, and each other pointer is to as many entries as the length behind it says, since they are
-        // slices. All are borrowed until the call is over, those to be written through by nobody else.
+        // SAFETY: the head is one head, and each other pointer is good for as much as the length behind it says, since they are
+        // slices: a client's record is three numbers and nothing else, so that so many records are three times as many numbers.
+        // All are borrowed until the call is over, those to be written through by nobody else.
         let kind = unsafe {
             raw::$exported(
                 $one($queue.head),
                 $queue.waiting.$pointer(),
                 $queue.waiting.len(),
-                $queue.submitted.$pointer(),
-                $queue.submitted.len(),
-                $queue.served.$pointer(),
-                $queue.served.len(),
-                $queue.dropped.$pointer(),
-                $queue.dropped.len(),
+                $queue.clients.$pointer(),
+                3 * $queue.clients.len(),
                 $($argument,)*
                 &mut values,
             )
@@ -358,8 +357,8 @@ impl Queue<'_> {
     /// Begins anew, whatever head and tables hold: clock, last number and waiting count become 0 and every record zero. Gives
     /// `Opened`.
     ///
-    /// Refusals: `Clients`, `Period`, and `Lengths` where the waiting table has no records or more than 2,048, or the shortest
-    /// column has not as many entries as clients are given.
+    /// Refusals: `Clients`, `Period`, and `Lengths` where the waiting table has no records or more than 2,048, or the client table
+    /// has not as many records as clients are given.
     pub fn open(&mut self, clients: u64, period: u64) -> Answer {
         lend!(welsbell_open, self, from_mut, as_mut_ptr, clients, period)
     }

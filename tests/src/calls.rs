@@ -18,19 +18,15 @@ pub fn answer(kind: u64, values: &Values) -> Vec<u64> {
 // get pointers that may be written through, so that a write would show.
 macro_rules! lend {
     ($exported:ident, $tables:ident, $values:ident $(, $argument:expr)*) => {
-        // SAFETY: the head is five numbers, as a head of the wrapper is, and so are the values; each other pointer is to as many
-        // entries as the length behind it says, and all are lent for this call alone.
+        // SAFETY: the head is five numbers, as a head of the wrapper is, and so are the values; each other pointer is good for as
+        // much as the length behind it says, and all are lent for this call alone.
         unsafe {
             raw::$exported(
                 $tables.head.as_mut_ptr().cast(),
                 $tables.waiting.as_mut_ptr(),
                 $tables.waiting.len(),
-                $tables.submitted.as_mut_ptr(),
-                $tables.submitted.len(),
-                $tables.served.as_mut_ptr(),
-                $tables.served.len(),
-                $tables.dropped.as_mut_ptr(),
-                $tables.dropped.len(),
+                $tables.client_numbers.as_mut_ptr().cast(),
+                $tables.client_numbers.len(),
                 $($argument,)*
                 $values,
             )

@@ -3,7 +3,7 @@
 //! them; where they have no place for it, it does nothing.
 use crate::model::sound::CLAUSES;
 use crate::random::Random;
-use crate::tables::{Request, Tables, END, MOST_AHEAD, MOST_COUNTED, MOST_PERIOD, MOST_RECORDS};
+use crate::tables::{Client, Request, Tables, END, MOST_AHEAD, MOST_COUNTED, MOST_PERIOD, MOST_RECORDS, WIDTH};
 
 pub type Damage = fn(&mut Tables, &mut Random);
 
@@ -62,16 +62,17 @@ pub const DAMAGES: [&[Damage]; CLAUSES.len()] = [
         leave_one_uncounted,
     ],
     &[
-        |t, random| edit_count(t, random, |[submitted, _, _]| *submitted = submitted.wrapping_add(1)),
-        |t, random| edit_count(t, random, |[submitted, _, _]| *submitted = submitted.wrapping_sub(1)),
-        |t, random| edit_count(t, random, |[_, served, _]| *served = served.wrapping_add(1)),
-        |t, random| edit_count(t, random, |[_, served, _]| *served = served.wrapping_sub(1)),
-        |t, random| edit_count(t, random, |[_, _, dropped]| *dropped = dropped.wrapping_add(1)),
-        |t, random| edit_count(t, random, |[_, _, dropped]| *dropped = dropped.wrapping_sub(1)),
+        |t, random| edit_client(t, random, |client| client.submitted = client.submitted.wrapping_add(1)),
+        |t, random| edit_client(t, random, |client| client.submitted = client.submitted.wrapping_sub(1)),
+        |t, random| edit_client(t, random, |client| client.served = client.served.wrapping_add(1)),
+        |t, random| edit_client(t, random, |client| client.served = client.served.wrapping_sub(1)),
+        |t, random| edit_client(t, random, |client| client.dropped = client.dropped.wrapping_add(1)),
+        |t, random| edit_client(t, random, |client| client.dropped = client.dropped.wrapping_sub(1)),
         // right but for 32 bits
         |t, random| {
-            edit_count(t, random, |[_, served, dropped]| {
-                (*served, *dropped) = (*served ^ 1 << 31, *dropped ^ 1 << 31)
+            edit_client(t, random, |client| {
+                client.served ^= 1 << 31;
+                client.dropped ^= 1 << 31;
             })
         },
     ],
@@ -82,12 +83,20 @@ pub const DAMAGES: [&[Damage]; CLAUSES.len()] = [
     ],
 ];
 
+// Three times the first is 1 but for a carry out of 64 bits, three times the second but for one out of 32.
+pub const THIRDS: [u64; 2] = [0xAAAA_AAAA_AAAA_AAAB, 0xAAAA_AAAB];
+
 // Each leaves another length, or a waiting count above the length.
-pub const LENGTHS: [Damage; 10] = [
+pub const LENGTHS: [Damage; 15] = [
     |t, _| t.waiting.clear(),
     |t, random| t.waiting.resize(MOST_RECORDS + 1 + random.below(3), Request::default()),
-    shorten_a_column,
-    lengthen_the_columns,
+    |t, _| shorten(t, 1),
+    |t, random| lengthen(t, random, 1),
+    |t, random| lengthen(t, random, 2),
+    |t, _| shorten(t, WIDTH),
+    |t, random| lengthen(t, random, WIDTH),
+    |t, random| carry(t, random, THIRDS[0]),
+    |t, random| carry(t, random, THIRDS[1]),
     |t, _| t.head[CLIENTS] = t.head[CLIENTS].wrapping_add(1),
     |t, _| t.head[CLIENTS] = t.head[CLIENTS].wrapping_sub(1),
     |t, _| t.head[CLIENTS] = u64::MAX,
@@ -96,17 +105,13 @@ pub const LENGTHS: [Damage; 10] = [
     |t, _| t.head[WAITING] = 1 << 32,
 ];
 
-fn columns(t: &mut Tables) -> [&mut Vec<u32>; 3] {
-    [&mut t.submitted, &mut t.served, &mut t.dropped]
-}
-
 fn waiting_count(t: &Tables) -> usize {
     t.waiting.len().min(t.head[WAITING] as usize)
 }
 
 fn uncount(t: &mut Tables, client: u64) {
-    if let Some(submitted) = t.submitted.get_mut(client as usize) {
-        *submitted = submitted.wrapping_sub(1);
+    if let Some(client) = t.clients_mut().get_mut(client as usize) {
+        client.submitted = client.submitted.wrapping_sub(1);
     }
 }
 
@@ -119,19 +124,15 @@ fn take_out_all(t: &mut Tables) {
     t.head[WAITING] = 0;
 }
 
-fn no_clients(t: &mut Tables, random: &mut Random) {
+fn no_clients(t: &mut Tables, _: &mut Random) {
     take_out_all(t);
     t.head[CLIENTS] = 0;
-    columns(t)[random.below(3)].clear();
+    t.client_numbers.clear();
 }
 
 fn too_many_clients(t: &mut Tables, random: &mut Random) {
-    let (clients, more) = (t.head[CLIENTS] as usize, random.between(257, 400));
-    t.head[CLIENTS] = more;
-    for column in columns(t) {
-        column.truncate(clients);
-        column.resize(more as usize, 0);
-    }
+    t.head[CLIENTS] = random.between(257, 400);
+    t.client_numbers.resize(WIDTH * t.head[CLIENTS] as usize, 0);
 }
 
 // The deadlines move with it.
@@ -260,31 +261,33 @@ fn leave_one_uncounted(t: &mut Tables, _: &mut Random) {
     }
 }
 
-// Submitted, served and dropped of a client.
-fn edit_count(t: &mut Tables, random: &mut Random, edit: impl Fn([&mut u32; 3])) {
-    let clients = columns(t).map(|column| column.len()).into_iter().min().unwrap_or_default();
-    if clients > 0 {
-        let client = random.below(clients);
-        edit(columns(t).map(|column| &mut column[client]));
+fn edit_client(t: &mut Tables, random: &mut Random, edit: impl Fn(&mut Client)) {
+    let clients = t.clients_mut();
+    if !clients.is_empty() {
+        edit(&mut clients[random.below(clients.len())]);
     }
 }
 
 // The sum stays right.
 fn submit_past_the_bound(t: &mut Tables, random: &mut Random, count: u32) {
-    edit_count(t, random, |[submitted, served, _]| {
-        *served = served.wrapping_add(count.wrapping_sub(*submitted));
-        *submitted = count;
+    edit_client(t, random, |client| {
+        client.served = client.served.wrapping_add(count.wrapping_sub(client.submitted));
+        client.submitted = count;
     });
 }
 
-fn shorten_a_column(t: &mut Tables, random: &mut Random) {
-    let shorter = t.head[CLIENTS].saturating_sub(1) as usize;
-    columns(t)[random.below(3)].truncate(shorter);
+// So many of the client table's numbers less, or more.
+fn shorten(t: &mut Tables, by: usize) {
+    t.client_numbers.truncate(t.client_numbers.len().saturating_sub(by));
 }
 
-fn lengthen_the_columns(t: &mut Tables, random: &mut Random) {
-    let longer = columns(t).map(|column| column.len()).into_iter().max().unwrap_or_default() + 1;
-    for column in columns(t) {
-        column.resize(longer + random.below(2), 0);
-    }
+fn lengthen(t: &mut Tables, random: &mut Random, by: usize) {
+    t.client_numbers.extend((0..by).map(|_| random.next() as u32));
+}
+
+// A length that is no records, and three times the clients but for a carry.
+fn carry(t: &mut Tables, random: &mut Random, third: u64) {
+    let odd = 1 + random.below(2);
+    lengthen(t, random, odd);
+    t.head[CLIENTS] = third.wrapping_mul(t.client_numbers.len() as u64);
 }

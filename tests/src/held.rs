@@ -1,21 +1,20 @@
 //! The exported calls held to the model: after each call its answer, the head, every record of both tables and the output.
 use crate::calls;
 use crate::model::{Answer, Call, Counts, Fault, Head, Queue};
-use crate::tables::{Tables, Values};
+use crate::tables::{Client, Tables, Values, WIDTH};
 use crate::tally::Tally;
 use std::fmt::Debug;
 
 // What stands in values and in outputs before a call, and is no number that one writes.
 const UNWRITTEN: u64 = 0xA5A5_A5A5_A5A5_A5A5;
 
-// The tables as the model takes them: the shortest of the three columns gives the client table's length.
+// The tables as the model takes them.
 pub fn queue_of(tables: &Tables) -> Queue {
     let [clients, period, clock, last, waiting] = tables.head;
-    let rows = tables.submitted.iter().zip(&tables.served).zip(&tables.dropped);
-    let counts = rows.map(|((&submitted, &served), &dropped)| Counts {
-        submitted: submitted.into(),
-        served: served.into(),
-        dropped: dropped.into(),
+    let counts = tables.clients().iter().map(|client| Counts {
+        submitted: client.submitted.into(),
+        served: client.served.into(),
+        dropped: client.dropped.into(),
     });
     Queue {
         head: Head {
@@ -27,19 +26,22 @@ pub fn queue_of(tables: &Tables) -> Queue {
         },
         records: tables.waiting.clone(),
         clients: counts.collect(),
+        odd_numbers: tables.client_numbers.len() % WIDTH,
         fault: Fault::None,
     }
 }
 
-// Writes what the model holds over the tables that it was taken from; what a longer column holds beyond stays.
+// Writes what the model holds over the tables that it was taken from; numbers behind the last whole record stay.
 fn write(queue: &Queue, tables: &mut Tables) {
     let head = &queue.head;
     tables.head = [head.clients, head.period, head.clock, head.last, head.waiting];
     tables.waiting.copy_from_slice(&queue.records);
-    for (client, counts) in queue.clients.iter().enumerate() {
-        tables.submitted[client] = counts.submitted as u32;
-        tables.served[client] = counts.served as u32;
-        tables.dropped[client] = counts.dropped as u32;
+    for (client, counts) in tables.clients_mut().iter_mut().zip(&queue.clients) {
+        *client = Client {
+            submitted: counts.submitted as u32,
+            served: counts.served as u32,
+            dropped: counts.dropped as u32,
+        };
     }
 }
 
@@ -138,9 +140,8 @@ impl Held {
         let (expected, came) = (&self.expected, &self.lent);
         differ("head", &expected.head, &came.head)
             .or(differ("waiting", &expected.waiting, &came.waiting))
-            .or(differ("submitted", &expected.submitted, &came.submitted))
-            .or(differ("served", &expected.served, &came.served))
-            .or(differ("dropped", &expected.dropped, &came.dropped))
+            .or(differ("clients", expected.clients(), came.clients()))
+            .or(differ("client numbers", &expected.client_numbers, &came.client_numbers))
     }
 }
 

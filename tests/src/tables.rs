@@ -1,8 +1,9 @@
 // Document 01's bounds, the tables, and the numbers of the answers: what programs with and without the exported calls share. Bounds
 // and numbers are the wrapper's, so that cases which hold the library to them hold the wrapper too.
+use std::slice::{from_raw_parts, from_raw_parts_mut};
 
 pub use welsbell::raw::{CHARTED as CHART, DROPPED, IDLE, KEPT, OPENED, REFUSED, REPORTED as REPORT, SERVED};
-pub use welsbell::{Request, END, MOST_AHEAD, MOST_CLIENTS, MOST_COUNTED, MOST_PERIOD, MOST_RECORDS};
+pub use welsbell::{Client, Request, END, MOST_AHEAD, MOST_CLIENTS, MOST_COUNTED, MOST_PERIOD, MOST_RECORDS};
 
 pub fn request(deadline: u64, number: u64, client: u64) -> Request {
     Request {
@@ -12,27 +13,46 @@ pub fn request(deadline: u64, number: u64, client: u64) -> Request {
     }
 }
 
-// The head is clients, period, clock, last request number and waiting count.
+// How many numbers a client's record has.
+pub const WIDTH: usize = 3;
+
+// The head is clients, period, clock, last request number and waiting count. The client table is its numbers, so that it can have
+// lengths that are no records.
 #[derive(Clone, Debug, PartialEq)]
 pub struct Tables {
     pub head: [u64; 5],
     pub waiting: Vec<Request>,
-    pub submitted: Vec<u32>,
-    pub served: Vec<u32>,
-    pub dropped: Vec<u32>,
+    pub client_numbers: Vec<u32>,
 }
 
 impl Tables {
     // Tables of so many records, and of the head's clients, all zero.
     pub fn zero(head: [u64; 5], records: usize) -> Tables {
-        let zeros = vec![0; head[0] as usize];
         Tables {
             head,
             waiting: vec![Request::default(); records],
-            submitted: zeros.clone(),
-            served: zeros.clone(),
-            dropped: zeros,
+            client_numbers: vec![0; WIDTH * head[0] as usize],
         }
+    }
+
+    // The client table's whole records; one or two numbers behind them are none.
+    pub fn clients(&self) -> &[Client] {
+        let (whole, _) = self.client_numbers.as_chunks::<WIDTH>();
+        // SAFETY: a record is three numbers one behind the other, and nothing else.
+        unsafe { from_raw_parts(whole.as_ptr().cast(), whole.len()) }
+    }
+
+    pub fn clients_mut(&mut self) -> &mut [Client] {
+        self.parts().2
+    }
+
+    // Head, waiting table and client table at once.
+    #[inline(always)]
+    pub fn parts(&mut self) -> (&mut [u64; 5], &mut [Request], &mut [Client]) {
+        let (whole, _) = self.client_numbers.as_chunks_mut::<WIDTH>();
+        // SAFETY: as above, and they are borrowed as long as the records are.
+        let clients = unsafe { from_raw_parts_mut(whole.as_mut_ptr().cast(), whole.len()) };
+        (&mut self.head, &mut self.waiting, clients)
     }
 }
 

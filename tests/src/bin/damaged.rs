@@ -52,7 +52,7 @@ struct Test {
 // Every call, with arguments that sound tables accept and with others.
 fn calls(random: &mut Random, tables: &Tables) -> Vec<Call> {
     let [clients, _, clock, _, waiting] = tables.head;
-    let lent = tables.submitted.len().min(tables.served.len()).min(tables.dropped.len()) as u64;
+    let lent = tables.clients().len() as u64;
     let client = random.next() % clients.max(1);
     let near = random.between(1, 9);
     let records = tables.waiting.len();
@@ -240,7 +240,7 @@ impl Test {
 }
 
 fn shown(tables: &Tables) -> String {
-    if tables.waiting.len() < 20 && tables.submitted.len() < 20 {
+    if tables.waiting.len() < 20 && tables.clients().len() < 20 {
         format!("{tables:?}")
     } else {
         format!("head {:?}, {} records", tables.head, tables.waiting.len())

@@ -4,6 +4,7 @@ use std::fmt::Debug;
 use std::process::exit;
 use std::thread;
 use tests::calls::*;
+use tests::damages::THIRDS;
 use welsbell::{Answer, Refusal};
 
 // A waiting record: deadline, number, client.
@@ -17,15 +18,19 @@ const FRESH: Counts = (0, 0, 0);
 // No value of an answer.
 const UNWRITTEN: u64 = u64::MAX;
 
-// Writes the head, the records with zeros behind them, and the counts; entries of a column beyond the counts stay.
+// Writes the head, the records with zeros behind them, and the counts.
 fn write(t: &mut Tables, head: [u64; 5], rows: &[Row], counts: &[Counts]) {
     t.head = head;
     t.waiting.fill(Request::default());
     for (record, &(deadline, number, client)) in t.waiting.iter_mut().zip(rows) {
         *record = request(deadline, number, client);
     }
-    for (c, &(submitted, served, dropped)) in counts.iter().enumerate() {
-        (t.submitted[c], t.served[c], t.dropped[c]) = (submitted, served, dropped);
+    for (client, &(submitted, served, dropped)) in t.clients_mut().iter_mut().zip(counts) {
+        *client = Client {
+            submitted,
+            served,
+            dropped,
+        };
     }
 }
 
@@ -157,9 +162,8 @@ impl Library {
         self.same("answer", answer, &self.answer);
         self.same("head", &expected.head, &self.tables.head);
         self.same("waiting", &expected.waiting, &self.tables.waiting);
-        self.same("submitted", &expected.submitted, &self.tables.submitted);
-        self.same("served", &expected.served, &self.tables.served);
-        self.same("dropped", &expected.dropped, &self.tables.dropped);
+        self.same("clients", expected.clients(), self.tables.clients());
+        self.same("client numbers", &expected.client_numbers, &self.tables.client_numbers);
         self.same("output", output, &self.output);
     }
 
@@ -590,7 +594,9 @@ const DAMAGES: [Edit; 42] = [
     ("number 0 at last", |t| t.waiting[3].number = 0),
     ("number above the last given", |t| t.waiting[2].number = 10),
     ("number at the last of 64 bits", |t| t.waiting[3].number = u64::MAX),
-    ("no such client", |t| (t.waiting[2].client, t.submitted[0]) = (2, 4)),
+    ("no such client", |t| {
+        (t.waiting[2].client, t.clients_mut()[0].submitted) = (2, 4)
+    }),
     ("client 0 but for 8 bits", |t| t.waiting[2].client = 256),
     ("client 0 but for 32 bits", |t| t.waiting[2].client = 1 << 32),
     ("overfull", |t| t.waiting[2] = request(12, 8, 0)),
@@ -603,17 +609,19 @@ const DAMAGES: [Edit; 42] = [
     ("deadline in the last record", |t| t.waiting[5].deadline = 1 << 63),
     ("number in the last record", |t| t.waiting[5].number = 1 << 63),
     ("client in the last record", |t| t.waiting[5].client = 1 << 63),
-    ("submitted above the sum", |t| t.submitted[0] += 1),
-    ("submitted below the sum", |t| t.submitted[1] -= 1),
-    ("served above", |t| t.served[0] += 1),
-    ("served below", |t| t.served[1] -= 1),
-    ("dropped above", |t| t.dropped[1] += 1),
-    ("dropped below", |t| t.dropped[0] -= 1),
+    ("submitted above the sum", |t| t.clients_mut()[0].submitted += 1),
+    ("submitted below the sum", |t| t.clients_mut()[1].submitted -= 1),
+    ("served above", |t| t.clients_mut()[0].served += 1),
+    ("served below", |t| t.clients_mut()[1].served -= 1),
+    ("dropped above", |t| t.clients_mut()[1].dropped += 1),
+    ("dropped below", |t| t.clients_mut()[0].dropped -= 1),
     ("the sum right, above its bound", |t| {
-        (t.submitted[1], t.served[1]) = (MOST_COUNTED + 1, MOST_COUNTED - 1)
+        let client = &mut t.clients_mut()[1];
+        (client.submitted, client.served) = (MOST_COUNTED + 1, MOST_COUNTED - 1);
     }),
     ("the sum right but for 32 bits", |t| {
-        (t.served[1], t.dropped[1]) = (3 + (1 << 31), 1 << 31)
+        let client = &mut t.clients_mut()[1];
+        (client.served, client.dropped) = (3 + (1 << 31), 1 << 31);
     }),
     ("one waiting record not counted", |t| t.head[4] = 3),
     ("a free record counted", |t| t.head[4] = 5),
@@ -644,24 +652,29 @@ fn damaged_anywhere(l: &mut Library) {
         });
     }
     for client in 0..256 {
-        refused(&|t| t.served[client] = 1);
+        refused(&|t| t.clients_mut()[client].served = 1);
     }
     l.lend(full);
     l.report(255).reported([255, 8, 0, 0, 8]);
 }
 
-// Each leaves another length, or a waiting count above the length; open asks the first seven.
-const LENGTHS: [Edit; 9] = [
+// Each leaves another length, or a waiting count above the length.
+const LENGTHS: [Edit; 11] = [
     ("no records", |t| *t = tables(0, [2, 100, 10, 9, 0], &[], &[FRESH; 2])),
     ("2,049 records", |t| t.waiting.resize(2_049, Request::default())),
     ("a client short", |t| *t = tables(6, [2, 100, 10, 9, 0], &[], &[FRESH])),
     ("a client more", |t| *t = tables(6, [2, 100, 10, 9, 0], &[], &[FRESH; 3])),
-    ("submitted short", |t| t.submitted.truncate(1)),
-    ("served short", |t| t.served.truncate(1)),
-    ("dropped short", |t| t.dropped.truncate(0)),
+    ("no numbers of clients", |t| t.client_numbers.clear()),
+    ("a number short", |t| t.client_numbers.truncate(5)),
+    ("two numbers short", |t| t.client_numbers.truncate(4)),
+    ("a number more", |t| t.client_numbers.push(0)),
+    ("two numbers more", |t| t.client_numbers.extend([0, 9])),
     ("waiting count above the table", |t| t.head[4] = 7),
     ("waiting count at the last of 64 bits", |t| t.head[4] = u64::MAX),
 ];
+
+// Open asks all of them but the waiting counts.
+const LENGTHS_IN_OPEN: usize = 9;
 
 fn lengths(l: &mut Library) {
     for (i, (edit, damage)) in LENGTHS.into_iter().enumerate() {
@@ -669,7 +682,7 @@ fn lengths(l: &mut Library) {
         l.lend(good());
         damage(&mut l.tables);
         all_but_open_refuse(l, 4);
-        if i < 7 {
+        if i < LENGTHS_IN_OPEN {
             l.open(2, 100).refused(4);
         } else {
             l.open(2, 100).opened(2, 100);
@@ -719,30 +732,27 @@ fn first_match_of_the_others(l: &mut Library) {
     }
 }
 
-// Columns longer by so much than the head's two clients: the entries beyond, which no rule binds, stay.
-fn longer_columns(l: &mut Library) {
-    for beyond in [[0, 1, 300], [2, 0, 5], [1, 7, 0], [0, 0, 1], [1, 1, 0]] {
-        let mut t = good();
-        for (column, more) in [&mut t.submitted, &mut t.served, &mut t.dropped].into_iter().zip(beyond) {
-            column.extend((0..more).map(|i| u32::MAX - i));
+// Client tables of numbers that are no records, under heads of many numbers of clients: none, as many as the numbers have room for
+// or one more, and those of which three times are the numbers but for a carry.
+fn odd_numbers(l: &mut Library) {
+    for numbers in [1, 2, 4, 5] {
+        let [carried, carried_32] = THIRDS.map(|third| third.wrapping_mul(numbers));
+        for clients in [0, 1, 2, 256, u64::MAX, carried, carried_32] {
+            l.lend(Tables {
+                client_numbers: vec![0; numbers as usize],
+                ..opened(6, 0)
+            });
+            l.tables.head[0] = clients;
+            all_but_open_refuse(l, 4);
         }
-        l.lend(t.clone());
-        l.report(0).reported([0, 5, 2, 1, 2]);
-        l.report(2).refused(6);
-        l.submit(2, 20).refused(6);
-        l.chart(4).charted(&[10, 11, 19, 24]);
-        let rows = [(11, 10, 0), GOOD[0], GOOD[2], GOOD[3]];
-        l.submit(0, 11).dropped(10, 7, 1, &rows, &[(6, 2, 1), (5, 3, 1)]);
-        let rows = [rows[0], rows[1], rows[2], (21, 11, 1), rows[3]];
-        l.submit(1, 21).kept(11, 3, &rows, &[(6, 2, 1), (6, 3, 1)]);
-        l.tick().served(10, 10, 0, &rows[1..], &[(6, 3, 1), (6, 3, 1)]);
-        // a period start
-        t.head[1] = 11;
-        l.lend(t);
-        l.tick().served(10, 4, 0, &GOOD[1..], &[(1, 0, 0), (2, 0, 0)]);
-        l.open(3, 100).refused(4);
-        l.open(2, 100).opened(2, 100);
+        for clients in [1, 2, 3] {
+            l.open(clients, 100).refused(4);
+        }
+        l.open(0, 100).refused(2);
     }
+    // with no clients and no numbers the lengths are right
+    l.lend(opened(6, 0));
+    all_but_open_refuse(l, 5);
 }
 
 // Every call, in a thread with a stack of 32 KiB.
@@ -774,7 +784,7 @@ const REFUSALS: [(Refusal, u64, Refused); 11] = [
     (Refusal::Client, 6, |t| t.queue().report(2)),
     (Refusal::Deadline, 7, |t| t.queue().submit(0, 0)),
     (Refusal::Count, 8, |t| {
-        (t.submitted[0], t.served[0]) = (MOST_COUNTED, MOST_COUNTED);
+        (t.clients[0].submitted, t.clients[0].served) = (MOST_COUNTED, MOST_COUNTED);
         t.queue().submit(0, 1)
     }),
     (Refusal::Number, 9, |t| {
@@ -850,7 +860,7 @@ const CASES: [Case; 34] = [
     ("before an open", before_an_open),
     ("first match wins: open and submit", first_match_of_open_and_submit),
     ("first match wins: report, tick and chart", first_match_of_the_others),
-    ("columns longer than the shortest", longer_columns),
+    ("numbers of clients that are not records", odd_numbers),
     ("a stack of 32 KiB", little_stack),
     ("the wrapper's refusals by name", wrapper),
 ];

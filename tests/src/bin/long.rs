@@ -100,11 +100,11 @@ fn move_clock(tables: &mut Tables, to: u64) {
 
 // As if so many had been submitted, most of them served.
 fn move_counts(tables: &mut Tables, to: u32) {
-    for client in 0..tables.submitted.len() {
-        let more = to - tables.submitted[client];
-        tables.submitted[client] += more;
-        tables.dropped[client] += more / 3;
-        tables.served[client] += more - more / 3;
+    for client in tables.clients_mut() {
+        let more = to - client.submitted;
+        client.submitted += more;
+        client.dropped += more / 3;
+        client.served += more - more / 3;
     }
 }
 

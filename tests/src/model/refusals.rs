@@ -36,14 +36,15 @@ fn is_period_outside(_: &Queue, call: &Call) -> bool {
 }
 
 // "All calls: the waiting table has no records or more than 2,048, or the client table's length differs from the number of
-// clients (in open, the number given). All but open: the waiting count exceeds the waiting table's length."
+// clients (in open, the number given). All but open: the waiting count exceeds the waiting table's length." A client is three
+// numbers.
 fn are_lengths_wrong(queue: &Queue, call: &Call) -> bool {
     let (clients, waiting) = match call {
         Call::Open { clients, .. } => (*clients, 0),
         _ => (queue.head.clients, queue.head.waiting),
     };
     let records = queue.records.len();
-    !RECORDS.contains(&records) || queue.clients.len() as u64 != clients || waiting > records as u64
+    !RECORDS.contains(&records) || queue.client_numbers() != 3 * u128::from(clients) || waiting > records as u64
 }
 
 // "All calls but open: the tables are not sound."

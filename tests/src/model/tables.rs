@@ -37,6 +37,8 @@ pub struct Queue {
     pub head: Head,
     pub records: Vec<Request>,
     pub clients: Vec<Counts>,
+    // The client table is lent as its numbers: how many come behind the last whole record, one or two or none.
+    pub odd_numbers: usize,
     pub fault: Fault,
 }
 
@@ -47,8 +49,14 @@ impl Queue {
             head: Head::default(),
             records: vec![Request::default(); records],
             clients: vec![Counts::default(); clients],
+            odd_numbers: 0,
             fault,
         }
+    }
+
+    // The client table's length: a record is three numbers.
+    pub fn client_numbers(&self) -> u128 {
+        3 * self.clients.len() as u128 + self.odd_numbers as u128
     }
 
     // The waiting records, which stand first in their table.

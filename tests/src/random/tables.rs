@@ -14,7 +14,6 @@ pub fn sound(random: &mut Random, records: usize, waiting: usize) -> Tables {
     let requests = requests(random, &tables.head, ahead);
     tables.waiting[..waiting].copy_from_slice(&requests);
     count(random, &mut tables);
-    lengthen(random, &mut tables);
     tables
 }
 
@@ -74,25 +73,17 @@ fn repeat_a_number(random: &mut Random, requests: &mut [Request]) {
 
 // Counts of served and dropped, few or up to the bound, and submitted as their sum with the waiting records.
 fn count(random: &mut Random, tables: &mut Tables) {
-    for request in &tables.waiting[..tables.head[4] as usize] {
-        tables.submitted[request.client as usize] += 1;
+    for place in 0..tables.head[4] as usize {
+        let client = tables.waiting[place].client as usize;
+        tables.clients_mut()[client].submitted += 1;
     }
-    for client in 0..tables.submitted.len() {
-        let most = MOST_COUNTED - tables.submitted[client];
+    for client in tables.clients_mut() {
+        let most = MOST_COUNTED - client.submitted;
         let sum = random.one_of(&[0, 3, 7, most / 2, most - 1, most]);
         let dropped = random.between(0, sum.into()) as u32;
-        tables.dropped[client] = random.one_of(&[0, dropped, sum]);
-        tables.served[client] = sum - tables.dropped[client];
-        tables.submitted[client] += sum;
-    }
-}
-
-// What a column holds beyond the shortest is no record.
-fn lengthen(random: &mut Random, tables: &mut Tables) {
-    let more = random.one_of(&[[0, 0, 0], [0, 0, 0], [0, 1, 9], [300, 0, 2], [5, 1, 0]]);
-    let columns = [&mut tables.submitted, &mut tables.served, &mut tables.dropped];
-    for (column, more) in columns.into_iter().zip(more) {
-        column.extend((0..more).map(|_| random.next() as u32));
+        client.dropped = random.one_of(&[0, dropped, sum]);
+        client.served = sum - client.dropped;
+        client.submitted += sum;
     }
 }
 
