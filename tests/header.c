@@ -1,5 +1,6 @@
 /* Holds the C header to the archive: the version, layouts, kinds and values of answers, each bound at itself and one past, each
-   refusal's name by the calls that give it, lengths of the client table in numbers, and tables that are null. It is C99 and C++11 alike, and is run as both. */
+   refusal's name by the calls that give it, lengths of the client table in numbers, and tables that are null. It is C99 and C++11
+   alike, and is run as both. */
 #include "welsbell.h"
 
 #include <stdio.h>

@@ -12,7 +12,7 @@ use Rattle.spec.specs.declared.types.Counts.{Counts}
 use Rattle.spec.specs.Tables.{zeroCounts, width, recordOf, recordThen, recordsOf, numbersOf}
 use Rattle.spec.specs.Calls.{change, isPeriodStart}
 use Rattle.columns.specs.Widths.{largest32}
-use Rattle.columns.specs.Clients.{changedAt, changedAll, unlessFull, restartedCounts, restartedNumbers}
+use Rattle.columns.specs.Clients.{changedAt, changedAll, saturatingNext, unlessFull, restartedCounts, restartedNumbers}
 use Rattle.spec.proofs.Laws.Layout.{next-first, next-other, records-numbers, numbers-records}
 
 module _ (f : Counts → Counts) where
@@ -112,13 +112,16 @@ module _ (count : Counts → ℕ) (oneMore : Counts → Counts) where
   more-numbers client cs h =
       more-changed client (numbersOf cs) (rw (records-numbers cs) h) ∙ changedAt-numbers oneMore client cs
 
--- a number in a record, chosen outside or inside
-pub cond-record : (f : ℕ → Counts) (b : Bool) (m n : ℕ) → f (cond b m n) ≡ cond b (f m) (f n)
-cond-record f true m n = refl
-cond-record f false m n = refl
+-- a number that rises unless it is the largest, chosen in a record or between two
+pub next-record : (f : ℕ → Counts) (n : ℕ) → f (saturatingNext n) ≡ cond (ltb n largest32) (f (suc n)) (f n)
+next-record f n = chosen (ltb n largest32)
+  where
+    chosen : (b : Bool) → f (cond b (suc n) n) ≡ cond b (f (suc n)) (f n)
+    chosen true = refl
+    chosen false = refl
 
 -- ---- a period's start
--- the client table once the clock is this: at a period start all are restartedCounts
+-- the client table once the clock is this: at a period start all restart
 abbrev pub restartedAt : ℕ → ℕ → List Counts → List Counts
 restartedAt period clock cs = cond (ltb 0 period && isPeriodStart period clock) (map restartedCounts cs) cs
 

@@ -48,6 +48,6 @@ waitingCount k = k .submitted - (k .served + k .dropped)
 abbrev pub restartedCounts : Counts → Counts
 restartedCounts k = recordOf (waitingCount k) 0 0
 
--- the numbers once the clock is this: at a period start all records are restartedCounts
+-- the numbers once the clock is this: at a period start every record restarts
 abbrev pub restartedNumbers : ℕ → ℕ → List ℕ → List ℕ
 restartedNumbers period clock xs = cond (ltb 0 period && isPeriodStart period clock) (changedAll restartedCounts xs) xs

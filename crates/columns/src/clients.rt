@@ -168,7 +168,7 @@ pub fn clear(numbers: &mut [u32])
 }
 
 // A client's counts at a period's start: submitted becomes its waiting count, served and dropped become 0.
-fn restarted(k: Counts) -> Counts
+fn restarted_counts(k: Counts) -> Counts
     ensures { λ r. ⌜ r ≡ restartedCounts k ⌝ }
 {
     let mut fresh = k;
@@ -186,7 +186,7 @@ fn restart(numbers: &mut [u32])
     let mut i: usize = 0;
     while i < n {
         let k = get(numbers, i);
-        let fresh = restarted(k);
+        let fresh = restarted_counts(k);
         put(numbers, i, fresh);
         i += 1;
     }

@@ -16,7 +16,7 @@ use Rattle.spec.specs.Order.{insertAt, removeAt}
 use Rattle.spec.specs.Calls.{Outcome}
 use Rattle.columns.specs.Widths.{largest64}
 use Rattle.columns.specs.Clients.{changedAt, moreSubmitted, moreServed, moreDropped, waitingCount, restartedNumbers}
-use Rattle.table.specs.Records.{areIn, inserted, removed, removedOut}
+use Rattle.table.specs.Records.{areIn, inserted}
 use Rattle.decide.specs.declared.types.Decision.{Decision}
 use Rattle.decide.specs.declared.types.Decision.the-variants.{Refuse, Keep, Drop, Serve, Idle}
 use Rattle.decide.specs.declared.types.Reply.{Reply}

@@ -133,7 +133,7 @@ fn one_less(n: u64) -> u64
     n - 1
 }
 
-// A slot passes: the clock rises by 1, and at a period's start the counts are restartedCounts.
+// A slot passes: the clock rises by 1, and at a period's start the counts restart.
 fn pass_slot(head: Head, numbers: &mut [u32], waits: u64) -> Head
     ensures { λ r. ⌜ (r ≡ laterHead head waits)
         × (now (numbers .exit)

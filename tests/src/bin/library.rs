@@ -732,8 +732,8 @@ fn first_match_of_the_others(l: &mut Library) {
     }
 }
 
-// Client tables of numbers that are no records, under heads of many numbers of clients: none, as many as the numbers have room for
-// or one more, and those of which three times are the numbers but for a carry.
+// Client tables whose numbers are no whole records, under heads of no clients, of some, and of so many that three times as many are
+// the numbers but for a carry.
 fn odd_numbers(l: &mut Library) {
     for numbers in [1, 2, 4, 5] {
         let [carried, carried_32] = THIRDS.map(|third| third.wrapping_mul(numbers));

@@ -36,8 +36,8 @@ fn is_period_outside(_: &Queue, call: &Call) -> bool {
 }
 
 // "All calls: the waiting table has no records or more than 2,048, or the client table's length differs from the number of
-// clients (in open, the number given). All but open: the waiting count exceeds the waiting table's length." A client is three
-// numbers.
+// clients (in open, the number given). All but open: the waiting count exceeds the waiting table's length." A client's record
+// is three numbers.
 fn are_lengths_wrong(queue: &Queue, call: &Call) -> bool {
     let (clients, waiting) = match call {
         Call::Open { clients, .. } => (*clients, 0),

@@ -1,6 +1,6 @@
 -- `queue::put_in` meets its contract: a walk with a match, at most one call in each arm.
 -- Assumes nothing.
-use Rattle.walk.proofs.Prelude.{Name, Contract, Triple, Lfts, Shares, refl, ℕ, List, [], _∷_, URA, SProp, id⊢, Memory, Routine, Heap, Tables, Atoms, Fun, Given, Is, _$_, !, of-opd, first, tripleOf}
+use Rattle.walk.proofs.Prelude.{Name, Contract, Triple, Lfts, Shares, refl, ℕ, [], _∷_, URA, SProp, id⊢, Memory, Routine, Heap, Tables, Atoms, Fun, Given, Is, _$_, !, of-opd, first, tripleOf}
 use Rattle.walk.proofs.Prelude.{drop, number, lent, so, fit, Shape, Walk, proved, vars, field-var, sets, copies, taken, mut-own, relends, gives-within, made, of-nothing, calls-for, hands-on}
 use Rattle.walk.proofs.Enter.{Slice, Runs, ref}
 use Rattle.walk.proofs.Matches.{matches, payload-var}

@@ -1,10 +1,8 @@
 -- `columns::clients::more_served` meets its contract. Assumes nothing.
-use Prim.Native.Nat.{ℕ, suc}
+use Prim.Native.Nat.{ℕ}
 use borrow.Author.Needs.{needs}
-use lib.Dec.{ltb}
-use Rattle.columns.specs.Widths.{largest32}
 use Rattle.spec.specs.Tables.{recordOf}
-use Rattle.columns.proofs.Changed.{cond-record}
+use Rattle.columns.proofs.Changed.{next-record}
 use Rattle.columns.proofs.clients.more_served.Statement.{statement}
 use Rattle.columns.proofs.clients.more_served.Tie as tie
 
@@ -14,7 +12,7 @@ saturating-next-requires c κs = search needs
 returns : tie.Need-returns
 returns c =
     let k = c .before .args .k in
-    rw (c .saturating-next .ensures) (cond-record (λ (n : ℕ). recordOf (k .submitted) n (k .dropped)) (ltb (k .served) largest32) (suc (k .served)) (k .served))
+    rw (c .saturating-next .ensures) (next-record (λ (n : ℕ). recordOf (k .submitted) n (k .dropped)) (k .served))
 
 pub more-served-spec : {M : Type 1} → statement M
 more-served-spec = tie.close (tie.spec saturating-next-requires returns)

@@ -29,8 +29,8 @@ get-requires : tie.Need-get-requires Inv-loop μ-loop
 get-requires c κs =
     omega (arith, length-records (c .before .before .before .before .before .before .args .numbers .now) .0)
 
-restarted-requires : tie.Need-restarted-requires Inv-loop μ-loop
-restarted-requires c κs = search needs
+restarted-counts-requires : tie.Need-restarted-counts-requires Inv-loop μ-loop
+restarted-counts-requires c κs = search needs
 
 put-requires : tie.Need-put-requires Inv-loop μ-loop
 put-requires c κs =
@@ -55,7 +55,7 @@ loop-again c =
     let e : put .put .last .0 ≡ changedAt restartedCounts i xs =
     put .put .ensures
     ∙ changedAt-same _ restartedCounts i xs
-    (fresh .restarted .ensures ∙ ap restartedCounts (fresh .before .get .ensures)) in (
+    (fresh .restarted-counts .ensures ∙ ap restartedCounts (fresh .before .get .ensures)) in (
       ap length e ∙ length-changedAt restartedCounts i xs ∙ turn .loop .inv .0,
       ap (changedFrom restartedCounts (i + 1)) e ∙ changed-turn restartedCounts i xs ∙ turn .loop .inv .1,
     )
@@ -81,7 +81,7 @@ restart-spec =
     record-count-requires
     loop-holds
     get-requires
-    restarted-requires
+    restarted-counts-requires
     put-requires
     add-i
     loop-less
