@@ -5,6 +5,7 @@ use mathlib.Core.Path.{_≡_, refl, sym, ap, subst, _∙_}
 use mathlib.Core.Bool.{Bool, true, false, not, _&&_, _||_, and-eq-true-iff, and-false, and-assoc}
 use mathlib.Core.List.{List, [], _∷_}
 use mathlib.Core.Logic.{_≢_}
+use native.Mathlib.Nat.{add-zero}
 use native.Mathlib.Numerals.{add-one}
 use native.Mathlib.Omega.{arith}
 use borrow.Author.Tests.{leb-true, leb-false, ltb-true, eqb-true, le-leb, lt-leb, lt-ltb, le-ltb, ne-eqb}
@@ -18,7 +19,7 @@ use Rattle.spec.specs.declared.types.Head.{Head}
 use Rattle.spec.specs.declared.types.Request.{Request}
 use Rattle.spec.specs.declared.types.Counts.{Counts}
 use Rattle.spec.specs.Every.{isWithin, every, everyFrom}
-use Rattle.spec.specs.Tables.{mostClients, mostRecords, mostCounted, State, width}
+use Rattle.spec.specs.Tables.{mostClients, mostRecords, mostCounted, State, width, recordsOf}
 use Rattle.spec.specs.Order.{comesBefore}
 use Rattle.spec.specs.Chart.{roomTo}
 use Rattle.spec.specs.Sound.{waitingOf, isZeroRequest, isBalanced}
@@ -28,8 +29,9 @@ use Rattle.spec.proofs.Laws.Order.{Compared, compared, before as ordered, after
 use Rattle.spec.proofs.Laws.Room.{room-back}
 use Rattle.spec.proofs.Laws.Layout.{whole-records}
 use Rattle.spec.proofs.Laws.Sound.{within-test, Shaped}
+use Rattle.columns.proofs.Laws.{rest-none, records-rest}
 use Rattle.table.proofs.Laws.{not-not}
-use Rattle.sound.specs.Checks.{hasShape, isNext, doesBalance, tallySize, talliedOf, Tallied}
+use Rattle.sound.specs.Checks.{hasShape, isNext, doesBalance, balancesAt, areBalancedFrom, tallySize, talliedOf, Tallied}
 use Rattle.sound.proofs.Tally.{tally-zero}
 
 -- ---- a deadline that has room is past the clock
@@ -106,6 +108,49 @@ module _ {A : Type 0} (b : Bool) (x : A) (xs l : List A) (whole : Bool) (e : l �
   from-turn test i h =
       rw (add-one i)
       (verdict-turn b (test i x) (everyFrom test (suc i) xs) (everyFrom test i l) whole (ap (everyFrom test i) e) h)
+
+-- ---- the clients from one index to another: one more of them, those up to an index and those from it on, and four more
+module _ (tally numbers : List ℕ) where
+  pub one-more : (b whole : Bool) (n i j : ℕ) → width * n ≤ length numbers → i < n → j ≡ i + 1
+      → b && areBalancedFrom tally numbers i n ≡ whole
+      → (b && balancesAt tally numbers i) && areBalancedFrom tally numbers j n ≡ whole
+  one-more b whole n i j reach l e h =
+      rw e (from-turn b _ _ _ whole (records-rest numbers n i l reach) (λ c k. doesBalance k (talliedOf tally c)) i h)
+
+  pub clients-parts : (k i n : ℕ) → width * n ≤ length numbers → i + k ≤ n
+      → areBalancedFrom tally numbers i (i + k) && areBalancedFrom tally numbers (i + k) n ≡ areBalancedFrom tally numbers i n
+  unfolding everyFrom
+  clients-parts zero i n reach l = rw (add-zero i, rest-none (recordsOf numbers) i i (omega arith))
+  clients-parts (suc k) i n reach l =
+      let here = balancesAt tally numbers i in
+      let e : i + 1 + k ≡ i + suc k = omega arith in
+      ap (λ (x : Bool). x && areBalancedFrom tally numbers (i + suc k) n)
+      (sym (one-more true _ (i + suc k) i (i + 1) (omega arith) (omega arith) refl refl))
+      ∙ and-assoc here (areBalancedFrom tally numbers (i + 1) (i + suc k)) (areBalancedFrom tally numbers (i + suc k) n)
+      ∙ ap (λ (x : Bool). here && x)
+      (subst (λ (m : ℕ). areBalancedFrom tally numbers (i + 1) m && areBalancedFrom tally numbers m n ≡ areBalancedFrom tally numbers (i + 1) n)
+      e (clients-parts k (i + 1) n reach (omega arith)))
+      ∙ one-more true _ n i (i + 1) reach (omega arith) refl refl
+
+  abbrev pub doFourBalance : ℕ → Bool
+  doFourBalance c =
+      (balancesAt tally numbers c && balancesAt tally numbers (c + 1))
+      && (balancesAt tally numbers (c + 2) && balancesAt tally numbers (c + 3))
+
+  pub four-more : (b whole : Bool) (n i : ℕ) → width * n ≤ length numbers → i + 4 ≤ n
+      → b && areBalancedFrom tally numbers i n ≡ whole
+      → (b && doFourBalance i) && areBalancedFrom tally numbers (i + 4) n ≡ whole
+  four-more b whole n i reach l h =
+      let at : ℕ → Bool = balancesAt tally numbers in
+      let first = one-more b whole n i (i + 1) reach (omega arith) (omega arith) h in
+      let second = one-more (b && at i) whole n (i + 1) (i + 2) reach (omega arith) (omega arith) first in
+      let third = one-more ((b && at i) && at (i + 1)) whole n (i + 2) (i + 3) reach (omega arith) (omega arith) second in
+      ap (λ (x : Bool). x && areBalancedFrom tally numbers (i + 4) n) (grouped b (at i) (at (i + 1)) (at (i + 2)) (at (i + 3)))
+      ∙ one-more (((b && at i) && at (i + 1)) && at (i + 2)) whole n (i + 3) (i + 4) reach (omega arith) (omega arith) third
+    where
+      grouped : (b p q r s : Bool) → b && ((p && q) && (r && s)) ≡ (((b && p) && q) && r) && s
+      grouped true p q r s = sym (and-assoc (p && q) r s)
+      grouped false p q r s = refl
 
 -- ---- bits joined: none is set where both numbers are zero
 or-zero : (a b : ℕ) → eqb (bitOr a b) 0 ≡ eqb a 0 && eqb b 0

@@ -4,12 +4,12 @@ use mathlib.Core.Path.{_≡_}
 use mathlib.Core.Bool.{Bool, true, cond, _&&_}
 use mathlib.Core.List.{List, [], _∷_}
 use lib.Dec.{leb, ltb, eqb}
-use lib.ListN.{length, getD, set}
+use lib.ListN.{length, getD, set, take, drop}
 use Rattle.spec.specs.declared.types.Head.{Head}
 use Rattle.spec.specs.declared.types.Request.{Request}
 use Rattle.spec.specs.declared.types.Counts.{Counts}
-use Rattle.spec.specs.Every.{isWithin}
-use Rattle.spec.specs.Tables.{mostClients, mostRecords, mostAhead, mostCounted, clockEnd, zeroRequest, State, width}
+use Rattle.spec.specs.Every.{isWithin, everyFrom}
+use Rattle.spec.specs.Tables.{mostClients, mostRecords, mostAhead, mostCounted, clockEnd, zeroRequest, zeroCounts, State, width, recordsOf}
 use Rattle.spec.specs.Order.{comesBefore}
 use Rattle.spec.specs.Chart.{roomTo}
 use Rattle.spec.specs.Setup.{firstMatch}
@@ -104,6 +104,14 @@ areNext head i before (w ∷ ws) = isNext head i before w && areNext head (suc i
 -- a client's counts balance with so many waiting
 unfoldable pub doesBalance : Counts → ℕ → Bool
 doesBalance k waits = eqb (k .submitted) (k .served + k .dropped + waits) && leb (k .submitted) mostCounted
+
+-- whether a client's counts balance, and those of the clients from one index to another
+abbrev pub balancesAt : List ℕ → List ℕ → ℕ → Bool
+balancesAt tally numbers c = doesBalance (getD (recordsOf numbers) c zeroCounts) (talliedOf tally c)
+
+abbrev pub areBalancedFrom : List ℕ → List ℕ → ℕ → ℕ → Bool
+areBalancedFrom tally numbers from to =
+    everyFrom (λ c k. doesBalance k (talliedOf tally c)) from (drop from (take to (recordsOf numbers)))
 
 -- a count per client with these requests counted
 pub record Tallied (ws : List Request) (tally₀ tally : List ℕ) : Type 0 where

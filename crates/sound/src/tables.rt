@@ -3,7 +3,7 @@ use columns::clients;
 use spec::bounds::MOST_CLIENTS;
 use spec::types::Head;
 use spec::types::Request;
-ghost use Prim.Native.Nat.{_+_, _-_, _*_, _%_, _≤_};
+ghost use Prim.Native.Nat.{_+_, _-_, _*_, _%_, _≤_, _<_};
 ghost use mathlib.Core.Path.{_≡_};
 ghost use mathlib.Core.Bool.{true, _&&_};
 ghost use lib.ListN.{length, take, drop};
@@ -11,7 +11,7 @@ ghost use Rattle.spec.specs.Every.{every, everyFrom};
 ghost use Rattle.spec.specs.Tables.{mostClients, width, recordsOf};
 ghost use Rattle.spec.specs.Sound.{isZeroRequest};
 ghost use Rattle.sound.specs.Checks.{tallySize, talliedOf, doesBalance, Countable, Bounded, turn, turns, recordBefore};
-ghost use Rattle.sound.specs.Checks.{asked, Passed};
+ghost use Rattle.sound.specs.Checks.{asked, Passed, balancesAt, areBalancedFrom};
 
 // One turn of the pass over the records, told whether all before it passed: whether they and this one do, a record that may
 // stand at its index behind the one before it; if so it is counted. The tally has four parts, used by turns: adding to one place
@@ -163,25 +163,48 @@ pub(crate) fn are_zero(t: &[Request], from: usize) -> bool
     zero_rest(t, m, p)
 }
 
-// Whether the counts of the first n clients balance with the four parts of the tally.
+// Whether a client's counts balance with the four parts of the tally.
+fn balances_at(tally: &[u16], numbers: &[u32], i: usize) -> bool
+    requires { ⌜ (width * i + 2 < length (now numbers)) × (i < mostClients) × (length (now tally) ≡ tallySize) ⌝ }
+    ensures { λ r. ⌜ r ≡ balancesAt (now (tally .entry)) (now (numbers .entry)) i ⌝ }
+{
+    let k = clients::get(numbers, i);
+    crate::record::does_balance(
+        k,
+        tally[i],
+        tally[MOST_CLIENTS + i],
+        tally[2 * MOST_CLIENTS + i],
+        tally[3 * MOST_CLIENTS + i],
+    )
+}
+
+// Whether those of the clients from one index to another do, if all before do.
+fn balance_from(tally: &[u16], numbers: &[u32], from: usize, to: usize, ok: bool) -> bool
+    requires { ⌜ (width * to ≤ length (now numbers)) × (to ≤ mostClients) × (length (now tally) ≡ tallySize) ⌝ }
+    ensures { λ r. ⌜ r ≡ ok && areBalancedFrom (now (tally .entry)) (now (numbers .entry)) from to ⌝ }
+{
+    let mut balanced = ok;
+    let mut i = from;
+    while i < to {
+        balanced = balanced & balances_at(tally, numbers, i);
+        i += 1;
+    }
+    balanced
+}
+
+// Whether those of the first n clients do. The compiler has the loop look at eight clients in one go, and at the others one by one;
+// so where four or more are left of them, four are looked at in one go here.
 pub(crate) fn are_balanced(tally: &[u16], numbers: &[u32], n: usize) -> bool
     requires { ⌜ (width * n ≤ length (now numbers)) × (n ≤ mostClients) × (length (now tally) ≡ tallySize) ⌝ }
     ensures { λ r. ⌜ r ≡ everyFrom (λ c k. doesBalance k (talliedOf (now (tally .entry)) c)) 0
         (take n (recordsOf (now (numbers .entry)))) ⌝ }
 {
-    let mut balanced = true;
-    let mut i = 0;
-    while i < n {
-        let k = clients::get(numbers, i);
-        balanced = balanced
-            & crate::record::does_balance(
-                k,
-                tally[i],
-                tally[MOST_CLIENTS + i],
-                tally[2 * MOST_CLIENTS + i],
-                tally[3 * MOST_CLIENTS + i],
-            );
-        i += 1;
+    let m = n / 8 * 8;
+    let eights = balance_from(tally, numbers, 0, m, true);
+    if n - m < 4 {
+        return balance_from(tally, numbers, m, n, eights);
     }
-    balanced
+    let four = (balances_at(tally, numbers, m) & balances_at(tally, numbers, m + 1))
+        & (balances_at(tally, numbers, m + 2) & balances_at(tally, numbers, m + 3));
+    balance_from(tally, numbers, m + 4, n, eights & four)
 }
