@@ -2,7 +2,7 @@
 -- the count of the records, and the shape of the tables. Assumes nothing.
 use Prim.Native.Nat.{ℕ, zero, suc, _+_, _-_, _%_, _≤_, _<_, _*_}
 use mathlib.Core.Path.{_≡_, refl, sym, ap, subst, _∙_}
-use mathlib.Core.Bool.{Bool, true, false, not, _&&_, _||_, and-eq-true-iff, and-false, and-assoc}
+use mathlib.Core.Bool.{Bool, true, false, not, _&&_, _||_, and-eq-true-iff, and-true, and-false, and-assoc}
 use mathlib.Core.List.{List, [], _∷_}
 use mathlib.Core.Logic.{_≢_}
 use native.Mathlib.Nat.{add-zero}
@@ -96,6 +96,10 @@ verdict-turn b t rest left whole e h = and-assoc b t rest ∙ ap (λ (x : Bool).
 pub verdict-end : (b left whole : Bool) → (T b → left ≡ true) → b && left ≡ whole → b ≡ whole
 verdict-end true left whole e h = sym (e tt) ∙ h
 verdict-end false left whole e h = h
+
+-- where none is gone on with although b holds, none is left
+pub stops : (more b : Bool) → more && b ≡ false → T b → more ≡ false
+stops more true e h = sym (and-true more) ∙ e
 
 module _ {A : Type 0} (b : Bool) (x : A) (xs l : List A) (whole : Bool) (e : l ≡ x ∷ xs) where
   pub every-turn : (test : A → Bool) → b && every test l ≡ whole → (b && test x) && every test xs ≡ whole

@@ -5,14 +5,15 @@ use spec::types::Counts;
 use spec::types::Head;
 use spec::types::Request;
 use spec::types::Setup;
-ghost use Prim.Native.Nat.{_+_, _≤_};
+ghost use Prim.Native.Nat.{_+_, _*_, _≤_, _<_};
 ghost use mathlib.Core.Path.{_≡_};
 ghost use mathlib.Core.Bool.{_&&_};
-ghost use Rattle.spec.specs.Tables.{mostRecords, clockEnd};
+ghost use lib.ListN.{length};
+ghost use Rattle.spec.specs.Tables.{mostClients, mostRecords, clockEnd, width};
 ghost use Rattle.spec.specs.Setup.{firstMatch, setupRefusals};
 ghost use Rattle.spec.specs.Order.{comesBefore};
 ghost use Rattle.spec.specs.Sound.{isHeadWithin, isZeroRequest};
-ghost use Rattle.sound.specs.Checks.{hasShape, isNext, isNear, doesBalance};
+ghost use Rattle.sound.specs.Checks.{hasShape, isNext, isNear, doesBalance, balancesAt, tallySize};
 
 // How many values a count can have, 0 to its bound.
 const COUNTS: u32 = bounds::MOST_COUNTED + 1;
@@ -81,6 +82,21 @@ pub(crate) fn does_balance(k: Counts, a: u16, b: u16, c: u16, d: u16) -> bool
         & ((k.submitted <= bounds::MOST_COUNTED)
             & (k.served <= bounds::MOST_COUNTED)
             & (k.dropped <= bounds::MOST_COUNTED))
+}
+
+// Whether a client's counts balance with the four parts of the tally.
+pub(crate) fn balances_at(tally: &[u16], numbers: &[u32], i: usize) -> bool
+    requires { ⌜ (width * i + 2 < length (now numbers)) × (i < mostClients) × (length (now tally) ≡ tallySize) ⌝ }
+    ensures { λ r. ⌜ r ≡ balancesAt (now (tally .entry)) (now (numbers .entry)) i ⌝ }
+{
+    let k = clients::get(numbers, i);
+    does_balance(
+        k,
+        tally[i],
+        tally[bounds::MOST_CLIENTS + i],
+        tally[2 * bounds::MOST_CLIENTS + i],
+        tally[3 * bounds::MOST_CLIENTS + i],
+    )
 }
 
 // The number of the first refusal of a setup that matches, 0 where none does.

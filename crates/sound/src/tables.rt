@@ -1,9 +1,9 @@
 // The waiting records one after the other, then those behind them, then the clients: each record and each client is tested once.
-use columns::clients;
+use crate::record;
 use spec::bounds::MOST_CLIENTS;
 use spec::types::Head;
 use spec::types::Request;
-ghost use Prim.Native.Nat.{_+_, _-_, _*_, _%_, _≤_, _<_};
+ghost use Prim.Native.Nat.{_+_, _-_, _*_, _/_, _%_, _≤_};
 ghost use mathlib.Core.Path.{_≡_};
 ghost use mathlib.Core.Bool.{true, _&&_};
 ghost use lib.ListN.{length, take, drop};
@@ -11,7 +11,7 @@ ghost use Rattle.spec.specs.Every.{every, everyFrom};
 ghost use Rattle.spec.specs.Tables.{mostClients, width, recordsOf};
 ghost use Rattle.spec.specs.Sound.{isZeroRequest};
 ghost use Rattle.sound.specs.Checks.{tallySize, talliedOf, doesBalance, Countable, Bounded, turn, turns, recordBefore};
-ghost use Rattle.sound.specs.Checks.{asked, Passed, balancesAt, areBalancedFrom};
+ghost use Rattle.sound.specs.Checks.{asked, Passed, areBalancedFrom};
 
 // One turn of the pass over the records, told whether all before it passed: whether they and this one do, a record that may
 // stand at its index behind the one before it; if so it is counted. The tally has four parts, used by turns: adding to one place
@@ -30,7 +30,7 @@ pub(crate) fn step(
     if !ok {
         return false;
     }
-    if !crate::record::is_next(head, i as u64, before, w) {
+    if !record::is_next(head, i as u64, before, w) {
         return false;
     }
     let at = (i % 4) * MOST_CLIENTS + w.client as usize;
@@ -104,7 +104,7 @@ fn rest(t: &[Request], tally: &mut [u16], head: Head, from: usize, n: usize, ok:
         before = w;
         i += 1;
     }
-    let near = crate::record::is_near(head, before.deadline);
+    let near = record::is_near(head, before.deadline);
     passed & near
 }
 
@@ -131,7 +131,7 @@ fn zero_fours(t: &[Request], from: usize, to: usize) -> bool
         let b = table::get(t, i + 1);
         let c = table::get(t, i + 2);
         let d = table::get(t, i + 3);
-        zero = crate::record::are_zero_four(a, b, c, d);
+        zero = record::are_zero_four(a, b, c, d);
         i += 4;
     }
     zero
@@ -146,7 +146,7 @@ fn zero_rest(t: &[Request], from: usize, ok: bool) -> bool
     let mut i = from;
     while (i < n) & zero {
         let w = table::get(t, i);
-        zero = crate::record::is_zero(w);
+        zero = record::is_zero(w);
         i += 1;
     }
     zero
@@ -163,48 +163,45 @@ pub(crate) fn are_zero(t: &[Request], from: usize) -> bool
     zero_rest(t, m, p)
 }
 
-// Whether a client's counts balance with the four parts of the tally.
-fn balances_at(tally: &[u16], numbers: &[u32], i: usize) -> bool
-    requires { ⌜ (width * i + 2 < length (now numbers)) × (i < mostClients) × (length (now tally) ≡ tallySize) ⌝ }
-    ensures { λ r. ⌜ r ≡ balancesAt (now (tally .entry)) (now (numbers .entry)) i ⌝ }
+// Whether the counts of the first n clients, but for up to three left over, balance with the tally, four at a time; the first four
+// of which one's do not end the search.
+fn balance_fours(tally: &[u16], numbers: &[u32], n: usize) -> bool
+    requires { ⌜ (width * n ≤ length (now numbers)) × (n ≤ mostClients) × (length (now tally) ≡ tallySize) ⌝ }
+    ensures { λ r. ⌜ r ≡ areBalancedFrom (now (tally .entry)) (now (numbers .entry)) 0 (n / 4 * 4) ⌝ }
 {
-    let k = clients::get(numbers, i);
-    crate::record::does_balance(
-        k,
-        tally[i],
-        tally[MOST_CLIENTS + i],
-        tally[2 * MOST_CLIENTS + i],
-        tally[3 * MOST_CLIENTS + i],
-    )
+    let mut balanced = true;
+    let mut i = 0;
+    while (i + 4 <= n) & balanced {
+        balanced = (record::balances_at(tally, numbers, i)
+            & record::balances_at(tally, numbers, i + 1))
+            & (record::balances_at(tally, numbers, i + 2)
+                & record::balances_at(tally, numbers, i + 3));
+        i += 4;
+    }
+    balanced
 }
 
-// Whether those of the clients from one index to another do, if all before do.
-fn balance_from(tally: &[u16], numbers: &[u32], from: usize, to: usize, ok: bool) -> bool
+// Whether those of the clients from one index to another do, one at a time, if those before do; the first whose do not ends the
+// search.
+fn balance_rest(tally: &[u16], numbers: &[u32], from: usize, to: usize, ok: bool) -> bool
     requires { ⌜ (width * to ≤ length (now numbers)) × (to ≤ mostClients) × (length (now tally) ≡ tallySize) ⌝ }
     ensures { λ r. ⌜ r ≡ ok && areBalancedFrom (now (tally .entry)) (now (numbers .entry)) from to ⌝ }
 {
     let mut balanced = ok;
     let mut i = from;
-    while i < to {
-        balanced = balanced & balances_at(tally, numbers, i);
+    while (i < to) & balanced {
+        balanced = record::balances_at(tally, numbers, i);
         i += 1;
     }
     balanced
 }
 
-// Whether those of the first n clients do. The compiler has the loop look at eight clients in one go, and at the others one by one;
-// so where four or more are left of them, four are looked at in one go here.
+// Whether those of the first n clients do.
 pub(crate) fn are_balanced(tally: &[u16], numbers: &[u32], n: usize) -> bool
     requires { ⌜ (width * n ≤ length (now numbers)) × (n ≤ mostClients) × (length (now tally) ≡ tallySize) ⌝ }
     ensures { λ r. ⌜ r ≡ everyFrom (λ c k. doesBalance k (talliedOf (now (tally .entry)) c)) 0
         (take n (recordsOf (now (numbers .entry)))) ⌝ }
 {
-    let m = n / 8 * 8;
-    let eights = balance_from(tally, numbers, 0, m, true);
-    if n - m < 4 {
-        return balance_from(tally, numbers, m, n, eights);
-    }
-    let four = (balances_at(tally, numbers, m) & balances_at(tally, numbers, m + 1))
-        & (balances_at(tally, numbers, m + 2) & balances_at(tally, numbers, m + 3));
-    balance_from(tally, numbers, m + 4, n, eights & four)
+    let fours = balance_fours(tally, numbers, n);
+    balance_rest(tally, numbers, n / 4 * 4, n, fours)
 }

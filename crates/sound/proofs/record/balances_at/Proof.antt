@@ -1,11 +1,11 @@
--- `sound::tables::balances_at` meets its contract. Assumes nothing.
+-- `sound::record::balances_at` meets its contract. Assumes nothing.
 use mathlib.Core.Path.{ap, _∙_}
 use borrow.Author.Needs.{needs}
 use denote.Ref.{now}
 use Rattle.sound.specs.Checks.{doesBalance}
 use Rattle.sound.proofs.Tally.{four-parts}
-use Rattle.sound.proofs.tables.balances_at.Statement.{statement}
-use Rattle.sound.proofs.tables.balances_at.Tie as tie
+use Rattle.sound.proofs.record.balances_at.Statement.{statement}
+use Rattle.sound.proofs.record.balances_at.Tie as tie
 
 get-requires : tie.Need-get-requires
 get-requires c κs = search needs
