@@ -107,12 +107,13 @@ static void chart(void)
 
 int main(void)
 {
+    const welsbell_setup setup = {.clients = CLIENTS, .period = 100};
     if (welsbell_version() != WELSBELL_VERSION) {
         fprintf(stderr, "the archive has version %" PRIu64 ", the header %d\n", welsbell_version(), WELSBELL_VERSION);
         return 1;
     }
     printf("open with %d clients: ", CLIENTS);
-    say(welsbell_queue_open(&queue, CLIENTS, 100));
+    say(welsbell_queue_open(&queue, setup));
     submit(0, 1);
     submit(1, 2);
     submit(1, 1);

@@ -7,12 +7,15 @@
  *     static welsbell_request waiting[8];
  *     static welsbell_client clients[2];
  *     static welsbell_queue queue;
+ *     welsbell_setup setup;
  *
  *     queue.waiting = waiting;
  *     queue.waiting_length = 8;
  *     queue.clients = clients;
  *     queue.clients_length = 2;
- *     welsbell_answer answer = welsbell_queue_open(&queue, 2, 100);
+ *     setup.clients = 2;
+ *     setup.period = 100;
+ *     welsbell_answer answer = welsbell_queue_open(&queue, setup);
  *     if (answer.kind == WELSBELL_REFUSED)
  *         printf("refusal %d\n", (int)answer.is.refused.number);
  *
@@ -20,11 +23,11 @@
  *
  * Head and tables belong to the caller, who may read and write them between calls. Every call but open asks whether they are sound
  * before it does anything, and is refused where they are not. What the caller has to keep:
- *   - a pointer is good for as many records or numbers as its length says, one to a head or to values for one of these, and it is
- *     aligned for their type;
+ *   - a pointer is good for as many records or numbers as its length says, one to a head, a setup or values for one of these, and
+ *     it is aligned for their type;
  *   - a pointer that a call of the archive gets is not null, even where its length is 0: then any other aligned address does (a
  *     welsbell_queue may have null for a table: it is lent as one without records);
- *   - nothing that is lent to one call overlaps: head, tables, output and values;
+ *   - nothing that is lent to one call overlaps: head, tables, setup, output and values;
  *   - during a call nobody else writes what is lent to it, or reads what it may write.
  * Nothing else is asked: for all arguments and whatever the tables hold, a call ends and gives an answer.
  *
@@ -43,7 +46,7 @@ extern "C" {
 
 /* The version of this header. It rises with each change of a signature, a layout or a number, so a program asks first whether
    welsbell_version() gives the same: an archive of another version does not fit. */
-#define WELSBELL_VERSION 1
+#define WELSBELL_VERSION 2
 
 /* Clients are 1 to so many, numbered from 0. */
 #define WELSBELL_MOST_CLIENTS 256
@@ -58,10 +61,15 @@ extern "C" {
 /* Clock and request numbers end here. */
 #define WELSBELL_END UINT64_C(281474976710655)
 
-/* The head, 40 bytes: five numbers. Before an open it may hold anything. */
-typedef struct welsbell_head {
+/* What open sets, 16 bytes: its two numbers. */
+typedef struct welsbell_setup {
     uint64_t clients;
-    uint64_t period;  /* in slots */
+    uint64_t period; /* in slots */
+} welsbell_setup;
+
+/* The head, 40 bytes: its setup's numbers and three more. Before an open it may hold anything. */
+typedef struct welsbell_head {
+    welsbell_setup setup;
     uint64_t clock;
     uint64_t last;    /* the last request number given */
     uint64_t waiting; /* how many records wait */
@@ -153,6 +161,7 @@ enum {
 };
 
 /* Layouts as the archive has them: an array of a negative length is refused. */
+typedef char welsbell_setup_has_16_bytes[sizeof(welsbell_setup) == 16 ? 1 : -1];
 typedef char welsbell_head_has_40_bytes[sizeof(welsbell_head) == 40 ? 1 : -1];
 typedef char welsbell_request_has_24_bytes[sizeof(welsbell_request) == 24 ? 1 : -1];
 typedef char welsbell_client_has_12_bytes[sizeof(welsbell_client) == 12 ? 1 : -1];
@@ -176,12 +185,12 @@ typedef char welsbell_values_have_40_bytes[sizeof(welsbell_values) == 40 ? 1 : -
 /* The version of the archive. */
 uint64_t welsbell_version(void);
 
-/* Begins anew with so many clients and a period of so many slots, whatever head and tables held: clock, last number and waiting
-   count become 0, every record zero. Gives WELSBELL_OPENED, or refusal 2, 3 or 4. */
+/* Begins anew with this setup, whatever head and tables held: clock, last number and waiting count become 0, every record zero.
+   The setup is only read; a copy of the head's own does, its place in the head does not. Gives WELSBELL_OPENED, or refusal 2, 3 or 4. */
 uint64_t welsbell_open(welsbell_head *head,
                        welsbell_request *waiting, size_t waiting_length,
                        welsbell_client *clients, size_t client_numbers,
-                       uint64_t client_count, uint64_t period,
+                       const welsbell_setup *setup,
                        welsbell_values *values);
 
 /* A client submits a request, to be served in slot deadline - 1 at the latest. It gets the next number, and the client's submitted
@@ -244,10 +253,10 @@ typedef struct welsbell_answer {
     WELSBELL_LEND_TABLE(queue, welsbell_client, (queue)->clients, 3 * (queue)->clients_length)
 
 /* The five calls on a queue. */
-static inline welsbell_answer welsbell_queue_open(welsbell_queue *queue, uint64_t client_count, uint64_t period)
+static inline welsbell_answer welsbell_queue_open(welsbell_queue *queue, welsbell_setup setup)
 {
     welsbell_answer answer = WELSBELL_NO_ANSWER;
-    answer.kind = welsbell_open(WELSBELL_LEND(queue), client_count, period, &answer.is);
+    answer.kind = welsbell_open(WELSBELL_LEND(queue), &setup, &answer.is);
     return answer;
 }
 

@@ -49,18 +49,33 @@ static void lend(size_t records, size_t client_count)
     queue.clients_length = client_count;
 }
 
+static welsbell_setup setup_of(uint64_t client_count, uint64_t period)
+{
+    welsbell_setup setup;
+    setup.clients = client_count;
+    setup.period = period;
+    return setup;
+}
+
+static welsbell_answer open_with(uint64_t client_count, uint64_t period)
+{
+    return welsbell_queue_open(&queue, setup_of(client_count, period));
+}
+
 /* The same, opened with a period that no case reaches. */
 static void lend_opened(size_t records, size_t client_count)
 {
     lend(records, client_count);
-    HOLD(is_kind(welsbell_queue_open(&queue, client_count, 1000000), WELSBELL_OPENED));
+    HOLD(is_kind(open_with(client_count, 1000000), WELSBELL_OPENED));
 }
 
 static void layouts(void)
 {
+    HOLD(sizeof(welsbell_setup) == 16);
+    HOLD(offsetof(welsbell_setup, clients) == 0);
+    HOLD(offsetof(welsbell_setup, period) == 8);
     HOLD(sizeof(welsbell_head) == 40);
-    HOLD(offsetof(welsbell_head, clients) == 0);
-    HOLD(offsetof(welsbell_head, period) == 8);
+    HOLD(offsetof(welsbell_head, setup) == 0);
     HOLD(offsetof(welsbell_head, clock) == 16);
     HOLD(offsetof(welsbell_head, last) == 24);
     HOLD(offsetof(welsbell_head, waiting) == 32);
@@ -76,13 +91,13 @@ static void layouts(void)
 
     /* and as the archive writes them: all numbers differ */
     lend(8, 5);
-    HOLD(is_kind(welsbell_queue_open(&queue, 5, 100), WELSBELL_OPENED));
+    HOLD(is_kind(open_with(5, 100), WELSBELL_OPENED));
     for (int i = 0; i < 3; i++)
         HOLD(is_kind(welsbell_queue_tick(&queue), WELSBELL_IDLE));
     HOLD(is_kind(welsbell_queue_submit(&queue, 4, 50), WELSBELL_KEPT));
     HOLD(is_kind(welsbell_queue_submit(&queue, 3, 40), WELSBELL_KEPT));
-    HOLD(queue.head.clients == 5);
-    HOLD(queue.head.period == 100);
+    HOLD(queue.head.setup.clients == 5);
+    HOLD(queue.head.setup.period == 100);
     HOLD(queue.head.clock == 3);
     HOLD(queue.head.last == 2);
     HOLD(queue.head.waiting == 2);
@@ -103,7 +118,7 @@ static void answers(void)
 {
     uint64_t starts[3] = {9, 9, 9};
     lend(8, 2);
-    welsbell_answer a = welsbell_queue_open(&queue, 2, 100);
+    welsbell_answer a = open_with(2, 100);
     HOLD(a.kind == WELSBELL_OPENED);
     a = welsbell_queue_tick(&queue);
     HOLD(a.kind == WELSBELL_IDLE && a.is.idle.slot == 0);
@@ -145,9 +160,10 @@ static void values(void)
 {
     static const welsbell_values unwritten = {{7, 7, 7, 7, 7}};
     uint64_t output[1];
+    const welsbell_setup setup = setup_of(2, 100);
     welsbell_values v = unwritten;
     lend(8, 2);
-    HOLD(welsbell_open(&queue.head, waiting, 8, clients, 6, 2, 100, &v) == WELSBELL_OPENED);
+    HOLD(welsbell_open(&queue.head, waiting, 8, clients, 6, &setup, &v) == WELSBELL_OPENED);
     HOLD(wrote(&v, 0, 0, 0, 0));
     HOLD(welsbell_submit(&queue.head, waiting, 8, clients, 6, 1, 5, &v) == WELSBELL_KEPT);
     HOLD(wrote(&v, 2, 1, 0, 0));
@@ -168,26 +184,26 @@ static void values(void)
 static void bounds_of_open(void)
 {
     lend(1, WELSBELL_MOST_CLIENTS);
-    HOLD(is_kind(welsbell_queue_open(&queue, WELSBELL_MOST_CLIENTS, 1), WELSBELL_OPENED));
+    HOLD(is_kind(open_with(WELSBELL_MOST_CLIENTS, 1), WELSBELL_OPENED));
     lend(1, WELSBELL_MOST_CLIENTS + 1);
-    HOLD(refused(welsbell_queue_open(&queue, WELSBELL_MOST_CLIENTS + 1, 1), WELSBELL_REFUSED_CLIENTS));
+    HOLD(refused(open_with(WELSBELL_MOST_CLIENTS + 1, 1), WELSBELL_REFUSED_CLIENTS));
     lend(1, 1);
-    HOLD(is_kind(welsbell_queue_open(&queue, 1, 1), WELSBELL_OPENED));
+    HOLD(is_kind(open_with(1, 1), WELSBELL_OPENED));
     lend(1, 0);
-    HOLD(refused(welsbell_queue_open(&queue, 0, 1), WELSBELL_REFUSED_CLIENTS));
+    HOLD(refused(open_with(0, 1), WELSBELL_REFUSED_CLIENTS));
 
     lend(WELSBELL_MOST_RECORDS, 1);
-    HOLD(is_kind(welsbell_queue_open(&queue, 1, 1), WELSBELL_OPENED));
+    HOLD(is_kind(open_with(1, 1), WELSBELL_OPENED));
     lend(WELSBELL_MOST_RECORDS + 1, 1);
-    HOLD(refused(welsbell_queue_open(&queue, 1, 1), WELSBELL_REFUSED_LENGTHS));
+    HOLD(refused(open_with(1, 1), WELSBELL_REFUSED_LENGTHS));
     lend(0, 1);
-    HOLD(refused(welsbell_queue_open(&queue, 1, 1), WELSBELL_REFUSED_LENGTHS));
+    HOLD(refused(open_with(1, 1), WELSBELL_REFUSED_LENGTHS));
 
     lend(1, 1);
-    HOLD(is_kind(welsbell_queue_open(&queue, 1, WELSBELL_MOST_PERIOD), WELSBELL_OPENED));
-    HOLD(queue.head.period == WELSBELL_MOST_PERIOD);
-    HOLD(refused(welsbell_queue_open(&queue, 1, WELSBELL_MOST_PERIOD + 1), WELSBELL_REFUSED_PERIOD));
-    HOLD(refused(welsbell_queue_open(&queue, 1, 0), WELSBELL_REFUSED_PERIOD));
+    HOLD(is_kind(open_with(1, WELSBELL_MOST_PERIOD), WELSBELL_OPENED));
+    HOLD(queue.head.setup.period == WELSBELL_MOST_PERIOD);
+    HOLD(refused(open_with(1, WELSBELL_MOST_PERIOD + 1), WELSBELL_REFUSED_PERIOD));
+    HOLD(refused(open_with(1, 0), WELSBELL_REFUSED_PERIOD));
 }
 
 /* The bounds of what an open queue is asked and holds, each at itself and one past. */
@@ -244,10 +260,10 @@ static void refusals(void)
     lend_opened(4, 2);
     queue.clients_length = 1;
     all_but_open(WELSBELL_REFUSED_LENGTHS);
-    HOLD(refused(welsbell_queue_open(&queue, 2, 1), WELSBELL_REFUSED_LENGTHS));
+    HOLD(refused(open_with(2, 1), WELSBELL_REFUSED_LENGTHS));
     queue.clients_length = 3;
     all_but_open(WELSBELL_REFUSED_LENGTHS);
-    HOLD(refused(welsbell_queue_open(&queue, 2, 1), WELSBELL_REFUSED_LENGTHS));
+    HOLD(refused(open_with(2, 1), WELSBELL_REFUSED_LENGTHS));
     queue.clients_length = 2;
     queue.head.waiting = 5;
     all_but_open(WELSBELL_REFUSED_LENGTHS);
@@ -269,9 +285,10 @@ static void refusals(void)
 static void wrong_numbers(size_t numbers)
 {
     uint64_t starts[4];
+    const welsbell_setup setup = setup_of(2, 100);
     welsbell_answer a = welsbell_queue_report(&queue, 0);
     HOLD(!refused(a, WELSBELL_REFUSED_LENGTHS));
-    a.kind = welsbell_open(&queue.head, waiting, 4, clients, numbers, 2, 100, &a.is);
+    a.kind = welsbell_open(&queue.head, waiting, 4, clients, numbers, &setup, &a.is);
     HOLD(refused(a, WELSBELL_REFUSED_LENGTHS));
     a.is.refused.number = 0;
     a.kind = welsbell_submit(&queue.head, waiting, 4, clients, numbers, 0, 9, &a.is);
@@ -291,19 +308,20 @@ static void wrong_numbers(size_t numbers)
 static void numbers_of_clients(void)
 {
     const size_t most = 3 * WELSBELL_MOST_CLIENTS;
+    const welsbell_setup setup = setup_of(WELSBELL_MOST_CLIENTS, 100);
     welsbell_answer a = {0, {{0, 0, 0, 0, 0}}};
     lend_opened(4, 2);
     for (size_t numbers = 0; numbers <= 9; numbers++)
         if (numbers != 6)
             wrong_numbers(numbers);
-    queue.head.clients = 0;
+    queue.head.setup.clients = 0;
     queue.clients_length = 0;
     for (size_t numbers = 1; numbers <= 4; numbers++)
         wrong_numbers(numbers);
 
     lend(4, WELSBELL_MOST_CLIENTS);
     for (size_t numbers = most - 1; numbers <= most + 2; numbers++) {
-        a.kind = welsbell_open(&queue.head, waiting, 4, clients, numbers, WELSBELL_MOST_CLIENTS, 100, &a.is);
+        a.kind = welsbell_open(&queue.head, waiting, 4, clients, numbers, &setup, &a.is);
         HOLD(numbers == most ? is_kind(a, WELSBELL_OPENED) : refused(a, WELSBELL_REFUSED_LENGTHS));
     }
 }
@@ -315,14 +333,14 @@ static void null_tables(void)
     queue.waiting = NULL;
     queue.clients = NULL;
     all_but_open(WELSBELL_REFUSED_LENGTHS);
-    HOLD(refused(welsbell_queue_open(&queue, 1, 1), WELSBELL_REFUSED_LENGTHS));
+    HOLD(refused(open_with(1, 1), WELSBELL_REFUSED_LENGTHS));
     queue.waiting_length = 8;
     queue.clients_length = 1;
-    HOLD(refused(welsbell_queue_open(&queue, 1, 1), WELSBELL_REFUSED_LENGTHS));
+    HOLD(refused(open_with(1, 1), WELSBELL_REFUSED_LENGTHS));
     queue.waiting = waiting;
-    HOLD(refused(welsbell_queue_open(&queue, 1, 1), WELSBELL_REFUSED_LENGTHS));
+    HOLD(refused(open_with(1, 1), WELSBELL_REFUSED_LENGTHS));
     queue.clients = clients;
-    HOLD(is_kind(welsbell_queue_open(&queue, 1, 1), WELSBELL_OPENED));
+    HOLD(is_kind(open_with(1, 1), WELSBELL_OPENED));
     HOLD(is_kind(welsbell_queue_chart(&queue, NULL, 8), WELSBELL_CHARTED));
     HOLD(is_kind(welsbell_queue_submit(&queue, 0, 1), WELSBELL_KEPT));
     HOLD(refused(welsbell_queue_chart(&queue, NULL, 8), WELSBELL_REFUSED_OUTPUT));

@@ -1,7 +1,7 @@
 //! A station that embeds the queue, with tables of 8 waiting records and 2 clients. It makes the calls of document 01's session,
 //! goes on until nothing waits, and says each answer in words. examples/embed.c does the same.
 use std::process::exit;
-use welsbell::{version, Answer, Queue, Tables, VERSION};
+use welsbell::{version, Answer, Queue, Setup, Tables, VERSION};
 
 const RECORDS: usize = 8;
 const CLIENTS: usize = 2;
@@ -34,7 +34,11 @@ fn main() {
     }
     let mut tables = Tables::<RECORDS, CLIENTS>::new();
     let mut queue = tables.queue();
-    println!("open with {CLIENTS} clients: {}", queue.open(CLIENTS as u64, 100));
+    let setup = Setup {
+        clients: CLIENTS as u64,
+        period: 100,
+    };
+    println!("open with {CLIENTS} clients: {}", queue.open(setup));
     submit(&mut queue, 0, 1);
     submit(&mut queue, 1, 2);
     submit(&mut queue, 1, 1);

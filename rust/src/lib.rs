@@ -10,12 +10,12 @@
 //! overlaps and that nobody else uses it meanwhile; here Rust's borrows keep all of that.
 //!
 //! ```
-//! use welsbell::{Answer, Refusal, Tables};
+//! use welsbell::{Answer, Refusal, Setup, Tables};
 //!
 //! // 8 waiting records, 2 clients
 //! let mut tables = Tables::<8, 2>::new();
 //! let mut queue = tables.queue();
-//! assert_eq!(queue.open(2, 100), Answer::Opened);
+//! assert_eq!(queue.open(Setup { clients: 2, period: 100 }), Answer::Opened);
 //! // two reads that have to end with slot 0: one is too many
 //! assert_eq!(queue.submit(0, 1), Answer::Kept { number: 1, place: 0 });
 //! assert_eq!(queue.submit(1, 1), Answer::Dropped { number: 2, victim: 2, client: 1 });
@@ -35,7 +35,7 @@ use core::fmt::{self, Display, Formatter};
 use core::ptr::{from_mut, from_ref};
 
 /// The version that this crate is written for. An archive of another version does not fit: see [`version`].
-pub const VERSION: u64 = 1;
+pub const VERSION: u64 = 2;
 
 /// The version of the archive that was linked, to be compared with [`VERSION`] before the first call.
 pub fn version() -> u64 {
@@ -74,19 +74,30 @@ pub struct Client {
     pub dropped: u32,
 }
 
+/// What open sets.
+#[repr(C)]
+#[derive(Clone, Copy, Debug, Default, PartialEq, Eq)]
+pub struct Setup {
+    pub clients: u64,
+    /// In slots.
+    pub period: u64,
+}
+
 /// What is passed to each call and handed back; may hold anything before an open.
 #[repr(C)]
 #[derive(Clone, Copy, Debug, Default, PartialEq, Eq)]
 pub struct Head {
-    pub clients: u64,
-    /// In slots.
-    pub period: u64,
+    pub setup: Setup,
     pub clock: u64,
     /// The last request number given.
     pub last: u64,
     /// How many records wait.
     pub waiting: u64,
 }
+
+// All of these are laid out as in the archive.
+const _: () = assert!(size_of::<Setup>() == 16 && size_of::<Head>() == 40);
+const _: () = assert!(size_of::<Request>() == 24 && size_of::<Client>() == 12);
 
 /// Why a call was refused: the first reason that matches. Nothing has changed.
 #[derive(Clone, Copy, Debug, PartialEq, Eq)]
@@ -281,8 +292,10 @@ impl<const RECORDS: usize, const CLIENTS: usize> Tables<RECORDS, CLIENTS> {
     pub const fn new() -> Self {
         Tables {
             head: Head {
-                clients: 0,
-                period: 0,
+                setup: Setup {
+                    clients: 0,
+                    period: 0,
+                },
                 clock: 0,
                 last: 0,
                 waiting: 0,
@@ -335,9 +348,9 @@ pub struct Queue<'a> {
 macro_rules! lend {
     ($exported:ident, $queue:ident, $one:path, $pointer:ident $(, $argument:expr)*) => {{
         let mut values = [0; 5];
-        // SAFETY: the head is one head, and each other pointer is good for as much as the length behind it says, since they are
-        // slices: a client's record is three numbers and nothing else, so that so many records are three times as many numbers.
-        // All are borrowed until the call is over, those to be written through by nobody else.
+        // SAFETY: the head is one head and a setup one setup, and each other pointer is good for as much as the length behind it
+        // says, since they are slices: a client's record is three numbers and nothing else, so that so many records are three
+        // times as many numbers. All are borrowed until the call is over, those to be written through by nobody else.
         let kind = unsafe {
             raw::$exported(
                 $one($queue.head),
@@ -358,9 +371,9 @@ impl Queue<'_> {
     /// `Opened`.
     ///
     /// Refusals: `Clients`, `Period`, and `Lengths` where the waiting table has no records or more than 2,048, or the client table
-    /// has not as many records as clients are given.
-    pub fn open(&mut self, clients: u64, period: u64) -> Answer {
-        lend!(welsbell_open, self, from_mut, as_mut_ptr, clients, period)
+    /// has not as many records as the setup has clients.
+    pub fn open(&mut self, setup: Setup) -> Answer {
+        lend!(welsbell_open, self, from_mut, as_mut_ptr, &setup)
     }
 
     /// A client submits a request, which is to be served in a slot that ends by the deadline: slot `deadline - 1` at the latest.

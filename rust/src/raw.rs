@@ -1,13 +1,13 @@
-//! The exported calls as they are linked: a head and the values are a pointer each, a table is a pointer and then a length. The
-//! client table's length is in numbers, three a record. The result is the answer's kind; its values go to the front of the five,
-//! and those behind them stay. `include/welsbell.h` says the same in C.
+//! The exported calls as they are linked: a head, a setup and the values are a pointer each, a table is a pointer and then a
+//! length. The client table's length is in numbers, three a record. The result is the answer's kind; its values go to the front
+//! of the five, and those behind them stay. `include/welsbell.h` says the same in C.
 //!
 //! # Safety
 //!
 //! Each pointer to a table has to be aligned and good for as much as the length behind it says, and not null even where that
-//! is 0; a pointer to a head or to values has to be good for one. Nothing that is lent to a call may overlap, and nobody else
+//! is 0; a pointer to a head, a setup or values has to be good for one. Nothing that is lent to a call may overlap, and nobody else
 //! may write it, or use what is written, until the call is over.
-use crate::{Client, Head, Request};
+use crate::{Client, Head, Request, Setup};
 
 pub const OPENED: u64 = 0x81;
 pub const KEPT: u64 = 0x82;
@@ -20,9 +20,6 @@ pub const REFUSED: u64 = 0xFF;
 
 /// The values of an answer.
 pub type Values = [u64; 5];
-
-// A head and the records are laid out alike on both sides.
-const _: () = assert!(size_of::<Head>() == 40 && size_of::<Request>() == 24 && size_of::<Client>() == 12);
 
 extern "C" {
     /// The archive's version. It asks nothing of its caller.
@@ -46,7 +43,7 @@ macro_rules! exported {
     };
 }
 
-exported!(welsbell_open, mut, client_count: u64, period: u64);
+exported!(welsbell_open, mut, setup: *const Setup);
 exported!(welsbell_submit, mut, client: u64, deadline: u64);
 exported!(welsbell_tick, mut);
 exported!(welsbell_report, const, client: u64);

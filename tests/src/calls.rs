@@ -1,6 +1,6 @@
 // The exported calls over tables of a test program, and what they answered.
 pub use crate::tables::*;
-use welsbell::raw;
+use welsbell::{raw, Setup};
 
 // An answer's number and as many values as it has. One that document 01 does not know shows all five.
 pub fn answer(kind: u64, values: &Values) -> Vec<u64> {
@@ -35,7 +35,8 @@ macro_rules! lend {
 }
 
 pub fn open(t: &mut Tables, clients: u64, period: u64, values: &mut Values) -> u64 {
-    lend!(welsbell_open, t, values, clients, period)
+    let setup = Setup { clients, period };
+    lend!(welsbell_open, t, values, &setup)
 }
 
 pub fn submit(t: &mut Tables, client: u64, deadline: u64, values: &mut Values) -> u64 {

@@ -1,6 +1,6 @@
 //! The exported calls held to the model: after each call its answer, the head, every record of both tables and the output.
 use crate::calls;
-use crate::model::{Answer, Call, Counts, Fault, Head, Queue};
+use crate::model::{Answer, Call, Counts, Fault, Head, Queue, Setup};
 use crate::tables::{Client, Tables, Values, WIDTH};
 use crate::tally::Tally;
 use std::fmt::Debug;
@@ -18,8 +18,7 @@ pub fn queue_of(tables: &Tables) -> Queue {
     });
     Queue {
         head: Head {
-            clients,
-            period,
+            setup: Setup { clients, period },
             clock,
             last,
             waiting,
@@ -34,7 +33,7 @@ pub fn queue_of(tables: &Tables) -> Queue {
 // Writes what the model holds over the tables that it was taken from; numbers behind the last whole record stay.
 fn write(queue: &Queue, tables: &mut Tables) {
     let head = &queue.head;
-    tables.head = [head.clients, head.period, head.clock, head.last, head.waiting];
+    tables.head = [head.setup.clients, head.setup.period, head.clock, head.last, head.waiting];
     tables.waiting.copy_from_slice(&queue.records);
     for (client, counts) in tables.clients_mut().iter_mut().zip(&queue.clients) {
         *client = Client {

@@ -10,7 +10,7 @@ use lib.ListN.{length}
 use Rattle.spec.specs.declared.types.Frame.{Frame}
 use Rattle.spec.specs.declared.types.Frame.the-variants as frame
 use Rattle.spec.specs.Every.{every}
-use Rattle.spec.specs.Frames.{isDigit, fieldAt, isKind, frameWith, frameOf}
+use Rattle.spec.specs.Frames.{isDigit, fieldAt, isKind, openFrame, frameWith, frameOf}
 use Rattle.spec.proofs.Laws.Every.{is-true, is-false, value, and-right}
 use Rattle.frame.specs.declared.frames.Kind.{Kind}
 use Rattle.frame.specs.declared.frames.Kind.the-variants as kind
@@ -26,7 +26,7 @@ lengthOf kind.Chart n = 2
 lengthOf kind.Bad n = n
 
 abbrev pub frameAs : Kind → List ℕ → Frame
-frameAs kind.Open line = frame.Open (record { clients = fieldAt 1 2 line; period = fieldAt 3 4 line }) (fieldAt 7 2 line)
+frameAs kind.Open line = openFrame line
 frameAs kind.Submit line = frame.Submit (fieldAt 1 2 line) (fieldAt 3 8 line)
 frameAs kind.Tick line = frame.Tick
 frameAs kind.Report line = frame.Report (fieldAt 1 2 line)

@@ -12,7 +12,7 @@ use spec::bounds::MOST_RECORDS;
 use spec::types::Answer;
 use spec::types::Frame;
 use spec::types::Head;
-use spec::types::Setup;
+use spec::types::NO_SETUP;
 ghost use mathlib.Core.Bool.{true, false};
 ghost use mathlib.Core.List.{List, _++_};
 ghost use mathlib.Core.Path.{_≡_};
@@ -32,10 +32,7 @@ pub fn start() -> Session
 {
     Session {
         head: Head {
-            setup: Setup {
-                clients: 0,
-                period: 0,
-            },
+            setup: NO_SETUP,
             clock: 0,
             last: 0,
             waiting: 0,

@@ -10,6 +10,7 @@ use Rattle.spec.specs.declared.types.Answer.the-variants.{Opened, Kept, 
 use Rattle.spec.specs.declared.types.Frame.{Frame}
 use Rattle.spec.specs.declared.types.Frame.the-variants.{Open, Submit, Tick, Report, Chart, Bad}
 use Rattle.spec.specs.Every.{isWithin, every}
+use Rattle.spec.specs.Tables.{setupOf}
 use Rattle.spec.specs.Chart.{Segment}
 
 -- "then a line feed (byte 0A)"
@@ -49,11 +50,15 @@ digits (suc n) value = digits n (value / 16) ++ (characterOf (value % 16) ∷ []
 abbrev pub isKind : ℕ → ℕ → ℕ → ℕ → Bool
 isKind kind bytes k n = eqb k kind && eqb n (2 * bytes)
 
--- "Kinds in: 01 open, clients (2), period (4), waiting records (2); 02 submit, client (2), deadline (8); 03 tick; 04 report,
--- client (2); 05 chart." "an unknown kind, a wrong length": k is the kind byte, n the number of digits
+-- "01 open, clients (2), period (4), waiting records (2)"
+abbrev pub openFrame : List ℕ → Frame
+openFrame line = Open (setupOf (fieldAt 1 2 line ∷ fieldAt 3 4 line ∷ [])) (fieldAt 7 2 line)
+
+-- "Kinds in: 01 open ..; 02 submit, client (2), deadline (8); 03 tick; 04 report, client (2); 05 chart." "an unknown kind, a wrong
+-- length": k is the kind byte, n the number of digits
 unfoldable pub frameWith : ℕ → ℕ → List ℕ → Frame
 frameWith k n line =
-    cond (isKind 0x01 9 k n) (Open (record { clients = fieldAt 1 2 line; period = fieldAt 3 4 line }) (fieldAt 7 2 line))
+    cond (isKind 0x01 9 k n) (openFrame line)
     (cond (isKind 0x02 11 k n) (Submit (fieldAt 1 2 line) (fieldAt 3 8 line))
     (cond (isKind 0x03 1 k n) Tick
     (cond (isKind 0x04 3 k n) (Report (fieldAt 1 2 line))

@@ -2,7 +2,7 @@
 -- Assumes nothing.
 use Prim.Native.Nat.{ℕ, _-_}
 use mathlib.Core.List.{List, [], _∷_, _++_, map}
-use lib.ListN.{length, take, drop, replicate}
+use lib.ListN.{length, getD, take, drop, replicate}
 use Rattle.spec.specs.declared.types.Setup.{Setup}
 use Rattle.spec.specs.declared.types.Head.{Head}
 use Rattle.spec.specs.declared.types.Request.{Request}
@@ -35,9 +35,17 @@ mostPeriod = 4294967295
 abbrev pub mostAhead : ℕ
 mostAhead = 65535
 
+-- "Open takes clients and period": how many numbers a setup is, and the setup that numbers are, in this order; one that is not
+-- there is 0
+abbrev pub setupWidth : ℕ
+setupWidth = 2
+
+abbrev pub setupOf : List ℕ → Setup
+setupOf xs = record { clients = getD xs 0 0; period = getD xs 1 0 }
+
 -- records that are zero
 abbrev pub zeroSetup : Setup
-zeroSetup = record { clients = 0; period = 0 }
+zeroSetup = setupOf []
 
 abbrev pub zeroRequest : Request
 zeroRequest = record { deadline = 0; number = 0; client = 0 }

@@ -21,6 +21,12 @@ pub struct Setup {
     pub period: u64,
 }
 
+// The setup before the first open.
+pub const NO_SETUP: Setup = Setup {
+    clients: 0,
+    period: 0,
+};
+
 // "The head, passed and handed back: clients, period, clock, last request number, waiting count."
 pub struct Head {
     pub setup: Setup,

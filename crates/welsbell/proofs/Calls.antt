@@ -5,17 +5,25 @@
 --     WriteHead        the call that writes the head
 --     cites-numbers, cites-write-head      how the code of such a function comes to hold these calls
 -- Assumes nothing.
+use Prim.Native.Nat.{_+_}
 use prog.Routine.{Env}
 use Rattle.walk.proofs.Prelude.{_≡_, List, _∷_, URA, Name, Fn, SProp, Memory, Model, Routine, Heap, Atoms, Fun, GhostRules, Running, givenOf, Given, u64, Array, RattleType, Clauses, tripleOf, Contract, Triple}
 use Rattle.walk.proofs.Enter.{Kind, Lies, endedOf}
 use Rattle.walk.proofs.Prelude.{Shape}
+use Rattle.spec.specs.Tables.{setupWidth}
 use Rattle.welsbell.proofs.numbers.head_of as head-of
 use Rattle.welsbell.proofs.numbers.write_head as write-head
 use Rattle.welsbell.proofs.numbers.write_values as write-values
 
--- an array of five numbers
-abbrev pub five : RattleType
-five = Array u64 5
+-- the arrays that are lent: a setup's numbers, a head's and an answer's
+abbrev pub setup-numbers : RattleType
+setup-numbers = Array u64 setupWidth
+
+abbrev pub head-numbers : RattleType
+head-numbers = Array u64 (setupWidth + 3)
+
+abbrev pub value-numbers : RattleType
+value-numbers = Array u64 5
 
 module _ {M : Type 1} {𝓤 : URA M} {H : Heap 𝓤} {A : Atoms 𝓤} (W : Given 𝓤 H A) (mem : Memory → SProp 𝓤) (run : Routine → Fun 𝓤) where
   abbrev HeadOf : Name × Contract 𝓤

@@ -1,32 +1,27 @@
 -- Head and answer as numbers in lent arrays: what an exported call reads, and what it hands back and leaves. Assumes nothing.
-use Prim.Native.Nat.{ℕ}
+use Prim.Native.Nat.{ℕ, _+_}
 use mathlib.Core.Path.{_≡_}
 use mathlib.Core.List.{List, _++_, map}
 use lib.ListN.{length, getD, drop}
-use Rattle.spec.specs.declared.types.Setup.{Setup}
 use Rattle.spec.specs.declared.types.Head.{Head}
 use Rattle.spec.specs.declared.types.Answer.{Answer}
-use Rattle.spec.specs.Tables.{State}
+use Rattle.spec.specs.Tables.{setupWidth, setupOf, State}
 use Rattle.spec.specs.Lists.{Call, outcomeOf}
 use Rattle.spec.specs.Frames.{kindOf, valuesOf}
 
 -- the version that archive and header share: it rises with each change of a signature, a layout or a number of theirs
 abbrev pub version : ℕ
-version = 1
+version = 2
 
--- "Open takes clients and period": the setup that the two numbers are
-abbrev pub setupOf : ℕ → ℕ → Setup
-setupOf clients period = record { clients = clients; period = period }
-
--- "The head, passed and handed back: clients, period, clock, last request number, waiting count.": the head whose five numbers
--- an array holds
-unfoldable pub headOf : List ℕ → Head
+-- "The head, passed and handed back: clients, period, clock, last request number, waiting count.": the head whose numbers an
+-- array holds, its setup's first
+abbrev pub headOf : List ℕ → Head
 headOf xs =
     record {
-      setup = setupOf (getD xs 0 0) (getD xs 1 0);
-      clock = getD xs 2 0;
-      last = getD xs 3 0;
-      waiting = getD xs 4 0;
+      setup = setupOf xs;
+      clock = getD xs setupWidth 0;
+      last = getD xs (setupWidth + 1) 0;
+      waiting = getD xs (setupWidth + 2) 0;
     }
 
 -- an answer's values, in the paper's order

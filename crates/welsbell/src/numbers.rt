@@ -1,4 +1,4 @@
-// Head and answer as numbers in lent arrays of five.
+// Setup, head and answer as numbers in lent arrays.
 use decide::types::Reply;
 use spec::types::Answer;
 use spec::types::Head;
@@ -7,29 +7,43 @@ ghost use Prim.Native.Nat.{_≤_};
 ghost use mathlib.Core.Path.{_≡_};
 ghost use lib.ListN.{take};
 ghost use Rattle.spec.specs.Frames.{kindOf};
-ghost use Rattle.welsbell.specs.Numbers.{setupOf, headOf, valueNumbers, written};
+ghost use Rattle.spec.specs.Tables.{setupOf};
+ghost use Rattle.welsbell.specs.Numbers.{headOf, valueNumbers, written};
 
-// The setup that open takes as two numbers.
-pub(crate) fn setup_of(clients: u64, period: u64) -> Setup
-    ensures { λ r. ⌜ r ≡ setupOf clients period ⌝ }
-{
-    Setup { clients, period }
-}
+// How many numbers there are: a setup's, a head's, which are its setup's and three more, and an answer's at most.
+pub(crate) const SETUP: usize = 2;
 
-// The head whose five numbers these are.
-pub(crate) fn head_of(numbers: &[u64; 5]) -> Head
-    ensures { λ r. ⌜ r ≡ headOf (now (numbers .entry)) ⌝ }
+pub(crate) const HEAD: usize = SETUP + 3;
+
+pub(crate) const VALUES: usize = 5;
+
+// The setup whose numbers these are.
+pub(crate) fn setup_of(setup: &[u64; SETUP]) -> Setup
+    ensures { λ r. ⌜ r ≡ setupOf (now (setup .entry)) ⌝ }
 {
-    Head {
-        setup: setup_of(numbers[0], numbers[1]),
-        clock: numbers[2],
-        last: numbers[3],
-        waiting: numbers[4],
+    Setup {
+        clients: setup[0],
+        period: setup[1],
     }
 }
 
-// The head's five numbers are written.
-pub(crate) fn write_head(numbers: &mut [u64; 5], reply: Reply)
+// The head whose numbers these are.
+pub(crate) fn head_of(numbers: &[u64; HEAD]) -> Head
+    ensures { λ r. ⌜ r ≡ headOf (now (numbers .entry)) ⌝ }
+{
+    Head {
+        setup: Setup {
+            clients: numbers[0],
+            period: numbers[1],
+        },
+        clock: numbers[SETUP],
+        last: numbers[SETUP + 1],
+        waiting: numbers[SETUP + 2],
+    }
+}
+
+// The head's numbers are written.
+pub(crate) fn write_head(numbers: &mut [u64; HEAD], reply: Reply)
     ensures { λ _. ⌜ headOf (now (numbers .exit)) ≡ reply .head ⌝ }
 {
     let head = reply.head;
@@ -45,12 +59,12 @@ pub(crate) fn write_head(numbers: &mut [u64; 5], reply: Reply)
 // An answer as numbers: its kind, and its values, which are the first `count` of `numbers`.
 struct Line {
     kind: u64,
-    numbers: [u64; 5],
+    numbers: [u64; VALUES],
     count: usize,
 }
 
 impl Line {
-    fn new(kind: u64, numbers: [u64; 5], count: usize) -> Self
+    fn new(kind: u64, numbers: [u64; VALUES], count: usize) -> Self
         ensures { λ r. ⌜ r ≡ record { kind = kind; numbers = numbers; count = count } ⌝ }
     {
         Self {
@@ -66,7 +80,7 @@ fn line_of(answer: Answer) -> Line
     ensures { λ r. ⌜ (r .kind ≡ kindOf answer) × (take (r .count) (r .numbers) ≡ valueNumbers answer) × (r .count ≤ 5) ⌝ }
 {
     match answer {
-        Answer::Opened => Line::new(0x81, [0; 5], 0),
+        Answer::Opened => Line::new(0x81, [0; VALUES], 0),
         Answer::Kept { number, place } => Line::new(0x82, [number, place, 0, 0, 0], 2),
         Answer::Dropped {
             number,
@@ -92,7 +106,7 @@ fn line_of(answer: Answer) -> Line
 }
 
 // The first of the numbers, so many, over the front of the others.
-fn over(others: [u64; 5], numbers: [u64; 5], count: usize) -> [u64; 5]
+fn over(others: [u64; VALUES], numbers: [u64; VALUES], count: usize) -> [u64; VALUES]
     requires { ⌜ count ≤ 5 ⌝ }
     ensures { λ r. ⌜ r ≡ written (take count numbers) others ⌝ }
 {
@@ -106,7 +120,7 @@ fn over(others: [u64; 5], numbers: [u64; 5], count: usize) -> [u64; 5]
 }
 
 // The answer's values are written, and its kind handed back.
-pub(crate) fn write_values(values: &mut [u64; 5], reply: Reply) -> u64
+pub(crate) fn write_values(values: &mut [u64; VALUES], reply: Reply) -> u64
     ensures { λ r. ⌜ (r ≡ kindOf (reply .answer))
         × (now (values .exit) ≡ written (valueNumbers (reply .answer)) (now (values .entry))) ⌝ }
 {

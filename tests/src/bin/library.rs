@@ -5,7 +5,7 @@ use std::process::exit;
 use std::thread;
 use tests::calls::*;
 use tests::damages::THIRDS;
-use welsbell::{Answer, Refusal};
+use welsbell::{Answer, Refusal, Setup};
 
 // A waiting record: deadline, number, client.
 type Row = (u64, u64, u64);
@@ -772,13 +772,17 @@ fn little_stack(l: &mut Library) {
 // Tables that the wrapper owns, opened, and a call on them that is refused.
 type Refused = fn(&mut welsbell::Tables<2, 2>) -> Answer;
 
+fn opened_with(t: &mut welsbell::Tables<2, 2>, clients: u64, period: u64) -> Answer {
+    t.queue().open(Setup { clients, period })
+}
+
 // Each refusal of the wrapper with its number in document 01 and a call that gives it.
 const REFUSALS: [(Refusal, u64, Refused); 11] = [
-    (Refusal::Clients, 2, |t| t.queue().open(0, 1)),
-    (Refusal::Period, 3, |t| t.queue().open(2, 0)),
-    (Refusal::Lengths, 4, |t| t.queue().open(1, 1)),
+    (Refusal::Clients, 2, |t| opened_with(t, 0, 1)),
+    (Refusal::Period, 3, |t| opened_with(t, 2, 0)),
+    (Refusal::Lengths, 4, |t| opened_with(t, 1, 1)),
     (Refusal::Unsound, 5, |t| {
-        t.head.period = 0;
+        t.head.setup.period = 0;
         t.queue().tick()
     }),
     (Refusal::Client, 6, |t| t.queue().report(2)),
@@ -812,7 +816,7 @@ fn wrapper(l: &mut Library) {
     for (refusal, number, call) in REFUSALS {
         l.call = format!("{refusal:?}");
         let mut tables = welsbell::Tables::new();
-        l.same("open", &[Answer::Opened], &[tables.queue().open(2, 100)]);
+        l.same("open", &[Answer::Opened], &[opened_with(&mut tables, 2, 100)]);
         let answer = call(&mut tables);
         l.same("answer", &[Answer::Refused(refusal)], &[answer]);
         l.same("number", &[number], &[refusal.number()]);

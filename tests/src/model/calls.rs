@@ -1,7 +1,7 @@
 //! "Calls".
 use super::chart::{can_all_finish, starts, victim};
 use super::refusals::refusal;
-use super::tables::{stands_before, Counts, Head, Queue, Request};
+use super::tables::{stands_before, Counts, Head, Queue, Request, Setup};
 use super::Fault;
 
 #[derive(Clone, Copy, Debug)]
@@ -50,8 +50,7 @@ impl Queue {
     // "Open takes clients and period, sets clock, last number and waiting count to 0 and every record to zero."
     fn open(&mut self, clients: u64, period: u64) -> Answer {
         self.head = Head {
-            clients,
-            period,
+            setup: Setup { clients, period },
             clock: 0,
             last: 0,
             waiting: 0,
@@ -118,7 +117,7 @@ impl Queue {
         };
         self.hold(&requests);
         self.head.clock += 1;
-        if self.head.clock.is_multiple_of(self.head.period) {
+        if self.head.clock.is_multiple_of(self.head.setup.period) {
             self.start_period();
         }
         answer

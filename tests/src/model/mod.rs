@@ -10,7 +10,7 @@ pub mod sound;
 pub mod tables;
 
 pub use calls::{Answer, Call, KINDS, REFUSED};
-pub use tables::{Counts, Head, Queue};
+pub use tables::{Counts, Head, Queue, Setup};
 
 // A fault that the model can be made to have, to show that a comparison with it finds faults.
 #[derive(Clone, Copy, Debug, Default, PartialEq, Eq)]

@@ -41,7 +41,7 @@ fn is_period_outside(_: &Queue, call: &Call) -> bool {
 fn are_lengths_wrong(queue: &Queue, call: &Call) -> bool {
     let (clients, waiting) = match call {
         Call::Open { clients, .. } => (*clients, 0),
-        _ => (queue.head.clients, queue.head.waiting),
+        _ => (queue.head.setup.clients, queue.head.waiting),
     };
     let records = queue.records.len();
     !RECORDS.contains(&records) || queue.client_numbers() != 3 * u128::from(clients) || waiting > records as u64
@@ -54,7 +54,7 @@ fn are_tables_unsound(queue: &Queue, call: &Call) -> bool {
 
 // "Submit and report: the client does not exist."
 fn is_no_client(queue: &Queue, call: &Call) -> bool {
-    matches!(call, Call::Submit { client, .. } | Call::Report { client } if *client >= queue.head.clients)
+    matches!(call, Call::Submit { client, .. } | Call::Report { client } if *client >= queue.head.setup.clients)
 }
 
 // "Submit: the deadline is not after the clock, or more than 65,535 after it, all slots counted."

@@ -6,8 +6,8 @@ pub type Clause = (&'static str, fn(&Queue) -> bool);
 
 pub const CLAUSES: [Clause; 12] = [
     // "the head is within these bounds and those of every value document 02 adds to it": nothing is added yet
-    ("clients in bounds", |queue| CLIENTS.contains(&queue.head.clients)),
-    ("period in bounds", |queue| PERIODS.contains(&queue.head.period)),
+    ("clients in bounds", |queue| CLIENTS.contains(&queue.head.setup.clients)),
+    ("period in bounds", |queue| PERIODS.contains(&queue.head.setup.period)),
     ("clock in bounds", |queue| TO_THE_END.contains(&queue.head.clock)),
     ("last number in bounds", |queue| TO_THE_END.contains(&queue.head.last)),
     ("chart order", is_in_chart_order),
@@ -43,7 +43,7 @@ fn are_numbers_given(queue: &Queue) -> bool {
 
 // "each client exists"
 fn do_clients_exist(queue: &Queue) -> bool {
-    queue.waiting().iter().all(|request| request.client < queue.head.clients)
+    queue.waiting().iter().all(|request| request.client < queue.head.setup.clients)
 }
 
 // "for each deadline D in the table, the records with deadline at most D number at most D minus the clock"

@@ -3,7 +3,7 @@ use super::Fault;
 use std::ops::RangeInclusive;
 // "A record has a deadline, a request number and a client." "The head, passed and handed back: clients, period, clock, last
 // request number, waiting count." The same as they are lent.
-pub use welsbell::{Head, Request};
+pub use welsbell::{Head, Request, Setup};
 
 // "Clients: 1 to 256, numbered from 0."
 pub const CLIENTS: RangeInclusive<u64> = 1..=256;

@@ -16,7 +16,7 @@ use Rattle.session.specs.Answers.{outcomeFor, startsFor}
 use Rattle.spec.specs.Lists.{opening as opening-call, submit as submit-call, tick as tick-call, report as report-call, chart as chart-call, outcomeOf}
 use Rattle.session.proofs.Answering.{answers, answers-bad}
 use Rattle.spec.specs.declared.types.Head.{Head}
-use Rattle.table.proofs.Heads.{HeadT, head-vals, a-head, a-setup, setup-fits}
+use Rattle.table.proofs.Heads.{HeadT, head-vals, a-head, a-setup}
 use Rattle.queue.proofs.Values.{ReplyT, a-reply}
 use Rattle.session.proofs.Values.{a-frame}
 use Rattle.queue.proofs.open as open-call
@@ -86,9 +86,8 @@ module _ {M : Type 1} (𝓤 : URA M) (H : Heap 𝓤) (A : Atoms 𝓤) (W : Given
     unfolding outcomeFor outcomeOf startsFor
     opens known setup records is g Q leaves bs =
         let owed = LE.owed TF.the-type TF′.the-laws (Open setup records) _ is in
-        let fits = setup-fits setup (owed .0) in
         let ns : List (Param 𝓤 H A) = given W a-setup setup (owed .0) ∷ [] in
-        drop ! $ first ! $ matches ! refl refl refl tt $ sets ! (of-opd ! (payload-var ! refl refl refl refl)) refl (tt, (fit (fits .0), (fit (fits .1), tt))) $ relends ! waiting refl $ relends ! clients refl $
+        drop ! $ first ! $ matches ! refl refl refl tt $ sets ! (of-opd ! (payload-var ! refl refl refl refl)) refl (a-setup .lawful 𝓤 H A W .typed setup _ (owed .0) .0) $ relends ! waiting refl $ relends ! clients refl $
         hands-on ! 𝓣 (0 ∷ 1 ∷ []) (lent-with ns) a-reply (λ c. known) (λ c h. h) (id⊢ 𝓤 _) refl (λ c. vars ! (refl, (refl, (refl, (refl, tt))))) (λ _. refl) Q refl (λ r last. (refl, refl)) (λ r last told kept own.
         leaves (a-reply .val r) r (lasts ns last) (longs (Open setup records) ns last kept) own (so 𝓤 (answers (Open setup records) (opening-call setup) refl told refl)))
 

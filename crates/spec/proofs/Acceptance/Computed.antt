@@ -1,8 +1,9 @@
 -- The definitions to be computed, chapter by chapter: `unfolding calls` opens all that the calls need. And setups. Assumes nothing.
 use Prim.Native.Nat.{ℕ}
+use mathlib.Core.List.{[], _∷_}
 use Rattle.spec.specs.declared.types.Setup.{Setup}
 use Rattle.spec.specs.Every.{every, everyFrom, countIf, mapFrom}
-use Rattle.spec.specs.Tables.{recordsOf, numbersOf, nextState}
+use Rattle.spec.specs.Tables.{setupOf, recordsOf, numbersOf, nextState}
 use Rattle.spec.specs.Order.{comesBefore, isInOrder, placeOf, putInOrder, removeAt}
 use Rattle.spec.specs.Chart.{room, startsOf, segmentsOf, dueBy, isOverfull, hasNoOverfull}
 use Rattle.spec.specs.Victim.{isCandidate, candidatesFrom, hasSmallerRatio, smallestOf, victimOf}
@@ -14,7 +15,7 @@ use Rattle.spec.specs.Calls.{tickOf, reportAccepted, reportOf, chartAcce
 
 -- what open sets: clients and period
 abbrev pub setting : ℕ → ℕ → Setup
-setting clients period = record { clients = clients; period = period }
+setting clients period = setupOf (clients ∷ period ∷ [])
 
 unfoldable pub charts : Unit {0}
 unfolding room every countIf startsOf segmentsOf dueBy isOverfull hasNoOverfull

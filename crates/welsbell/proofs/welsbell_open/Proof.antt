@@ -1,14 +1,14 @@
 -- `welsbell::welsbell_open` meets its contract: a walk of five calls.
 -- Assumes nothing.
 use Rattle.walk.proofs.Prelude.{refl, [], _∷_, URA, w64, vint, SProp, Memory, Routine, Heap, Tables, Atoms, Fun, Given, _$_, !, u32, tripleOf, id⊢}
-use Rattle.walk.proofs.Prelude.{drop, number, so, vars, relends, gives, made, of-number, of-nothing, calls-for, given, mut-own}
+use Rattle.walk.proofs.Prelude.{drop, so, vars, relends, gives, made, of-number, of-nothing, calls-for, given, mut-own}
 use Rattle.queue.proofs.Values.{a-reply}
 use Rattle.spec.specs.Lists as lists
-use Rattle.welsbell.specs.Numbers.{setupOf}
+use Rattle.spec.specs.Tables.{setupOf}
 use Rattle.table.proofs.Rows.{R}
 use Rattle.table.proofs.Heads.{the-head, a-head, a-setup}
-use Rattle.walk.proofs.Prelude.{taken, lent, lent-one, Shape, Walk, proved, mut-one, shr-one, relends-one}
-use Rattle.welsbell.proofs.Calls.{five, Exports, WriteHead, cites-numbers, cites-write-head}
+use Rattle.walk.proofs.Prelude.{lent, lent-one, shown-one, Shape, Walk, proved, mut-one, shr-one, passed-on-one, relends-one}
+use Rattle.welsbell.proofs.Calls.{setup-numbers, head-numbers, value-numbers, Exports, WriteHead, cites-numbers, cites-write-head}
 use Rattle.welsbell.proofs.Exporting.{exports-given}
 use Rattle.queue.proofs.open as library
 use Rattle.welsbell.proofs.numbers.setup_of as setup-of
@@ -17,28 +17,28 @@ use Rattle.welsbell.proofs.welsbell_open as f
 module _ {M : Type 1} (𝓤 : URA M) (H : Heap 𝓤) (A : Atoms 𝓤) (W : Given 𝓤 H A) (mem : Memory → SProp 𝓤) (run : Routine → Fun 𝓤) where
   abbrev shape : Shape W
   shape =
-      Exports W mem run (lent-one five ∷ lent R ∷ lent u32 ∷ taken (of-number w64) ∷ taken (of-number w64) ∷ lent-one five ∷ []) (f.clauses 𝓤 H A mem run) f.Code.function (λ κs a. refl)
+      Exports W mem run (lent-one head-numbers ∷ lent R ∷ lent u32 ∷ shown-one setup-numbers ∷ lent-one value-numbers ∷ []) (f.clauses 𝓤 H A mem run) f.Code.function (λ κs a. refl)
       ((setup-of.Symbol.name, tripleOf 𝓤 H A setup-of.signature (setup-of.spec 𝓤 H A mem run)) ∷ (library.Symbol.name, tripleOf 𝓤 H A library.signature (library.spec 𝓤 H A mem run)) ∷ WriteHead W mem run ∷ [])
 
   walk : (𝓣 : Tables 𝓤 H) → Walk shape 𝓣
-  walk 𝓣 known-head-of known-write-values known-setup-of known-open known-write-head κs qs head waiting clients count count-is period period-is values g Q leaves bs =
+  walk 𝓣 known-head-of known-write-values known-setup-of known-open known-write-head κs qs head waiting clients setup values g Q leaves bs =
       drop ! $
       relends-one ! head refl $
       -- let h = numbers::head_of(head);
       calls-for ! 𝓣 (0 ∷ []) (shr-one W head ∷ []) a-head (λ c. known-head-of) (λ c h. h) (id⊢ 𝓤 _) refl (λ c. vars ! (refl, tt)) (λ _. refl) (λ h last₁ is-head kept₁ h-is.
-      -- let setup = numbers::setup_of(client_count, period);
-      calls-for ! 𝓣 [] (number W count (count-is .1) ∷ number W period (period-is .1) ∷ []) a-setup (λ c. known-setup-of) (λ c h. h) (id⊢ 𝓤 _) refl (λ c. vars ! (refl, (refl, tt))) (λ _. refl) (λ setup last₂ is-setup kept₂ setup-is.
+      -- let s = numbers::setup_of(setup);
+      calls-for ! 𝓣 (3 ∷ []) (passed-on-one W setup ∷ []) a-setup (λ c. known-setup-of) (λ c h. h) (id⊢ 𝓤 _) refl (λ c. vars ! (refl, tt)) (λ _. refl) (λ s last₂ is-setup kept₂ s-is.
       relends ! waiting refl $ relends ! clients refl $
-      -- let reply = queue::open(h, waiting, clients, setup);
-      calls-for ! 𝓣 (1 ∷ 2 ∷ []) (the-head W h h-is ∷ mut-own W waiting ∷ mut-own W clients ∷ given W a-setup setup setup-is ∷ []) a-reply (λ c. known-open) (λ c h. h) (id⊢ 𝓤 _) refl (λ c. vars ! (refl, (refl, (refl, (refl, tt))))) (λ _. refl) (λ reply last₃ gave kept₃ reply-is.
+      -- let reply = queue::open(h, waiting, clients, s);
+      calls-for ! 𝓣 (1 ∷ 2 ∷ []) (the-head W h h-is ∷ mut-own W waiting ∷ mut-own W clients ∷ given W a-setup s s-is ∷ []) a-reply (λ c. known-open) (λ c h. h) (id⊢ 𝓤 _) refl (λ c. vars ! (refl, (refl, (refl, (refl, tt))))) (λ _. refl) (λ reply last₃ gave kept₃ reply-is.
       relends-one ! head refl $
       -- numbers::write_head(head, reply);
       calls-for ! 𝓣 (0 ∷ []) (mut-one W head ∷ given W a-reply reply reply-is ∷ []) of-nothing (λ c. known-write-head) (λ c h. h) (id⊢ 𝓤 _) refl (λ c. vars ! (refl, (refl, tt))) (λ _. refl) (λ u last₄ headed kept₄ _.
       relends-one ! values refl $
       -- numbers::write_values(values, reply)
-      calls-for ! 𝓣 (3 ∷ []) (mut-one W values ∷ given W a-reply reply reply-is ∷ []) (of-number w64) (λ c. known-write-values) (λ c h. h) (id⊢ 𝓤 _) refl (λ c. vars ! (refl, (refl, tt))) (λ _. refl) (λ r last₅ told kept₅ r-is. gives ! refl refl $
+      calls-for ! 𝓣 (4 ∷ []) (mut-one W values ∷ given W a-reply reply reply-is ∷ []) (of-number w64) (λ c. known-write-values) (λ c h. h) (id⊢ 𝓤 _) refl (λ c. vars ! (refl, (refl, tt))) (λ _. refl) (λ r last₅ told kept₅ r-is. gives ! refl refl $
       leaves (vint w64 r) r (last₄ .0, (last₃ .1 .0, (last₃ .1 .1 .0, (last₅ .0, tt)))) (kept₃ .0, (kept₃ .1 .0, tt))
-      (made W (of-number w64) r r-is) (so 𝓤 (exports-given (lists.opening (setupOf count period)) (head .held) (values .held) is-head (rw is-setup at gave) told (last₄ .0) headed)))))))
+      (made W (of-number w64) r r-is) (so 𝓤 (exports-given (lists.opening (setupOf (setup .held))) (head .held) (values .held) is-head (rw is-setup at gave) told (last₄ .0) headed)))))))
 
 pub welsbell-open-spec : {M : Type 1} → f.Statement.statement M
 unfolding f.Code.routine
