@@ -11,8 +11,9 @@ use lib.ListN.{length, getD, set, drop, replicate}
 use Rattle.spec.specs.declared.types.Counts.{Counts}
 use Rattle.spec.specs.Tables.{zeroCounts, width, recordOf, recordThen, recordsOf, numbersOf}
 use Rattle.spec.specs.Calls.{change, isPeriodStart}
+use Rattle.columns.specs.declared.clients.Count.{Count}
 use Rattle.columns.specs.Widths.{largest32}
-use Rattle.columns.specs.Clients.{changedAt, changedAll, saturatingNext, unlessFull, restartedCounts, restartedNumbers}
+use Rattle.columns.specs.Clients.{changedAt, changedAll, saturatingNext, countIn, oneMoreIn, more, restartedCounts, restartedNumbers}
 use Rattle.spec.proofs.Laws.Layout.{next-first, next-other, records-numbers, numbers-records}
 
 module _ (f : Counts → Counts) where
@@ -99,18 +100,18 @@ put-changed (a ∷ b ∷ c ∷ xs) (suc i) k h =
     rw (next-other i 1, next-other i 2, next-first i)
     (ap (λ (l : List ℕ). a ∷ b ∷ c ∷ l) (put-changed xs i k (omega arith)))
 
--- ---- one more of a count: the count, and the counts with one more in it
-module _ (count : Counts → ℕ) (oneMore : Counts → Counts) where
-  pub more-changed : (client : ℕ) (xs : List ℕ) → count (getD (recordsOf xs) client zeroCounts) < largest32
-      → changedAt (unlessFull count oneMore) client xs ≡ changedAt oneMore client xs
+-- ---- one more of a count
+module _ (count : Count) where
+  more-changed : (client : ℕ) (xs : List ℕ) → countIn count (getD (recordsOf xs) client zeroCounts) < largest32
+      → changedAt (more count) client xs ≡ changedAt (oneMoreIn count) client xs
   more-changed client xs h =
-      changedAt-same (unlessFull count oneMore) oneMore client xs
-      (rw (lt-ltb (count (getD (recordsOf xs) client zeroCounts)) largest32 h))
+      changedAt-same (more count) (oneMoreIn count) client xs
+      (rw (lt-ltb (countIn count (getD (recordsOf xs) client zeroCounts)) largest32 h))
 
-  pub more-numbers : (client : ℕ) (cs : List Counts) → count (getD cs client zeroCounts) < largest32
-      → changedAt (unlessFull count oneMore) client (numbersOf cs) ≡ numbersOf (change oneMore client cs)
+  pub more-numbers : (client : ℕ) (cs : List Counts) → countIn count (getD cs client zeroCounts) < largest32
+      → changedAt (more count) client (numbersOf cs) ≡ numbersOf (change (oneMoreIn count) client cs)
   more-numbers client cs h =
-      more-changed client (numbersOf cs) (rw (records-numbers cs) h) ∙ changedAt-numbers oneMore client cs
+      more-changed client (numbersOf cs) (rw (records-numbers cs) h) ∙ changedAt-numbers (oneMoreIn count) client cs
 
 -- a number that rises unless it is the largest, chosen in a record or between two
 pub next-record : (f : ℕ → Counts) (n : ℕ) → f (saturatingNext n) ≡ cond (ltb n largest32) (f (suc n)) (f n)

@@ -6,6 +6,8 @@ use lib.Dec.{ltb}
 use Rattle.spec.specs.declared.types.Counts.{Counts}
 use Rattle.spec.specs.Calls.{isPeriodStart, oneMoreSubmitted, oneMoreServed, oneMoreDropped}
 use Rattle.spec.specs.Tables.{recordOf, recordThen}
+use Rattle.columns.specs.declared.clients.Count.{Count}
+use Rattle.columns.specs.declared.clients.Count.the-variants.{Submitted, Served, Dropped}
 use Rattle.columns.specs.Widths.{largest32}
 
 -- the numbers with the record at an index changed; where there is no whole record nothing changes
@@ -27,18 +29,20 @@ changedAll f (a ∷ b ∷ c ∷ xs) = recordThen (f (recordOf a b c)) (changedAl
 abbrev pub saturatingNext : ℕ → ℕ
 saturatingNext n = cond (ltb n largest32) (suc n) n
 
--- "adds 1 to" one of a client's counts, unless that is the largest number of 32 bits
-abbrev pub unlessFull : (Counts → ℕ) → (Counts → Counts) → Counts → Counts
-unlessFull count oneMore k = cond (ltb (count k) largest32) (oneMore k) k
+-- one of a client's counts, and the counts with 1 added to it
+abbrev pub countIn : Count → Counts → ℕ
+countIn Submitted k = k .submitted
+countIn Served k = k .served
+countIn Dropped k = k .dropped
 
-abbrev pub moreSubmitted : Counts → Counts
-moreSubmitted = unlessFull (λ k. k .submitted) oneMoreSubmitted
+abbrev pub oneMoreIn : Count → Counts → Counts
+oneMoreIn Submitted k = oneMoreSubmitted k
+oneMoreIn Served k = oneMoreServed k
+oneMoreIn Dropped k = oneMoreDropped k
 
-abbrev pub moreServed : Counts → Counts
-moreServed = unlessFull (λ k. k .served) oneMoreServed
-
-abbrev pub moreDropped : Counts → Counts
-moreDropped = unlessFull (λ k. k .dropped) oneMoreDropped
+-- "adds 1 to" one of them, unless it is the largest number of 32 bits
+abbrev pub more : Count → Counts → Counts
+more count k = cond (ltb (countIn count k) largest32) (oneMoreIn count k) k
 
 -- what was submitted and neither served nor dropped: in sound tables the client's waiting count
 abbrev pub waitingCount : Counts → ℕ

@@ -2,14 +2,11 @@
 // Only `get` and `put` know where a record stands, and the two functions before them how many numbers it is.
 use spec::types::Counts;
 ghost use mathlib.Core.Path.{_≡_};
-ghost use mathlib.Core.Bool.{_&&_};
 ghost use Prim.Native.Nat.{_+_, _*_, _<_};
-ghost use lib.Dec.{ltb, eqb};
+ghost use lib.Dec.{eqb};
 ghost use lib.ListN.{length, getD, replicate};
 ghost use Rattle.spec.specs.Tables.{width, recordsOf, zeroCounts};
-ghost use Rattle.spec.specs.Calls.{isPeriodStart};
-ghost use Rattle.columns.specs.Clients.{changedAt, changedAll, saturatingNext, moreSubmitted, moreServed, moreDropped};
-ghost use Rattle.columns.specs.Clients.{waitingCount, restartedCounts, restartedNumbers};
+ghost use Rattle.columns.specs.Clients.{changedAt, saturatingNext, more, waitingCount};
 
 // How many numbers a record is.
 pub const WIDTH: usize = 3;
@@ -89,58 +86,41 @@ fn saturating_next(n: u32) -> u32
     n + 1
 }
 
-// Counts with one more submitted.
-fn more_submitted(k: Counts) -> Counts
-    ensures { λ r. ⌜ r ≡ moreSubmitted k ⌝ }
-{
-    let mut more = k;
-    more.submitted = saturating_next(k.submitted);
-    more
+// One of a client's counts.
+pub enum Count {
+    Submitted,
+    Served,
+    Dropped,
 }
 
-// Counts with one more served.
-fn more_served(k: Counts) -> Counts
-    ensures { λ r. ⌜ r ≡ moreServed k ⌝ }
+// Counts with one more of one of them.
+fn more(k: Counts, count: Count) -> Counts
+    ensures { λ r. ⌜ r ≡ more count k ⌝ }
 {
-    let mut more = k;
-    more.served = saturating_next(k.served);
-    more
+    let mut counted = k;
+    match count {
+        Count::Submitted => {
+            counted.submitted = saturating_next(k.submitted);
+            counted
+        }
+        Count::Served => {
+            counted.served = saturating_next(k.served);
+            counted
+        }
+        Count::Dropped => {
+            counted.dropped = saturating_next(k.dropped);
+            counted
+        }
+    }
 }
 
-// Counts with one more dropped.
-fn more_dropped(k: Counts) -> Counts
-    ensures { λ r. ⌜ r ≡ moreDropped k ⌝ }
-{
-    let mut more = k;
-    more.dropped = saturating_next(k.dropped);
-    more
-}
-
-// Adds 1 to a client's submitted.
-pub fn count_submitted(numbers: &mut [u32], client: u64)
-    ensures { λ _. ⌜ now (numbers .exit) ≡ changedAt moreSubmitted client (now (numbers .entry)) ⌝ }
+// Adds 1 to one of a client's counts.
+pub fn add_one(numbers: &mut [u32], client: u64, count: Count)
+    ensures { λ _. ⌜ now (numbers .exit) ≡ changedAt (more count) client (now (numbers .entry)) ⌝ }
 {
     let k = counts_at(numbers, client);
-    let more = more_submitted(k);
-    put_at(numbers, client, more);
-}
-
-// Adds 1 to a client's served.
-pub fn count_served(numbers: &mut [u32], client: u64)
-    ensures { λ _. ⌜ now (numbers .exit) ≡ changedAt moreServed client (now (numbers .entry)) ⌝ }
-{
-    let k = counts_at(numbers, client);
-    let more = more_served(k);
-    put_at(numbers, client, more);
-}
-
-// Adds 1 to a client's dropped.
-pub fn count_dropped(numbers: &mut [u32], client: u64)
-    ensures { λ _. ⌜ now (numbers .exit) ≡ changedAt moreDropped client (now (numbers .entry)) ⌝ }
-{
-    let k = counts_at(numbers, client);
-    let more = more_dropped(k);
-    put_at(numbers, client, more);
+    let counted = more(k, count);
+    put_at(numbers, client, counted);
 }
 
 // A client's waiting count in sound tables: what was submitted and neither served nor dropped.
@@ -165,49 +145,4 @@ pub fn clear(numbers: &mut [u32])
         numbers[i] = 0;
         i += 1;
     }
-}
-
-// A client's counts at a period's start: submitted becomes its waiting count, served and dropped become 0.
-fn restarted_counts(k: Counts) -> Counts
-    ensures { λ r. ⌜ r ≡ restartedCounts k ⌝ }
-{
-    let mut fresh = k;
-    fresh.submitted = waiting_count(k) as u32;
-    fresh.served = 0;
-    fresh.dropped = 0;
-    fresh
-}
-
-// A period's start, for each client.
-fn restart(numbers: &mut [u32])
-    ensures { λ _. ⌜ now (numbers .exit) ≡ changedAll restartedCounts (now (numbers .entry)) ⌝ }
-{
-    let n = record_count(numbers);
-    let mut i: usize = 0;
-    while i < n {
-        let k = get(numbers, i);
-        let fresh = restarted_counts(k);
-        put(numbers, i, fresh);
-        i += 1;
-    }
-}
-
-// Whether the clock is a multiple of the period; no clock is one of 0.
-fn is_period_start(period: u64, clock: u64) -> bool
-    ensures { λ r. ⌜ r ≡ ltb 0 period && isPeriodStart period clock ⌝ }
-{
-    if period == 0 {
-        return false;
-    }
-    clock % period == 0
-}
-
-// A period's start where the clock is at one; at any other nothing changes.
-pub fn restart_at(period: u64, clock: u64, numbers: &mut [u32])
-    ensures { λ _. ⌜ now (numbers .exit) ≡ restartedNumbers period clock (now (numbers .entry)) ⌝ }
-{
-    if !is_period_start(period, clock) {
-        return;
-    }
-    restart(numbers);
 }

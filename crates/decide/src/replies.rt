@@ -4,6 +4,8 @@ use crate::edits;
 use crate::types::Decision;
 use crate::types::Reply;
 use columns::clients;
+use columns::clients::Count;
+use columns::period;
 use spec::types::Answer;
 use spec::types::Head;
 use spec::types::Request;
@@ -107,15 +109,15 @@ pub fn submit_reply(
     match decision {
         Decision::Refuse { number } => refused(head, number),
         Decision::Keep { place } => {
-            clients::count_submitted(numbers, client);
+            clients::add_one(numbers, client, Count::Submitted);
             kept(head, place)
         }
         Decision::Drop {
             place: _,
             victim: _,
         } => {
-            clients::count_submitted(numbers, client);
-            clients::count_dropped(numbers, gone.client);
+            clients::add_one(numbers, client, Count::Submitted);
+            clients::add_one(numbers, gone.client, Count::Dropped);
             dropped_one(head, gone)
         }
         Decision::Serve => refused(head, 0),
@@ -141,7 +143,7 @@ fn pass_slot(head: Head, numbers: &mut [u32], waits: u64) -> Head
 {
     let clock = edits::raised(head.clock);
     let setup = head.setup;
-    clients::restart_at(setup.period, clock, numbers);
+    period::restart_at(setup.period, clock, numbers);
     Head {
         setup,
         clock,
@@ -157,7 +159,7 @@ pub fn tick_reply(head: Head, numbers: &mut [u32], decision: Decision, gone: Req
 {
     match decision {
         Decision::Serve => {
-            clients::count_served(numbers, gone.client);
+            clients::add_one(numbers, gone.client, Count::Served);
             let left = one_less(head.waiting);
             let answer = Answer::Served {
                 slot: head.clock,

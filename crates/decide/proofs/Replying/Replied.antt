@@ -15,7 +15,7 @@ use Rattle.spec.specs.Order.{placeOf, removeAt}
 use Rattle.spec.specs.Sound.{waitingOf}
 use Rattle.spec.specs.Setup.{firstMatch}
 use Rattle.spec.specs.Refusals.{submitRefusals, reportRefusals, chartRefusals}
-use Rattle.spec.specs.Calls.{Outcome, oneMoreSubmitted, oneMoreDropped, newRequest, countedIn, withNew, kept, droppedAt}
+use Rattle.spec.specs.Calls.{Outcome, newRequest, countedIn, withNew, kept, droppedAt}
 use Rattle.spec.specs.Calls.{victimPlace, requestAt, submitOf}
 use Rattle.spec.specs.Calls.{reportAccepted, reportOf, chartAccepted, chartOf}
 use Rattle.spec.proofs.Laws.Every.{length-remove, all-at}
@@ -24,7 +24,8 @@ use Rattle.spec.proofs.Laws.Sound.{Owned}
 use Rattle.spec.proofs.Laws.Accepted.{SubmitReady, submit-ready, report-ready, waiting-length}
 use Rattle.spec.proofs.Calls.Victim.{victim-place}
 use Rattle.spec.proofs.Calls.Keeps.{Tidy, tidy, tidy-put}
-use Rattle.columns.specs.Clients.{changedAt, moreSubmitted, moreDropped, waitingCount}
+use Rattle.columns.specs.declared.clients.Count.the-variants.{Submitted, Dropped}
+use Rattle.columns.specs.Clients.{changedAt, more, waitingCount}
 use Rattle.columns.proofs.Changed.{more-numbers}
 use Rattle.decide.specs.declared.types.Decision.{Decision}
 use Rattle.decide.specs.declared.types.Decision.the-variants.{Drop}
@@ -72,25 +73,25 @@ module _ (client deadline : ℕ) (s : State) (ready : SubmitReady client deadlin
         waiting-length s (ready .ready .shape),
       )
 
-  counted : changedAt moreSubmitted client (s .clientNumbers) ≡ numbersOf (countedIn client s)
+  counted : changedAt (more Submitted) client (s .clientNumbers) ≡ numbersOf (countedIn client s)
   counted =
-      ap (changedAt moreSubmitted client) (whole s (ready .ready .shape))
-      ∙ more-numbers (λ k. k .submitted) oneMoreSubmitted client (clientTable s) (bounded (tidy s (ready .ready)) client (ready .exists) .0)
+      ap (changedAt (more Submitted) client) (whole s (ready .ready .shape))
+      ∙ more-numbers Submitted client (clientTable s) (bounded (tidy s (ready .ready)) client (ready .exists) .0)
 
   kept-answers : Answers (kept client deadline s)
       (keptWith (s .head) (placeOf (newRequest client deadline s) (waiting s)))
-      (changedAt moreSubmitted client (s .clientNumbers))
+      (changedAt (more Submitted) client (s .clientNumbers))
   unfolding kept nextState
   kept-answers = answers (rw given) (numbered-head all (s .head) _ given one-more) counted
 
   dropped-answers : (k : ℕ) → k < length all
       → Answers (droppedAt k client deadline s) (droppedWith (s .head) (requestAt k client deadline s))
-      (changedAt moreDropped (requestAt k client deadline s .client) (changedAt moreSubmitted client (s .clientNumbers)))
+      (changedAt (more Dropped) (requestAt k client deadline s .client) (changedAt (more Submitted) client (s .clientNumbers)))
   unfolding droppedAt nextState
   dropped-answers k h =
       answers (rw given) (numbered-head (removeAt k all) (s .head) _ given (as-many k h))
-      (ap (changedAt moreDropped whose) counted
-      ∙ more-numbers (λ k. k .dropped) oneMoreDropped whose (countedIn client s) (bounded together whose exists .2))
+      (ap (changedAt (more Dropped) whose) counted
+      ∙ more-numbers Dropped whose (countedIn client s) (bounded together whose exists .2))
     where
       whose : ℕ
       whose = requestAt k client deadline s .client

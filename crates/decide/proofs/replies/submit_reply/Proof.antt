@@ -13,8 +13,8 @@ refused-requires c κs = search needs
 enum-known-decision-2 : tie.Need-enum-known-decision-2
 enum-known-decision-2 c = search needs
 
-count-submitted-requires : tie.Need-count-submitted-requires
-count-submitted-requires c κs = search needs
+add-one-requires : tie.Need-add-one-requires
+add-one-requires c κs = search needs
 
 kept-requires : tie.Need-kept-requires
 kept-requires c κs = search needs
@@ -22,11 +22,11 @@ kept-requires c κs = search needs
 enum-told : tie.Need-enum-told
 enum-told c = search needs
 
-count-submitted-requires-2 : tie.Need-count-submitted-requires-2
-count-submitted-requires-2 c κs = search needs
+add-one-requires-2 : tie.Need-add-one-requires-2
+add-one-requires-2 c κs = search needs
 
-count-dropped-requires : tie.Need-count-dropped-requires
-count-dropped-requires c κs = search needs
+add-one-requires-3 : tie.Need-add-one-requires-3
+add-one-requires-3 c κs = search needs
 
 dropped-one-requires : tie.Need-dropped-one-requires
 dropped-one-requires c κs = search needs
@@ -52,7 +52,7 @@ same-length c = search needs
 returns-2 : tie.Need-returns-2
 returns-2 c =
     let m = c .before .before .before in
-    rw (m .before .before .before .decision2 .given .1) (c .kept .ensures, m .count-submitted .ensures)
+    rw (m .before .before .before .decision2 .given .1) (c .kept .ensures, m .add-one .ensures)
 
 same-length-2 : tie.Need-same-length-2
 same-length-2 c = search needs
@@ -62,7 +62,7 @@ returns-3 c =
     let m = c .before .before .before in
     let k = m .before .before .before .before in
     rw (k .before .before .enum-told .given .1)
-    (c .dropped-one .ensures, rw (k .count-submitted2 .ensures) at (m .count-dropped .ensures))
+    (c .dropped-one .ensures, rw (k .add-one2 .ensures) at (m .add-one3 .ensures))
 
 returns-4 : tie.Need-returns-4
 returns-4 c = rw (c .before .enum-told2 .given .1) (c .refused2 .ensures, refl)
@@ -77,11 +77,11 @@ submit-reply-spec =
     enum-known-decision
     refused-requires
     enum-known-decision-2
-    count-submitted-requires
+    add-one-requires
     kept-requires
     enum-told
-    count-submitted-requires-2
-    count-dropped-requires
+    add-one-requires-2
+    add-one-requires-3
     dropped-one-requires
     enum-told-2
     refused-requires-2

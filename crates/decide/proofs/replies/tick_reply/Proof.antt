@@ -7,8 +7,8 @@ use Rattle.decide.proofs.replies.tick_reply.Tie as tie
 enum-told : tie.Need-enum-told
 enum-told c = search needs
 
-count-served-requires : tie.Need-count-served-requires
-count-served-requires c κs = search needs
+add-one-requires : tie.Need-add-one-requires
+add-one-requires c κs = search needs
 
 one-less-requires : tie.Need-one-less-requires
 one-less-requires c κs = search needs
@@ -52,7 +52,7 @@ returns c =
     let less =
     c .before .before .before .before .one-less .ensures in
     let added =
-    c .before .before .before .before .before .before .before .count-served .ensures in
+    c .before .before .before .before .before .before .before .add-one .ensures in
     rw told (rw (passed .0, less), rw added at (passed .1))
 
 same-length-2 : tie.Need-same-length-2
@@ -80,7 +80,7 @@ tick-reply-spec =
     tie.close
     (tie.spec
     enum-told
-    count-served-requires
+    add-one-requires
     one-less-requires
     pass-slot-requires
     enum-told-2

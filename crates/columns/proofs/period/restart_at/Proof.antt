@@ -1,9 +1,9 @@
--- `columns::clients::restart_at` meets its contract. Assumes nothing.
+-- `columns::period::restart_at` meets its contract. Assumes nothing.
 use mathlib.Core.Path.{sym, _∙_}
 use borrow.Author.Needs.{needs}
 use borrow.Author.Tests.{not-true, not-false}
-use Rattle.columns.proofs.clients.restart_at.Statement.{statement}
-use Rattle.columns.proofs.clients.restart_at.Tie as tie
+use Rattle.columns.proofs.period.restart_at.Statement.{statement}
+use Rattle.columns.proofs.period.restart_at.Tie as tie
 
 is-period-start-requires : tie.Need-is-period-start-requires
 is-period-start-requires c κs = search needs

@@ -1,4 +1,4 @@
--- `columns::clients::restart` meets its contract. Assumes nothing.
+-- `columns::period::restart` meets its contract. Assumes nothing.
 use Prim.Native.Nat.{_+_, _-_}
 use mathlib.Core.Path.{_≡_, refl, sym, ap, _∙_}
 use native.Mathlib.Omega.{arith}
@@ -8,8 +8,8 @@ use Rattle.columns.specs.Clients.{restartedCounts}
 use Rattle.columns.specs.Clients.{changedAt, changedAll}
 use Rattle.spec.proofs.Laws.Layout.{length-records}
 use Rattle.columns.proofs.Changed.{length-changedAt, changedAt-same, changedFrom, changed-start, changed-turn, changed-end}
-use Rattle.columns.proofs.clients.restart.Statement.{statement}
-use Rattle.columns.proofs.clients.restart.Tie as tie
+use Rattle.columns.proofs.period.restart.Statement.{statement}
+use Rattle.columns.proofs.period.restart.Tie as tie
 
 -- what is left to do from record i on gives the whole
 abbrev Inv-loop : tie.InvT-loop

@@ -1,7 +1,7 @@
--- `columns::clients::restarted_counts` meets its contract. Assumes nothing.
+-- `columns::period::restarted_counts` meets its contract. Assumes nothing.
 use borrow.Author.Needs.{needs}
-use Rattle.columns.proofs.clients.restarted_counts.Statement.{statement}
-use Rattle.columns.proofs.clients.restarted_counts.Tie as tie
+use Rattle.columns.proofs.period.restarted_counts.Statement.{statement}
+use Rattle.columns.proofs.period.restarted_counts.Tie as tie
 
 waiting-count-requires : tie.Need-waiting-count-requires
 waiting-count-requires c κs = search needs

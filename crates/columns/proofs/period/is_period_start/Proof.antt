@@ -1,9 +1,9 @@
--- `columns::clients::is_period_start` meets its contract. Assumes nothing.
+-- `columns::period::is_period_start` meets its contract. Assumes nothing.
 use native.Mathlib.Omega.{arith}
 use borrow.Author.Needs.{needs}
 use borrow.Author.Tests.{lt-ltb, le-ltb}
-use Rattle.columns.proofs.clients.is_period_start.Statement.{statement}
-use Rattle.columns.proofs.clients.is_period_start.Tie as tie
+use Rattle.columns.proofs.period.is_period_start.Statement.{statement}
+use Rattle.columns.proofs.period.is_period_start.Tie as tie
 
 returns : tie.Need-returns
 returns c = rw (le-ltb 0 (c .before .args .period) (omega arith))
