@@ -186,7 +186,8 @@ typedef char welsbell_values_have_40_bytes[sizeof(welsbell_values) == 40 ? 1 : -
 uint64_t welsbell_version(void);
 
 /* Begins anew with this setup, whatever head and tables held: clock, last number and waiting count become 0, every record zero.
-   The setup is only read; a copy of the head's own does, its place in the head does not. Gives WELSBELL_OPENED, or refusal 2, 3 or 4. */
+   The setup is only read; where it is to be the one that the head has, it is a copy of that, since nothing that is lent overlaps.
+   Gives WELSBELL_OPENED, or refusal 2, 3 or 4. */
 uint64_t welsbell_open(welsbell_head *head,
                        welsbell_request *waiting, size_t waiting_length,
                        welsbell_client *clients, size_t client_numbers,

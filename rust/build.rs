@@ -1,7 +1,7 @@
 // Links the archive of the proved calls: the file that WELSBELL_ARCHIVE names, or the one that `rt staticlib welsbell` writes in
-// the repository. A copy of it goes to cargo's folder, so that the file may have any name.
+// the repository. What it holds goes to cargo's folder, so that the file may have any name.
 use std::env::var_os;
-use std::fs::copy;
+use std::fs::{read, write};
 use std::path::{Path, PathBuf};
 use std::process::exit;
 
@@ -17,18 +17,21 @@ fn missing(archive: &Path, reason: &str) -> ! {
         archive.display()
     );
     eprintln!("`rt staticlib welsbell`, in Welsbell's repository, writes it to target/staticlib/libwelsbell.a.");
-    eprintln!("Where this crate stands elsewhere, set {VARIABLE} to that file's path.");
+    eprintln!("Where this crate stands elsewhere, set {VARIABLE} to that file's absolute path.");
     exit(1)
 }
 
 fn main() {
     println!("cargo:rerun-if-env-changed={VARIABLE}");
-    let beside = || folder("CARGO_MANIFEST_DIR").join("../target/staticlib/libwelsbell.a");
-    let archive = var_os(VARIABLE).map_or_else(beside, PathBuf::from);
+    // cargo runs this in the crate's folder: a path that is not absolute is taken, and shown, as one from there
+    let named = var_os(VARIABLE).filter(|path| !path.is_empty());
+    let path = named.unwrap_or("../target/staticlib/libwelsbell.a".into());
+    let archive = folder("CARGO_MANIFEST_DIR").join(path);
     println!("cargo:rerun-if-changed={}", archive.display());
     let out = folder("OUT_DIR");
-    if let Err(error) = copy(&archive, out.join("libwelsbell.a")) {
-        missing(&archive, &error.to_string());
+    match read(&archive) {
+        Ok(bytes) => write(out.join("libwelsbell.a"), bytes).expect("cargo's folder takes the archive"),
+        Err(error) => missing(&archive, &error.to_string()),
     }
     println!("cargo:rustc-link-search=native={}", out.display());
     println!("cargo:rustc-link-lib=static=welsbell");

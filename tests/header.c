@@ -113,36 +113,37 @@ static void layouts(void)
     HOLD(clients[4].submitted == 1 && clients[4].served == 0 && clients[4].dropped == 0);
 }
 
-/* Each kind by the call that gives it, with its values by name. */
+/* Each kind by the call that gives it, with its values by name. No two of an answer's values are the same, so that none can stand
+   for another. Client 7 has missed more than clients 2 and 6, so that its read is kept and the last of theirs is dropped. */
 static void answers(void)
 {
-    uint64_t starts[3] = {9, 9, 9};
-    lend(8, 2);
-    welsbell_answer a = open_with(2, 100);
+    uint64_t starts[3] = {99, 99, 99};
+    lend(8, 8);
+    welsbell_answer a = open_with(8, 1000);
     HOLD(a.kind == WELSBELL_OPENED);
+    queue.head.clock = 4;
+    clients[7].submitted = 10;
+    clients[7].served = 7;
+    clients[7].dropped = 3;
     a = welsbell_queue_tick(&queue);
-    HOLD(a.kind == WELSBELL_IDLE && a.is.idle.slot == 0);
-    a = welsbell_queue_submit(&queue, 0, 2);
+    HOLD(a.kind == WELSBELL_IDLE && a.is.idle.slot == 4);
+    a = welsbell_queue_submit(&queue, 2, 7);
     HOLD(a.kind == WELSBELL_KEPT && a.is.kept.number == 1 && a.is.kept.place == 0);
-    a = welsbell_queue_submit(&queue, 1, 4);
+    a = welsbell_queue_submit(&queue, 6, 7);
     HOLD(a.kind == WELSBELL_KEPT && a.is.kept.number == 2 && a.is.kept.place == 1);
-    /* client 0 has missed none, as client 1; of equals the last in chart order goes */
-    a = welsbell_queue_submit(&queue, 1, 2);
-    HOLD(a.kind == WELSBELL_DROPPED && a.is.dropped.number == 3 && a.is.dropped.victim == 3 && a.is.dropped.client == 1);
+    a = welsbell_queue_submit(&queue, 7, 6);
+    HOLD(a.kind == WELSBELL_DROPPED && a.is.dropped.number == 3 && a.is.dropped.victim == 2 && a.is.dropped.client == 6);
+    a = welsbell_queue_tick(&queue);
+    HOLD(a.kind == WELSBELL_SERVED && a.is.served.slot == 5 && a.is.served.number == 3 && a.is.served.client == 7);
+    a = welsbell_queue_submit(&queue, 7, 9);
+    HOLD(a.kind == WELSBELL_KEPT && a.is.kept.number == 4 && a.is.kept.place == 1);
+    a = welsbell_queue_report(&queue, 7);
+    HOLD(a.kind == WELSBELL_REPORTED && a.is.reported.client == 7 && a.is.reported.submitted == 12);
+    HOLD(a.is.reported.served == 8 && a.is.reported.dropped == 3 && a.is.reported.waiting == 1);
     a = welsbell_queue_chart(&queue, starts, 3);
     HOLD(a.kind == WELSBELL_CHARTED && a.is.charted.count == 2);
-    HOLD(starts[0] == 1 && starts[1] == 3 && starts[2] == 9);
-    a = welsbell_queue_tick(&queue);
-    HOLD(a.kind == WELSBELL_SERVED && a.is.served.slot == 1 && a.is.served.number == 1 && a.is.served.client == 0);
-    a = welsbell_queue_tick(&queue);
-    HOLD(a.kind == WELSBELL_SERVED && a.is.served.slot == 2 && a.is.served.number == 2 && a.is.served.client == 1);
-    HOLD(is_kind(welsbell_queue_submit(&queue, 1, 9), WELSBELL_KEPT));
-    HOLD(is_kind(welsbell_queue_submit(&queue, 1, 9), WELSBELL_KEPT));
-    HOLD(is_kind(welsbell_queue_submit(&queue, 1, 9), WELSBELL_KEPT));
-    a = welsbell_queue_report(&queue, 1);
-    HOLD(a.kind == WELSBELL_REPORTED && a.is.reported.client == 1 && a.is.reported.submitted == 5);
-    HOLD(a.is.reported.served == 1 && a.is.reported.dropped == 1 && a.is.reported.waiting == 3);
-    HOLD(refused(welsbell_queue_report(&queue, 2), WELSBELL_REFUSED_CLIENT));
+    HOLD(starts[0] == 6 && starts[1] == 8 && starts[2] == 99);
+    HOLD(refused(welsbell_queue_report(&queue, 8), WELSBELL_REFUSED_CLIENT));
 }
 
 /* Whether the first numbers, so many, are these, and the others stand as they were. */

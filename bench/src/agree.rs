@@ -31,15 +31,15 @@ fn sound_tables(random: &mut Random) -> Tables {
 
 // Each of the five, with arguments that sound tables take for the most part. The open is last: it leaves the tables empty.
 fn random_calls(random: &mut Random, t: &Lent) -> [Call; 5] {
-    let [clients, _, clock, _, waiting] = *t.head;
+    let clients = t.head.setup.clients;
     let (records, lent) = (t.waiting.len(), t.clients.len() as u64);
-    let waiting = records.min(waiting as usize);
+    let waiting = records.min(t.head.waiting as usize);
     let exists = random.next() % clients.max(1);
     let client = random.mostly(exists, clients);
     let near = random.between(1, waiting as u64 + 2);
     let ahead = random.one_of(&[near, near, 1, MOST_AHEAD]);
     let beyond = random.one_of(&[0, MOST_AHEAD + 1, u64::MAX]);
-    let deadline = clock.wrapping_add(random.mostly(ahead, beyond));
+    let deadline = t.head.clock.wrapping_add(random.mostly(ahead, beyond));
     let entries = random.mostly(records, waiting.saturating_sub(1));
     let others = random.one_of(&[0, lent + 1, 257]);
     let in_bounds = random.between(1, MOST_PERIOD);

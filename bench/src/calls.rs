@@ -14,7 +14,7 @@ pub trait Calls {
         if let Err(refusal) = open_refusal(t, clients, period) {
             return refuse(values, refusal);
         }
-        *t.head = [clients, period, 0, 0, 0];
+        *t.head = head(clients, period, 0, 0, 0);
         // SAFETY: each pointer is to so many records, and zero bytes are a record.
         unsafe {
             t.waiting.as_mut_ptr().write_bytes(0, t.waiting.len());
@@ -28,17 +28,16 @@ pub trait Calls {
         if let Err(refusal) = Self::check(t).and_then(|()| submit_refusal(t, client, deadline)) {
             return refuse(values, refusal);
         }
-        let [_, _, clock, last, n] = *t.head;
-        let (n, number) = (n as usize, last + 1);
+        let (clock, n, number) = (t.head.clock, t.head.waiting as usize, t.head.last + 1);
         let new = request(deadline, number, client);
-        t.head[3] = number;
+        t.head.last = number;
         t.clients[client as usize].submitted += 1;
         let waiting = &t.waiting[..n];
         let place = waiting.partition_point(|w| w.deadline <= deadline);
         let Some(last) = last_candidate(waiting, clock, place, deadline) else {
             t.waiting.copy_within(place..n, place + 1);
             t.waiting[place] = new;
-            t.head[4] += 1;
+            t.head.waiting += 1;
             return give(values, KEPT, [number, place as u64]);
         };
         let at = victim(t, client, place, last);
@@ -49,17 +48,17 @@ pub trait Calls {
 
     #[inline(never)]
     fn tick(t: &mut Lent, values: &mut Values) -> u64 {
-        let [_, period, slot, _, n] = *t.head;
+        let (period, slot, n) = (t.head.setup.period, t.head.clock, t.head.waiting);
         if let Err(refusal) = Self::check(t).and(refused_if(slot == END, 11)) {
             return refuse(values, refusal);
         }
         let n = n as usize;
         let first = t.waiting[0];
-        t.head[2] += 1;
+        t.head.clock += 1;
         if n > 0 {
             t.waiting.copy_within(1..n, 0);
             t.waiting[n - 1] = Request::default();
-            t.head[4] -= 1;
+            t.head.waiting -= 1;
             t.clients[first.client as usize].served += 1;
         }
         if (slot + 1).is_multiple_of(period) {
@@ -75,7 +74,7 @@ pub trait Calls {
     // What a client submitted and is neither served nor dropped waits, so that no record has to be counted.
     #[inline(never)]
     fn report(t: &Lent, client: u64, values: &mut Values) -> u64 {
-        if let Err(refusal) = Self::check(t).and(refused_if(t.head[0] <= client, 6)) {
+        if let Err(refusal) = Self::check(t).and(refused_if(t.head.setup.clients <= client, 6)) {
             return refuse(values, refusal);
         }
         let c = &t.clients[client as usize];
@@ -89,7 +88,7 @@ pub trait Calls {
 
     #[inline(never)]
     fn chart(t: &Lent, output: &mut [u64], values: &mut Values) -> u64 {
-        let n = t.head[4];
+        let n = t.head.waiting;
         if let Err(refusal) = Self::check(t).and(refused_if((output.len() as u64) < n, 12)) {
             return refuse(values, refusal);
         }
@@ -115,16 +114,16 @@ fn open_refusal(t: &Lent, clients: u64, period: u64) -> Result<(), u64> {
 // Refusals 6 to 10, of sound tables.
 #[inline(always)]
 fn submit_refusal(t: &Lent, client: u64, deadline: u64) -> Result<(), u64> {
-    let [clients, _, clock, last, waiting] = *t.head;
-    if clients <= client {
+    let clock = t.head.clock;
+    if t.head.setup.clients <= client {
         Err(6)
     } else if deadline <= clock || clock + MOST_AHEAD < deadline {
         Err(7)
     } else if t.clients[client as usize].submitted == MOST_COUNTED {
         Err(8)
-    } else if last == END {
+    } else if t.head.last == END {
         Err(9)
-    } else if waiting == t.waiting.len() as u64 {
+    } else if t.head.waiting == t.waiting.len() as u64 {
         Err(10)
     } else {
         Ok(())

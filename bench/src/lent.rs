@@ -1,8 +1,8 @@
 //! The head and the tables as they are lent for one call by hand, and how it answers.
-use tests::tables::{Client, Request, Tables, Values, MOST_RECORDS, REFUSED, WIDTH};
+use tests::tables::{Client, Head, Request, Tables, Values, MOST_RECORDS, REFUSED, WIDTH};
 
 pub struct Lent<'a> {
-    pub head: &'a mut [u64; 5],
+    pub head: &'a mut Head,
     pub waiting: &'a mut [Request],
     pub clients: &'a mut [Client],
     // the client table's length in numbers, as it is lent to the proved calls

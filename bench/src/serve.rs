@@ -165,8 +165,8 @@ struct Session {
 
 impl Session {
     fn new() -> Session {
-        let mut tables = Tables::zero([MOST_CLIENTS as u64, 0, 0, 0, 0], MOST_RECORDS);
-        tables.head = [0; 5];
+        let mut tables = Tables::zero(head(MOST_CLIENTS as u64, 0, 0, 0, 0), MOST_RECORDS);
+        tables.head = Head::default();
         Session {
             tables,
             records: 0,
@@ -182,7 +182,7 @@ impl Session {
     // Before an accepted open the tables have no records, and are not lent to calls that would trust them.
     fn answer<Q: Calls>(&mut self, frame: Frame) -> io::Result<()> {
         let mut values = [0; 5];
-        let clients = self.tables.head[0] as usize;
+        let clients = self.tables.head.setup.clients as usize;
         let t = &mut Lent::part(&mut self.tables, self.records, clients);
         let kind = match frame {
             Frame::Open {

@@ -18,7 +18,7 @@ const NO_LIMIT: usize = usize::MAX;
 // the last slot is a limit that many of them share.
 fn tables(records: usize, n: usize, clients: usize, limit: usize) -> Tables {
     let mut random = Random(0x2545_F491_4F6C_DD1D);
-    let mut t = Tables::zero([clients as u64, PERIOD, PERIOD + 1, 100_000, n as u64], records);
+    let mut t = Tables::zero(head(clients as u64, PERIOD, PERIOD + 1, 100_000, n as u64), records);
     for client in t.clients_mut() {
         (client.served, client.dropped) = (random.below(50) as u32, 1 + random.below(50) as u32);
         client.submitted = client.served + client.dropped;
@@ -27,7 +27,7 @@ fn tables(records: usize, n: usize, clients: usize, limit: usize) -> Tables {
     for i in 0..n {
         ahead = (i + 2).max(ahead + random.below(3)).min(limit);
         let client = random.below(clients);
-        t.waiting[i] = request(t.head[2] + ahead as u64, 10 + i as u64, client as u64);
+        t.waiting[i] = request(t.head.clock + ahead as u64, 10 + i as u64, client as u64);
         t.clients_mut()[client].submitted += 1;
     }
     t
@@ -44,7 +44,7 @@ fn submit(name: &'static str, tables: Tables, deadline: u64, answer: u64) -> Tim
 
 // With the deadline of the record behind which it comes.
 fn kept(name: &'static str, tables: Tables, behind: Option<usize>) -> Timed {
-    let earliest = tables.head[2] + 1;
+    let earliest = tables.head.clock + 1;
     let deadline = behind.map_or(earliest, |i| tables.waiting[i].deadline);
     submit(name, tables, deadline, KEPT)
 }
@@ -70,7 +70,7 @@ fn submits(clients: usize) -> Vec<Timed> {
 }
 
 fn tick(tables: Tables) -> Timed {
-    let is_idle = tables.head[4] == 0;
+    let is_idle = tables.head.waiting == 0;
     Timed {
         name: if is_idle { "tick idle" } else { "tick serves" },
         tables,
@@ -82,7 +82,7 @@ fn tick(tables: Tables) -> Timed {
 // The slot that passes is the last of its period.
 fn period_start(clients: usize) -> Timed {
     let mut tables = tables(MOST_RECORDS, MOST_RECORDS, clients, NO_LIMIT);
-    tables.head[1] = tables.head[2] + 1;
+    tables.head.setup.period = tables.head.clock + 1;
     Timed {
         name: "tick serves, period starts",
         ..tick(tables)

@@ -25,13 +25,14 @@ impl Calls for Tuned {
 // Refusal 4, and the head's part of refusal 5. Ok is the number of clients and the waiting count.
 #[inline(always)]
 fn shape(t: &Lent) -> Result<(usize, usize), u64> {
-    let [clients, period, clock, last, waiting] = *t.head;
-    if !t.has_lengths_for(clients) || (t.waiting.len() as u64) < waiting {
+    let head = *t.head;
+    let Setup { clients, period, .. } = head.setup;
+    if !t.has_lengths_for(clients) || (t.waiting.len() as u64) < head.waiting {
         return Err(4);
     }
     let is_head_within = (1..=MOST_CLIENTS as u64).contains(&clients) && (1..=MOST_PERIOD).contains(&period);
-    refused_if(!is_head_within || END < clock || END < last, 5)?;
-    Ok((clients as usize, waiting as usize))
+    refused_if(!is_head_within || END < head.clock || END < head.last, 5)?;
+    Ok((clients as usize, head.waiting as usize))
 }
 
 // Of each client, its records so far. Four, for records in turn: with one, records of one client would wait for each other's
@@ -49,8 +50,8 @@ fn is_sound<const MOST: usize>(t: &Lent, clients: usize, n: usize) -> bool {
 // Deadlines are in order, so that the last of them shows that none is too far. A function of its own, as the pass over the clients
 // is: in one function both took longer.
 #[inline(never)]
-fn are_next<const MOST: usize>(head: &[u64; 5], waiting: &[Request], tallies: &mut Tallies<MOST>) -> bool {
-    let [clients, _, clock, last, _] = *head;
+fn are_next<const MOST: usize>(head: &Head, waiting: &[Request], tallies: &mut Tallies<MOST>) -> bool {
+    let (clients, clock, last) = (head.setup.clients, head.clock, head.last);
     // as one number, for one comparison
     let key = |w: &Request| (w.deadline as u128) << 64 | w.number as u128;
     // a slot is left for it, its number is given, its client exists, and it comes behind the one before it

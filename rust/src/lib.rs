@@ -6,8 +6,9 @@
 //! ends for all input. One that is refused says why and changes nothing, whatever the tables hold. [`Tables`] owns a head and
 //! tables of a size that is known beforehand; a [`Queue`] borrows them, or any others.
 //!
-//! Every method is safe. The library leaves to its caller that pointers are good for their lengths, that nothing that is lent
-//! overlaps and that nobody else uses it meanwhile; here Rust's borrows keep all of that.
+//! Every method is safe with an archive of this crate's version, which a program asks for first ([`version`]). The library leaves to
+//! its caller that pointers are good for their lengths, that nothing that is lent overlaps and that nobody else uses it meanwhile;
+//! here Rust's borrows keep all of that.
 //!
 //! ```
 //! use welsbell::{Answer, Refusal, Setup, Tables};
@@ -348,8 +349,8 @@ pub struct Queue<'a> {
 macro_rules! lend {
     ($exported:ident, $queue:ident, $one:path, $pointer:ident $(, $argument:expr)*) => {{
         let mut values = [0; 5];
-        // SAFETY: the head is one head and a setup one setup, and each other pointer is good for as much as the length behind it
-        // says, since they are slices: a client's record is three numbers and nothing else, so that so many records are three
+        // SAFETY: the head, a setup and the values are one of each, and each other pointer is good for as much as the length behind
+        // it says, since they are slices: a client's record is three numbers and nothing else, so that so many records are three
         // times as many numbers. All are borrowed until the call is over, those to be written through by nobody else.
         let kind = unsafe {
             raw::$exported(

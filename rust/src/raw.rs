@@ -4,8 +4,8 @@
 //!
 //! # Safety
 //!
-//! Each pointer to a table has to be aligned and good for as much as the length behind it says, and not null even where that
-//! is 0; a pointer to a head, a setup or values has to be good for one. Nothing that is lent to a call may overlap, and nobody else
+//! Each pointer has to be aligned and not null: one to a table or an output good for as much as the length behind it says, even
+//! where that is 0, and one to a head, a setup or values for one of these. Nothing that is lent to a call may overlap, and nobody else
 //! may write it, or use what is written, until the call is over.
 use crate::{Client, Head, Request, Setup};
 

@@ -1,6 +1,6 @@
 // The exported calls over tables of a test program, and what they answered.
 pub use crate::tables::*;
-use welsbell::{raw, Setup};
+use welsbell::raw;
 
 // An answer's number and as many values as it has. One that document 01 does not know shows all five.
 pub fn answer(kind: u64, values: &Values) -> Vec<u64> {
@@ -18,11 +18,11 @@ pub fn answer(kind: u64, values: &Values) -> Vec<u64> {
 // get pointers that may be written through, so that a write would show.
 macro_rules! lend {
     ($exported:ident, $tables:ident, $values:ident $(, $argument:expr)*) => {
-        // SAFETY: the head is five numbers, as a head of the wrapper is, and so are the values; each other pointer is good for as
-        // much as the length behind it says, and all are lent for this call alone.
+        // SAFETY: the head, a setup and the values are one of each, and every other pointer is good for as much as the length
+        // behind it says. All are lent for this call alone.
         unsafe {
             raw::$exported(
-                $tables.head.as_mut_ptr().cast(),
+                &raw mut $tables.head,
                 $tables.waiting.as_mut_ptr(),
                 $tables.waiting.len(),
                 $tables.client_numbers.as_mut_ptr().cast(),
@@ -35,7 +35,7 @@ macro_rules! lend {
 }
 
 pub fn open(t: &mut Tables, clients: u64, period: u64, values: &mut Values) -> u64 {
-    let setup = Setup { clients, period };
+    let setup = setup(clients, period);
     lend!(welsbell_open, t, values, &setup)
 }
 

@@ -7,19 +7,13 @@ use crate::tables::{Client, Request, Tables, END, MOST_AHEAD, MOST_COUNTED, MOST
 
 pub type Damage = fn(&mut Tables, &mut Random);
 
-const CLIENTS: usize = 0;
-const PERIOD: usize = 1;
-const CLOCK: usize = 2;
-const LAST: usize = 3;
-const WAITING: usize = 4;
-
 // In the order of the clauses.
 pub const DAMAGES: [&[Damage]; CLAUSES.len()] = [
     &[no_clients, too_many_clients],
     &[
-        |t, _| t.head[PERIOD] = 0,
-        |t, _| t.head[PERIOD] = MOST_PERIOD + 1,
-        |t, _| t.head[PERIOD] = u64::MAX,
+        |t, _| t.head.setup.period = 0,
+        |t, _| t.head.setup.period = MOST_PERIOD + 1,
+        |t, _| t.head.setup.period = u64::MAX,
     ],
     &[
         |t, _| move_clock(t, END + 1),
@@ -28,17 +22,17 @@ pub const DAMAGES: [&[Damage]; CLAUSES.len()] = [
         last_clock_of_64_bits,
     ],
     &[
-        |t, _| t.head[LAST] = END + 1,
-        |t, random| t.head[LAST] = END + random.between(2, 99),
-        |t, _| t.head[LAST] = u64::MAX,
+        |t, _| t.head.last = END + 1,
+        |t, random| t.head.last = END + random.between(2, 99),
+        |t, _| t.head.last = u64::MAX,
     ],
     &[swap_neighbours, swap_any, equal_in_both, larger_number_first],
     &[
-        |t, _| first_deadline(t, t.head[CLOCK]),
-        |t, random| first_deadline(t, t.head[CLOCK].saturating_sub(random.between(1, 9))),
+        |t, _| first_deadline(t, t.head.clock),
+        |t, random| first_deadline(t, t.head.clock.saturating_sub(random.between(1, 9))),
         |t, _| first_deadline(t, 0),
-        |t, _| last_deadline(t, t.head[CLOCK].saturating_add(MOST_AHEAD + 1)),
-        |t, random| last_deadline(t, t.head[CLOCK].saturating_add(MOST_AHEAD + random.between(2, 99))),
+        |t, _| last_deadline(t, t.head.clock.saturating_add(MOST_AHEAD + 1)),
+        |t, random| last_deadline(t, t.head.clock.saturating_add(MOST_AHEAD + random.between(2, 99))),
         |t, _| last_deadline(t, u64::MAX),
         |t, random| edit_waiting(t, random, |request| request.deadline = 0),
     ],
@@ -97,16 +91,16 @@ pub const LENGTHS: [Damage; 15] = [
     |t, random| lengthen(t, random, WIDTH),
     |t, random| carry(t, random, THIRDS[0]),
     |t, random| carry(t, random, THIRDS[1]),
-    |t, _| t.head[CLIENTS] = t.head[CLIENTS].wrapping_add(1),
-    |t, _| t.head[CLIENTS] = t.head[CLIENTS].wrapping_sub(1),
-    |t, _| t.head[CLIENTS] = u64::MAX,
-    |t, _| t.head[WAITING] = t.waiting.len() as u64 + 1,
-    |t, _| t.head[WAITING] = u64::MAX,
-    |t, _| t.head[WAITING] = 1 << 32,
+    |t, _| t.head.setup.clients = t.head.setup.clients.wrapping_add(1),
+    |t, _| t.head.setup.clients = t.head.setup.clients.wrapping_sub(1),
+    |t, _| t.head.setup.clients = u64::MAX,
+    |t, _| t.head.waiting = t.waiting.len() as u64 + 1,
+    |t, _| t.head.waiting = u64::MAX,
+    |t, _| t.head.waiting = 1 << 32,
 ];
 
 fn waiting_count(t: &Tables) -> usize {
-    t.waiting.len().min(t.head[WAITING] as usize)
+    t.waiting.len().min(t.head.waiting as usize)
 }
 
 fn uncount(t: &mut Tables, client: u64) {
@@ -121,24 +115,24 @@ fn take_out_all(t: &mut Tables) {
         uncount(t, t.waiting[place].client);
     }
     t.waiting.fill(Request::default());
-    t.head[WAITING] = 0;
+    t.head.waiting = 0;
 }
 
 fn no_clients(t: &mut Tables, _: &mut Random) {
     take_out_all(t);
-    t.head[CLIENTS] = 0;
+    t.head.setup.clients = 0;
     t.client_numbers.clear();
 }
 
 fn too_many_clients(t: &mut Tables, random: &mut Random) {
-    t.head[CLIENTS] = random.between(257, 400);
-    t.client_numbers.resize(WIDTH * t.head[CLIENTS] as usize, 0);
+    t.head.setup.clients = random.between(257, 400);
+    t.client_numbers.resize(WIDTH * t.head.setup.clients as usize, 0);
 }
 
 // The deadlines move with it.
 fn move_clock(t: &mut Tables, to: u64) {
-    let by = to.wrapping_sub(t.head[CLOCK]);
-    t.head[CLOCK] = to;
+    let by = to.wrapping_sub(t.head.clock);
+    t.head.clock = to;
     for place in 0..waiting_count(t) {
         let deadline = &mut t.waiting[place].deadline;
         *deadline = deadline.wrapping_add(by);
@@ -147,7 +141,7 @@ fn move_clock(t: &mut Tables, to: u64) {
 
 fn last_clock_of_64_bits(t: &mut Tables, _: &mut Random) {
     take_out_all(t);
-    t.head[CLOCK] = u64::MAX;
+    t.head.clock = u64::MAX;
 }
 
 fn swap_neighbours(t: &mut Tables, random: &mut Random) {
@@ -201,20 +195,20 @@ fn edit_waiting(t: &mut Tables, random: &mut Random, edit: impl Fn(&mut Request)
 }
 
 fn number_not_given(t: &mut Tables, random: &mut Random) {
-    let number = t.head[LAST].saturating_add(random.between(1, 3));
+    let number = t.head.last.saturating_add(random.between(1, 3));
     edit_waiting(t, random, |request| request.number = number);
 }
 
 // It has number 0.
 fn count_a_free_record(t: &mut Tables, _: &mut Random) {
     if waiting_count(t) < t.waiting.len() {
-        t.head[WAITING] += 1;
+        t.head.waiting += 1;
     }
 }
 
 // Its client before has submitted one less.
 fn move_to_client(t: &mut Tables, random: &mut Random, client: impl Fn(u64) -> u64) {
-    let (count, client) = (waiting_count(t), client(t.head[CLIENTS]));
+    let (count, client) = (waiting_count(t), client(t.head.setup.clients));
     if count > 0 {
         let place = random.below(count);
         uncount(t, t.waiting[place].client);
@@ -224,7 +218,7 @@ fn move_to_client(t: &mut Tables, random: &mut Random, client: impl Fn(u64) -> u
 
 // The records up to this place have to end before there is room for the last of them.
 fn overfill(t: &mut Tables, place: usize) {
-    let full = t.head[CLOCK].saturating_add(place as u64);
+    let full = t.head.clock.saturating_add(place as u64);
     let records = &mut t.waiting[..=place];
     for record in records.iter_mut() {
         record.deadline = record.deadline.min(full);
@@ -257,7 +251,7 @@ fn edit_free(t: &mut Tables, random: &mut Random, edit: impl Fn(&mut Request, u6
 fn leave_one_uncounted(t: &mut Tables, _: &mut Random) {
     if let Some(last) = waiting_count(t).checked_sub(1) {
         uncount(t, t.waiting[last].client);
-        t.head[WAITING] = last as u64;
+        t.head.waiting = last as u64;
     }
 }
 
@@ -289,5 +283,5 @@ fn lengthen(t: &mut Tables, random: &mut Random, by: usize) {
 fn carry(t: &mut Tables, random: &mut Random, third: u64) {
     let odd = 1 + random.below(2);
     lengthen(t, random, odd);
-    t.head[CLIENTS] = third.wrapping_mul(t.client_numbers.len() as u64);
+    t.head.setup.clients = third.wrapping_mul(t.client_numbers.len() as u64);
 }

@@ -1,6 +1,6 @@
 //! The exported calls held to the model: after each call its answer, the head, every record of both tables and the output.
 use crate::calls;
-use crate::model::{Answer, Call, Counts, Fault, Head, Queue, Setup};
+use crate::model::{Answer, Call, Counts, Fault, Queue};
 use crate::tables::{Client, Tables, Values, WIDTH};
 use crate::tally::Tally;
 use std::fmt::Debug;
@@ -10,19 +10,13 @@ const UNWRITTEN: u64 = 0xA5A5_A5A5_A5A5_A5A5;
 
 // The tables as the model takes them.
 pub fn queue_of(tables: &Tables) -> Queue {
-    let [clients, period, clock, last, waiting] = tables.head;
     let counts = tables.clients().iter().map(|client| Counts {
         submitted: client.submitted.into(),
         served: client.served.into(),
         dropped: client.dropped.into(),
     });
     Queue {
-        head: Head {
-            setup: Setup { clients, period },
-            clock,
-            last,
-            waiting,
-        },
+        head: tables.head,
         records: tables.waiting.clone(),
         clients: counts.collect(),
         odd_numbers: tables.client_numbers.len() % WIDTH,
@@ -32,8 +26,7 @@ pub fn queue_of(tables: &Tables) -> Queue {
 
 // Writes what the model holds over the tables that it was taken from; numbers behind the last whole record stay.
 fn write(queue: &Queue, tables: &mut Tables) {
-    let head = &queue.head;
-    tables.head = [head.setup.clients, head.setup.period, head.clock, head.last, head.waiting];
+    tables.head = queue.head;
     tables.waiting.copy_from_slice(&queue.records);
     for (client, counts) in tables.clients_mut().iter_mut().zip(&queue.clients) {
         *client = Client {
@@ -137,7 +130,7 @@ impl Held {
 
     fn tables_differ(&self) -> Option<String> {
         let (expected, came) = (&self.expected, &self.lent);
-        differ("head", &expected.head, &came.head)
+        differ("head", &[expected.head], &[came.head])
             .or(differ("waiting", &expected.waiting, &came.waiting))
             .or(differ("clients", expected.clients(), came.clients()))
             .or(differ("client numbers", &expected.client_numbers, &came.client_numbers))

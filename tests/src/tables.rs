@@ -3,7 +3,7 @@
 use std::slice::{from_raw_parts, from_raw_parts_mut};
 
 pub use welsbell::raw::{CHARTED as CHART, DROPPED, IDLE, KEPT, OPENED, REFUSED, REPORTED as REPORT, SERVED};
-pub use welsbell::{Client, Request, END, MOST_AHEAD, MOST_CLIENTS, MOST_COUNTED, MOST_PERIOD, MOST_RECORDS};
+pub use welsbell::{Client, Head, Request, Setup, END, MOST_AHEAD, MOST_CLIENTS, MOST_COUNTED, MOST_PERIOD, MOST_RECORDS};
 
 pub fn request(deadline: u64, number: u64, client: u64) -> Request {
     Request {
@@ -13,25 +13,38 @@ pub fn request(deadline: u64, number: u64, client: u64) -> Request {
     }
 }
 
+// Setups and heads of given numbers are made here alone, the model's aside, so that a number more in them has one place.
+pub fn setup(clients: u64, period: u64) -> Setup {
+    Setup { clients, period }
+}
+
+pub fn head(clients: u64, period: u64, clock: u64, last: u64, waiting: u64) -> Head {
+    Head {
+        setup: setup(clients, period),
+        clock,
+        last,
+        waiting,
+    }
+}
+
 // How many numbers a client's record has.
 pub const WIDTH: usize = 3;
 
-// The head is clients, period, clock, last request number and waiting count. The client table is its numbers, so that it can have
-// lengths that are no records.
+// The client table is its numbers, so that it can have lengths that are no records.
 #[derive(Clone, Debug, PartialEq)]
 pub struct Tables {
-    pub head: [u64; 5],
+    pub head: Head,
     pub waiting: Vec<Request>,
     pub client_numbers: Vec<u32>,
 }
 
 impl Tables {
     // Tables of so many records, and of the head's clients, all zero.
-    pub fn zero(head: [u64; 5], records: usize) -> Tables {
+    pub fn zero(head: Head, records: usize) -> Tables {
         Tables {
             head,
             waiting: vec![Request::default(); records],
-            client_numbers: vec![0; WIDTH * head[0] as usize],
+            client_numbers: vec![0; WIDTH * head.setup.clients as usize],
         }
     }
 
@@ -48,7 +61,7 @@ impl Tables {
 
     // Head, waiting table and client table at once.
     #[inline(always)]
-    pub fn parts(&mut self) -> (&mut [u64; 5], &mut [Request], &mut [Client]) {
+    pub fn parts(&mut self) -> (&mut Head, &mut [Request], &mut [Client]) {
         let (whole, _) = self.client_numbers.as_chunks_mut::<WIDTH>();
         // SAFETY: as above, and they are borrowed as long as the records are.
         let clients = unsafe { from_raw_parts_mut(whole.as_mut_ptr().cast(), whole.len()) };

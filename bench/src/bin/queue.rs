@@ -4,7 +4,7 @@ use bench::agree::agree;
 use bench::fail;
 use bench::measure::{clock, measure, ratios, Row, ROUNDS};
 use bench::timed::{calls, growing};
-use tests::tables::{MOST_CLIENTS, MOST_RECORDS};
+use tests::tables::{Head, MOST_CLIENTS, MOST_RECORDS};
 
 // For tables of many lengths.
 const LENGTHS: [usize; 7] = [1, 4, 16, 64, 256, 1_024, MOST_RECORDS];
@@ -39,12 +39,12 @@ fn compare() {
     println!("                            waiting  clients   proved    tuned    floor  proved:tuned  proved:floor");
     let rows = measure([1, MOST_CLIENTS].into_iter().flat_map(calls));
     for row in &rows {
-        let [clients, .., waiting] = row.timed.tables.head;
+        let Head { setup, waiting, .. } = row.timed.tables.head;
         let [proved, tuned, floor] = row.least();
         let [to_tuned, to_floor] = ratios(row.least());
         print!(
-            "{:28}{waiting:7}  {clients:7} {proved:8.0} {tuned:8.0} {floor:8.0}",
-            row.timed.name
+            "{:28}{waiting:7}  {:7} {proved:8.0} {tuned:8.0} {floor:8.0}",
+            row.timed.name, setup.clients
         );
         println!("  {to_tuned:12.2}  {to_floor:12.2}");
     }

@@ -1,6 +1,6 @@
 -- Laws of numbers with records changed: the same as records with these changed. Assumes nothing.
 use Prim.Native.Nat.{ℕ, zero, suc, _+_, _*_, _≤_, _<_}
-use mathlib.Core.Path.{_≡_, refl, sym, ap, _∙_}
+use mathlib.Core.Path.{_≡_, refl, ap, _∙_}
 use mathlib.Core.Bool.{Bool, true, false, cond, _&&_}
 use mathlib.Core.List.{List, [], _∷_, _++_, map}
 use native.Mathlib.Numerals.{add-one}
@@ -9,12 +9,12 @@ use borrow.Author.Tests.{lt-ltb}
 use lib.Dec.{ltb}
 use lib.ListN.{length, getD, set, drop, replicate}
 use Rattle.spec.specs.declared.types.Counts.{Counts}
-use Rattle.spec.specs.Tables.{zeroCounts, width, recordOf, recordThen, recordsOf, numbersOf}
+use Rattle.spec.specs.Tables.{zeroCounts, width, recordThen, recordsOf, numbersOf}
 use Rattle.spec.specs.Calls.{change, isPeriodStart}
 use Rattle.columns.specs.declared.clients.Count.{Count}
 use Rattle.columns.specs.Widths.{largest32}
-use Rattle.columns.specs.Clients.{changedAt, changedAll, saturatingNext, countIn, oneMoreIn, more, restartedCounts, restartedNumbers}
-use Rattle.spec.proofs.Laws.Layout.{next-first, next-other, records-numbers, numbers-records}
+use Rattle.columns.specs.Clients.{changedAt, changedAll, saturatingNext, countOf, oneMoreOf, oneMoreUnlessFull, restartedCounts, restartedNumbers}
+use Rattle.spec.proofs.Laws.Layout.{next-first, next-other, records-numbers}
 
 module _ (f : Counts → Counts) where
   -- ---- as long as before
@@ -25,29 +25,6 @@ module _ (f : Counts → Counts) where
   length-changedAt i (a ∷ b ∷ []) = refl
   length-changedAt zero (a ∷ b ∷ c ∷ xs) = refl
   length-changedAt (suc i) (a ∷ b ∷ c ∷ xs) = omega (arith, length-changedAt i xs)
-
-  pub length-changedAll : (xs : List ℕ) → length (changedAll f xs) ≡ length xs
-  unfolding changedAll
-  length-changedAll [] = refl
-  length-changedAll (a ∷ []) = refl
-  length-changedAll (a ∷ b ∷ []) = refl
-  length-changedAll (a ∷ b ∷ c ∷ xs) = omega (arith, length-changedAll xs)
-
-  -- ---- the records then
-  pub records-changedAt : (i : ℕ) (xs : List ℕ) → recordsOf (changedAt f i xs) ≡ change f i (recordsOf xs)
-  unfolding recordsOf changedAt change
-  records-changedAt i [] = refl
-  records-changedAt i (a ∷ []) = refl
-  records-changedAt i (a ∷ b ∷ []) = refl
-  records-changedAt zero (a ∷ b ∷ c ∷ xs) = refl
-  records-changedAt (suc i) (a ∷ b ∷ c ∷ xs) = ap (λ (l : List Counts). recordOf a b c ∷ l) (records-changedAt i xs)
-
-  pub records-changedAll : (xs : List ℕ) → recordsOf (changedAll f xs) ≡ map f (recordsOf xs)
-  unfolding recordsOf changedAll
-  records-changedAll [] = refl
-  records-changedAll (a ∷ []) = refl
-  records-changedAll (a ∷ b ∷ []) = refl
-  records-changedAll (a ∷ b ∷ c ∷ xs) = ap (λ (l : List Counts). f (recordOf a b c) ∷ l) (records-changedAll xs)
 
   -- ---- the numbers of records
   pub changedAt-numbers : (i : ℕ) (cs : List Counts) → changedAt f i (numbersOf cs) ≡ numbersOf (change f i cs)
@@ -60,14 +37,6 @@ module _ (f : Counts → Counts) where
   unfolding numbersOf changedAll
   changedAll-numbers [] = refl
   changedAll-numbers (k ∷ cs) = ap (recordThen (f k)) (changedAll-numbers cs)
-
-  -- ---- numbers that are whole records, and no number more
-  module _ (xs : List ℕ) (whole : length xs ≡ width * length (recordsOf xs)) where
-    pub changedAt-whole : (i : ℕ) → changedAt f i xs ≡ numbersOf (change f i (recordsOf xs))
-    changedAt-whole i = ap (changedAt f i) (sym (numbers-records xs whole)) ∙ changedAt-numbers i (recordsOf xs)
-
-    pub changedAll-whole : changedAll f xs ≡ numbersOf (map f (recordsOf xs))
-    changedAll-whole = ap (changedAll f) (sym (numbers-records xs whole)) ∙ changedAll-numbers (recordsOf xs)
 
 -- ---- where nothing changes, and where two changes are the same
 pub changedAt-none : (f : Counts → Counts) (i : ℕ) (xs : List ℕ) → length (recordsOf xs) ≤ i → changedAt f i xs ≡ xs
@@ -101,17 +70,17 @@ put-changed (a ∷ b ∷ c ∷ xs) (suc i) k h =
     (ap (λ (l : List ℕ). a ∷ b ∷ c ∷ l) (put-changed xs i k (omega arith)))
 
 -- ---- one more of a count
-module _ (count : Count) where
-  more-changed : (client : ℕ) (xs : List ℕ) → countIn count (getD (recordsOf xs) client zeroCounts) < largest32
-      → changedAt (more count) client xs ≡ changedAt (oneMoreIn count) client xs
+module _ (which : Count) where
+  more-changed : (client : ℕ) (xs : List ℕ) → countOf which (getD (recordsOf xs) client zeroCounts) < largest32
+      → changedAt (oneMoreUnlessFull which) client xs ≡ changedAt (oneMoreOf which) client xs
   more-changed client xs h =
-      changedAt-same (more count) (oneMoreIn count) client xs
-      (rw (lt-ltb (countIn count (getD (recordsOf xs) client zeroCounts)) largest32 h))
+      changedAt-same (oneMoreUnlessFull which) (oneMoreOf which) client xs
+      (rw (lt-ltb (countOf which (getD (recordsOf xs) client zeroCounts)) largest32 h))
 
-  pub more-numbers : (client : ℕ) (cs : List Counts) → countIn count (getD cs client zeroCounts) < largest32
-      → changedAt (more count) client (numbersOf cs) ≡ numbersOf (change (oneMoreIn count) client cs)
+  pub more-numbers : (client : ℕ) (cs : List Counts) → countOf which (getD cs client zeroCounts) < largest32
+      → changedAt (oneMoreUnlessFull which) client (numbersOf cs) ≡ numbersOf (change (oneMoreOf which) client cs)
   more-numbers client cs h =
-      more-changed client (numbersOf cs) (rw (records-numbers cs) h) ∙ changedAt-numbers (oneMoreIn count) client cs
+      more-changed client (numbersOf cs) (rw (records-numbers cs) h) ∙ changedAt-numbers (oneMoreOf which) client cs
 
 -- a number that rises unless it is the largest, chosen in a record or between two
 pub next-record : (f : ℕ → Counts) (n : ℕ) → f (saturatingNext n) ≡ cond (ltb n largest32) (f (suc n)) (f n)

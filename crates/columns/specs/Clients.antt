@@ -30,19 +30,19 @@ abbrev pub saturatingNext : ℕ → ℕ
 saturatingNext n = cond (ltb n largest32) (suc n) n
 
 -- one of a client's counts, and the counts with 1 added to it
-abbrev pub countIn : Count → Counts → ℕ
-countIn Submitted k = k .submitted
-countIn Served k = k .served
-countIn Dropped k = k .dropped
+abbrev pub countOf : Count → Counts → ℕ
+countOf Submitted k = k .submitted
+countOf Served k = k .served
+countOf Dropped k = k .dropped
 
-abbrev pub oneMoreIn : Count → Counts → Counts
-oneMoreIn Submitted k = oneMoreSubmitted k
-oneMoreIn Served k = oneMoreServed k
-oneMoreIn Dropped k = oneMoreDropped k
+abbrev pub oneMoreOf : Count → Counts → Counts
+oneMoreOf Submitted k = oneMoreSubmitted k
+oneMoreOf Served k = oneMoreServed k
+oneMoreOf Dropped k = oneMoreDropped k
 
 -- "adds 1 to" one of them, unless it is the largest number of 32 bits
-abbrev pub more : Count → Counts → Counts
-more count k = cond (ltb (countIn count k) largest32) (oneMoreIn count k) k
+abbrev pub oneMoreUnlessFull : Count → Counts → Counts
+oneMoreUnlessFull which k = cond (ltb (countOf which k) largest32) (oneMoreOf which k) k
 
 -- what was submitted and neither served nor dropped: in sound tables the client's waiting count
 abbrev pub waitingCount : Counts → ℕ

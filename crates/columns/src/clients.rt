@@ -1,12 +1,12 @@
 // The client table as one lent slice of numbers: client c's submitted, served and dropped are the numbers 3c, 3c + 1 and 3c + 2.
-// Only `get` and `put` know where a record stands, and the two functions before them how many numbers it is.
+// Only `get` and `put` know where in the table a record's counts stand.
 use spec::types::Counts;
 ghost use mathlib.Core.Path.{_≡_};
 ghost use Prim.Native.Nat.{_+_, _*_, _<_};
 ghost use lib.Dec.{eqb};
 ghost use lib.ListN.{length, getD, replicate};
 ghost use Rattle.spec.specs.Tables.{width, recordsOf, zeroCounts};
-ghost use Rattle.columns.specs.Clients.{changedAt, saturatingNext, more, waitingCount};
+ghost use Rattle.columns.specs.Clients.{changedAt, saturatingNext, oneMoreUnlessFull, waitingCount};
 
 // How many numbers a record is.
 pub const WIDTH: usize = 3;
@@ -93,12 +93,12 @@ pub enum Count {
     Dropped,
 }
 
-// Counts with one more of one of them.
-fn more(k: Counts, count: Count) -> Counts
-    ensures { λ r. ⌜ r ≡ more count k ⌝ }
+// Counts with 1 added to one of them, unless it is the largest number.
+fn one_more(k: Counts, which: Count) -> Counts
+    ensures { λ r. ⌜ r ≡ oneMoreUnlessFull which k ⌝ }
 {
     let mut counted = k;
-    match count {
+    match which {
         Count::Submitted => {
             counted.submitted = saturating_next(k.submitted);
             counted
@@ -115,11 +115,11 @@ fn more(k: Counts, count: Count) -> Counts
 }
 
 // Adds 1 to one of a client's counts.
-pub fn add_one(numbers: &mut [u32], client: u64, count: Count)
-    ensures { λ _. ⌜ now (numbers .exit) ≡ changedAt (more count) client (now (numbers .entry)) ⌝ }
+pub fn add_one(numbers: &mut [u32], client: u64, which: Count)
+    ensures { λ _. ⌜ now (numbers .exit) ≡ changedAt (oneMoreUnlessFull which) client (now (numbers .entry)) ⌝ }
 {
     let k = counts_at(numbers, client);
-    let counted = more(k, count);
+    let counted = one_more(k, which);
     put_at(numbers, client, counted);
 }
 

@@ -16,7 +16,7 @@ use Rattle.spec.specs.Order.{insertAt, removeAt}
 use Rattle.spec.specs.Calls.{Outcome}
 use Rattle.columns.specs.Widths.{largest64}
 use Rattle.columns.specs.declared.clients.Count.the-variants as count
-use Rattle.columns.specs.Clients.{changedAt, more, waitingCount, restartedNumbers}
+use Rattle.columns.specs.Clients.{changedAt, oneMoreUnlessFull, waitingCount, restartedNumbers}
 use Rattle.table.specs.Records.{areIn, inserted}
 use Rattle.decide.specs.declared.types.Decision.{Decision}
 use Rattle.decide.specs.declared.types.Decision.the-variants.{Refuse, Keep, Drop, Serve, Idle}
@@ -145,8 +145,8 @@ submitReply head gone Idle = refusedWith head 0
 
 abbrev pub submitNumbers : ℕ → Request → Decision → List ℕ → List ℕ
 submitNumbers client gone (Refuse number) xs = xs
-submitNumbers client gone (Keep place) xs = changedAt (more count.Submitted) client xs
-submitNumbers client gone (Drop place victim) xs = changedAt (more count.Dropped) (gone .client) (changedAt (more count.Submitted) client xs)
+submitNumbers client gone (Keep place) xs = changedAt (oneMoreUnlessFull count.Submitted) client xs
+submitNumbers client gone (Drop place victim) xs = changedAt (oneMoreUnlessFull count.Dropped) (gone .client) (changedAt (oneMoreUnlessFull count.Submitted) client xs)
 submitNumbers client gone Serve xs = xs
 submitNumbers client gone Idle xs = xs
 
@@ -167,7 +167,7 @@ tickNumbers head gone (Refuse number) xs = xs
 tickNumbers head gone (Keep place) xs = xs
 tickNumbers head gone (Drop place victim) xs = xs
 tickNumbers head gone Serve xs =
-    restartedNumbers (head .setup .period) (raised (head .clock)) (changedAt (more count.Served) (gone .client) xs)
+    restartedNumbers (head .setup .period) (raised (head .clock)) (changedAt (oneMoreUnlessFull count.Served) (gone .client) xs)
 tickNumbers head gone Idle xs = restartedNumbers (head .setup .period) (raised (head .clock)) xs
 
 -- what a call hands back, and what it leaves of the client table, is what the outcome says

@@ -1,4 +1,4 @@
-// What each call has to do, decided on columns before anything is changed, and what it hands back.
+// What each call has to do, decided before anything is changed, and what it hands back.
 pub mod calls;
 pub mod edits;
 pub mod refusals;

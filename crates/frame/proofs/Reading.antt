@@ -18,7 +18,6 @@ use sound.WpLaws.{fmOf}
 use types.Kit.{Given, Item, regoal, rewrite, ‵, raw, _⊛_, Post, runs, lands, Seq, _$_, _∵_, !, qed, move, use0, use1, drop, split, fsplit, fjoin, frame, updating, now as at-once, show, done}
 use denote.Builtin.{u8}
 use denote.Laws.{Is, Typed, shows}
-use denote.RattleType.{RattleType}
 use denote.Ref.{RefT}
 use denote.Slice.{ShrSlice, shr-slice-copy, shr-slice-tells, shr-slice-lawful}
 use denote.Steps.{only, peeks}

@@ -9,7 +9,6 @@ use lib.Dec.{leb}
 use lib.ListN.{length, getD, take, drop, replicate, length-take, length-drop}
 use lib.Seq.{take-length, take-take, take-add, getD-drop}
 use Rattle.slots.proofs.Laws.Tests.{le, gt, order}
-use Rattle.spec.specs.declared.types.Request.{Request}
 use Rattle.spec.specs.Tables.{State}
 use Rattle.spec.specs.Session.{Text, textOf, replies, atEnd, session, atStart as stateAtStart}
 use Rattle.spec.proofs.Laws.Every.{and-both}

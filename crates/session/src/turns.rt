@@ -12,7 +12,7 @@ use spec::bounds::MOST_RECORDS;
 use spec::types::Answer;
 use spec::types::Frame;
 use spec::types::Head;
-use spec::types::NO_SETUP;
+use spec::types::ZERO_SETUP;
 ghost use mathlib.Core.Bool.{true, false};
 ghost use mathlib.Core.List.{List, _++_};
 ghost use mathlib.Core.Path.{_≡_};
@@ -32,7 +32,7 @@ pub fn start() -> Session
 {
     Session {
         head: Head {
-            setup: NO_SETUP,
+            setup: ZERO_SETUP,
             clock: 0,
             last: 0,
             waiting: 0,

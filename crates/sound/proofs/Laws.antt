@@ -11,7 +11,7 @@ use native.Mathlib.Omega.{arith}
 use borrow.Author.Tests.{leb-true, leb-false, ltb-true, eqb-true, le-leb, lt-leb, lt-ltb, le-ltb, ne-eqb}
 use lib.Bits.{bitOr, or-add-and, and-le-r}
 use lib.Dec.{T, T-not, leb, ltb, eqb, eqb→eq, eqb-refl}
-use lib.ListN.{length, getD, take, drop, replicate}
+use lib.ListN.{length, take, replicate}
 use lib.Seq.{take-all}
 use mir.Val.{boolByte}
 use Rattle.slots.proofs.Laws.Tests.{le, gt, order, Test, holds, fails, test}

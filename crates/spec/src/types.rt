@@ -1,4 +1,4 @@
-// The types of the queue, document 01, "Tables and bounds" and "Calls".
+// The types of the queue, document 01, "Tables and bounds" and "Calls", and the setup before the first open.
 
 // "A record has a deadline, a request number and a client." Laid out as C does, for programs in other languages.
 #[repr(C)]
@@ -22,7 +22,7 @@ pub struct Setup {
 }
 
 // The setup before the first open.
-pub const NO_SETUP: Setup = Setup {
+pub const ZERO_SETUP: Setup = Setup {
     clients: 0,
     period: 0,
 };

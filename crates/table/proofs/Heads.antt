@@ -10,7 +10,6 @@ use types.Kit.{Given}
 use denote.RattleType.{RattleType}
 use denote.Laws.{Is}
 use denote.Struct.Laws as LL
-use Rattle.spec.specs.declared.types.Setup.{Setup}
 use Rattle.spec.specs.declared.types.Head.{Head}
 use Rattle.spec.proofs.types.Setup as S
 use Rattle.spec.proofs.types.Setup.Laws as S′

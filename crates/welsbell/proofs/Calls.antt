@@ -16,14 +16,14 @@ use Rattle.welsbell.proofs.numbers.write_head as write-head
 use Rattle.welsbell.proofs.numbers.write_values as write-values
 
 -- the arrays that are lent: a setup's numbers, a head's and an answer's
-abbrev pub setup-numbers : RattleType
-setup-numbers = Array u64 setupWidth
+abbrev pub setup-array : RattleType
+setup-array = Array u64 setupWidth
 
-abbrev pub head-numbers : RattleType
-head-numbers = Array u64 (setupWidth + 3)
+abbrev pub head-array : RattleType
+head-array = Array u64 (setupWidth + 3)
 
-abbrev pub value-numbers : RattleType
-value-numbers = Array u64 5
+abbrev pub values-array : RattleType
+values-array = Array u64 5
 
 module _ {M : Type 1} {𝓤 : URA M} {H : Heap 𝓤} {A : Atoms 𝓤} (W : Given 𝓤 H A) (mem : Memory → SProp 𝓤) (run : Routine → Fun 𝓤) where
   abbrev HeadOf : Name × Contract 𝓤

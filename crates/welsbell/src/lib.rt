@@ -3,9 +3,9 @@
 // Nothing is asked of the caller but pointers that are good for what is behind them, none lent twice.
 mod numbers;
 
-use numbers::HEAD;
-use numbers::SETUP;
-use numbers::VALUES;
+use numbers::HEAD_WIDTH;
+use numbers::MOST_VALUES;
+use numbers::SETUP_WIDTH;
 use spec::types::Request;
 ghost use mathlib.Core.Path.{_≡_};
 ghost use Rattle.spec.specs.Tables.{setupOf, stateOf};
@@ -26,11 +26,11 @@ pub extern "C" fn welsbell_version() -> u64
 // Open: every record of both tables becomes zero.
 #[no_mangle]
 pub extern "C" fn welsbell_open(
-    head: &mut [u64; HEAD],
+    head: &mut [u64; HEAD_WIDTH],
     waiting: &mut [Request],
     clients: &mut [u32],
-    setup: &[u64; SETUP],
-    values: &mut [u64; VALUES],
+    setup: &[u64; SETUP_WIDTH],
+    values: &mut [u64; MOST_VALUES],
 ) -> u64
     ensures { λ r. ⌜ Exported (opening (setupOf (now (setup .entry))))
         (stateOf (headOf (now (head .entry))) (now (waiting .entry)) (now (clients .entry)))
@@ -47,12 +47,12 @@ pub extern "C" fn welsbell_open(
 // Submit: a request of a client with a deadline.
 #[no_mangle]
 pub extern "C" fn welsbell_submit(
-    head: &mut [u64; HEAD],
+    head: &mut [u64; HEAD_WIDTH],
     waiting: &mut [Request],
     clients: &mut [u32],
     client: u64,
     deadline: u64,
-    values: &mut [u64; VALUES],
+    values: &mut [u64; MOST_VALUES],
 ) -> u64
     ensures { λ r. ⌜ Exported (submit client deadline)
         (stateOf (headOf (now (head .entry))) (now (waiting .entry)) (now (clients .entry)))
@@ -68,10 +68,10 @@ pub extern "C" fn welsbell_submit(
 // Tick: one slot passes.
 #[no_mangle]
 pub extern "C" fn welsbell_tick(
-    head: &mut [u64; HEAD],
+    head: &mut [u64; HEAD_WIDTH],
     waiting: &mut [Request],
     clients: &mut [u32],
-    values: &mut [u64; VALUES],
+    values: &mut [u64; MOST_VALUES],
 ) -> u64
     ensures { λ r. ⌜ Exported tick
         (stateOf (headOf (now (head .entry))) (now (waiting .entry)) (now (clients .entry)))
@@ -87,11 +87,11 @@ pub extern "C" fn welsbell_tick(
 // Report: a client's three counts and its waiting count. Head and tables are only read.
 #[no_mangle]
 pub extern "C" fn welsbell_report(
-    head: &[u64; HEAD],
+    head: &[u64; HEAD_WIDTH],
     waiting: &[Request],
     clients: &[u32],
     client: u64,
-    values: &mut [u64; VALUES],
+    values: &mut [u64; MOST_VALUES],
 ) -> u64
     ensures { λ r. ⌜ Exported (report client)
         (stateOf (headOf (now (head .entry))) (now (waiting .entry)) (now (clients .entry)))
@@ -106,11 +106,11 @@ pub extern "C" fn welsbell_report(
 // Chart: the start slots into the output. Head and tables are only read.
 #[no_mangle]
 pub extern "C" fn welsbell_chart(
-    head: &[u64; HEAD],
+    head: &[u64; HEAD_WIDTH],
     waiting: &[Request],
     clients: &[u32],
     output: &mut [u64],
-    values: &mut [u64; VALUES],
+    values: &mut [u64; MOST_VALUES],
 ) -> u64
     ensures { λ r. ⌜ Exported (chart (now (output .entry)))
         (stateOf (headOf (now (head .entry))) (now (waiting .entry)) (now (clients .entry)))

@@ -11,14 +11,14 @@ ghost use Rattle.spec.specs.Tables.{setupOf};
 ghost use Rattle.welsbell.specs.Numbers.{headOf, valueNumbers, written};
 
 // How many numbers there are: a setup's, a head's, which are its setup's and three more, and an answer's at most.
-pub(crate) const SETUP: usize = 2;
+pub(crate) const SETUP_WIDTH: usize = 2;
 
-pub(crate) const HEAD: usize = SETUP + 3;
+pub(crate) const HEAD_WIDTH: usize = SETUP_WIDTH + 3;
 
-pub(crate) const VALUES: usize = 5;
+pub(crate) const MOST_VALUES: usize = 5;
 
 // The setup whose numbers these are.
-pub(crate) fn setup_of(setup: &[u64; SETUP]) -> Setup
+pub(crate) fn setup_of(setup: &[u64; SETUP_WIDTH]) -> Setup
     ensures { λ r. ⌜ r ≡ setupOf (now (setup .entry)) ⌝ }
 {
     Setup {
@@ -28,7 +28,7 @@ pub(crate) fn setup_of(setup: &[u64; SETUP]) -> Setup
 }
 
 // The head whose numbers these are.
-pub(crate) fn head_of(numbers: &[u64; HEAD]) -> Head
+pub(crate) fn head_of(numbers: &[u64; HEAD_WIDTH]) -> Head
     ensures { λ r. ⌜ r ≡ headOf (now (numbers .entry)) ⌝ }
 {
     Head {
@@ -36,14 +36,14 @@ pub(crate) fn head_of(numbers: &[u64; HEAD]) -> Head
             clients: numbers[0],
             period: numbers[1],
         },
-        clock: numbers[SETUP],
-        last: numbers[SETUP + 1],
-        waiting: numbers[SETUP + 2],
+        clock: numbers[SETUP_WIDTH],
+        last: numbers[SETUP_WIDTH + 1],
+        waiting: numbers[SETUP_WIDTH + 2],
     }
 }
 
 // The head's numbers are written.
-pub(crate) fn write_head(numbers: &mut [u64; HEAD], reply: Reply)
+pub(crate) fn write_head(numbers: &mut [u64; HEAD_WIDTH], reply: Reply)
     ensures { λ _. ⌜ headOf (now (numbers .exit)) ≡ reply .head ⌝ }
 {
     let head = reply.head;
@@ -59,12 +59,12 @@ pub(crate) fn write_head(numbers: &mut [u64; HEAD], reply: Reply)
 // An answer as numbers: its kind, and its values, which are the first `count` of `numbers`.
 struct Line {
     kind: u64,
-    numbers: [u64; VALUES],
+    numbers: [u64; MOST_VALUES],
     count: usize,
 }
 
 impl Line {
-    fn new(kind: u64, numbers: [u64; VALUES], count: usize) -> Self
+    fn new(kind: u64, numbers: [u64; MOST_VALUES], count: usize) -> Self
         ensures { λ r. ⌜ r ≡ record { kind = kind; numbers = numbers; count = count } ⌝ }
     {
         Self {
@@ -80,7 +80,7 @@ fn line_of(answer: Answer) -> Line
     ensures { λ r. ⌜ (r .kind ≡ kindOf answer) × (take (r .count) (r .numbers) ≡ valueNumbers answer) × (r .count ≤ 5) ⌝ }
 {
     match answer {
-        Answer::Opened => Line::new(0x81, [0; VALUES], 0),
+        Answer::Opened => Line::new(0x81, [0; MOST_VALUES], 0),
         Answer::Kept { number, place } => Line::new(0x82, [number, place, 0, 0, 0], 2),
         Answer::Dropped {
             number,
@@ -106,7 +106,7 @@ fn line_of(answer: Answer) -> Line
 }
 
 // The first of the numbers, so many, over the front of the others.
-fn over(others: [u64; VALUES], numbers: [u64; VALUES], count: usize) -> [u64; VALUES]
+fn over(others: [u64; MOST_VALUES], numbers: [u64; MOST_VALUES], count: usize) -> [u64; MOST_VALUES]
     requires { ⌜ count ≤ 5 ⌝ }
     ensures { λ r. ⌜ r ≡ written (take count numbers) others ⌝ }
 {
@@ -120,7 +120,7 @@ fn over(others: [u64; VALUES], numbers: [u64; VALUES], count: usize) -> [u64; VA
 }
 
 // The answer's values are written, and its kind handed back.
-pub(crate) fn write_values(values: &mut [u64; VALUES], reply: Reply) -> u64
+pub(crate) fn write_values(values: &mut [u64; MOST_VALUES], reply: Reply) -> u64
     ensures { λ r. ⌜ (r ≡ kindOf (reply .answer))
         × (now (values .exit) ≡ written (valueNumbers (reply .answer)) (now (values .entry))) ⌝ }
 {

@@ -9,7 +9,7 @@ use tests::model::{Call, KINDS, REFUSED};
 use tests::program::{end, fail, seed};
 use tests::random::tables::{call, sound};
 use tests::random::Random;
-use tests::tables::{Tables, MOST_AHEAD, MOST_PERIOD, MOST_RECORDS};
+use tests::tables::{Head, Tables, MOST_AHEAD, MOST_PERIOD, MOST_RECORDS};
 
 // So many small tables for each way to break a clause, for each pair of clauses, and for each clause with each wrong length.
 const EACH_WAY: usize = 600;
@@ -51,12 +51,12 @@ struct Test {
 
 // Every call, with arguments that sound tables accept and with others.
 fn calls(random: &mut Random, tables: &Tables) -> Vec<Call> {
-    let [clients, _, clock, _, waiting] = tables.head;
+    let Head { setup, clock, .. } = tables.head;
     let lent = tables.clients().len() as u64;
-    let client = random.next() % clients.max(1);
+    let client = random.next() % setup.clients.max(1);
     let near = random.between(1, 9);
     let records = tables.waiting.len();
-    let entries = records.min(waiting as usize);
+    let entries = records.min(tables.head.waiting as usize);
     let opens = [
         (lent, near),
         (lent, MOST_PERIOD),
@@ -70,13 +70,13 @@ fn calls(random: &mut Random, tables: &Tables) -> Vec<Call> {
     let out_of_reach = [clock, clock.saturating_sub(1), clock.saturating_add(MOST_AHEAD + 1), u64::MAX];
     let deadlines = ahead.map(|ahead| clock.saturating_add(ahead)).into_iter().chain(out_of_reach);
     let no_client = Call::Submit {
-        client: clients,
+        client: setup.clients,
         deadline: clock,
     };
     let mut calls = vec![Call::Tick, no_client];
     calls.extend(opens.map(|(clients, period)| Call::Open { clients, period }));
     calls.extend(deadlines.map(|deadline| Call::Submit { client, deadline }));
-    calls.extend([client, clients, u64::MAX].map(|client| Call::Report { client }));
+    calls.extend([client, setup.clients, u64::MAX].map(|client| Call::Report { client }));
     calls.extend([entries, records + 1, entries.saturating_sub(1)].map(|entries| Call::Chart { entries }));
     calls
 }
@@ -187,7 +187,7 @@ impl Test {
         self.held.lend(&tables);
         for _ in 0..10 {
             let before = self.held.tables().clone();
-            let ahead = self.random.one_of(&[2, before.head[4] + 1, MOST_AHEAD]);
+            let ahead = self.random.one_of(&[2, before.head.waiting + 1, MOST_AHEAD]);
             let call = call(&mut self.random, &before, ahead);
             self.held.call(&call).map_err(|e| format!("{e}\n{}", shown(&before)))?;
         }
@@ -251,7 +251,7 @@ fn main() {
     let arguments: Vec<String> = args().collect();
     let mut test = Test {
         random: Random::of_part(seed(arguments.get(1)), 0),
-        held: Held::over(&Tables::zero([0; 5], 0)),
+        held: Held::over(&Tables::zero(Head::default(), 0)),
         tables: 0,
         broken: Default::default(),
         lengths: Default::default(),

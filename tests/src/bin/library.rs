@@ -5,7 +5,6 @@ use std::process::exit;
 use std::thread;
 use tests::calls::*;
 use tests::damages::THIRDS;
-use welsbell::{Answer, Refusal, Setup};
 
 // A waiting record: deadline, number, client.
 type Row = (u64, u64, u64);
@@ -19,7 +18,7 @@ const FRESH: Counts = (0, 0, 0);
 const UNWRITTEN: u64 = u64::MAX;
 
 // Writes the head, the records with zeros behind them, and the counts.
-fn write(t: &mut Tables, head: [u64; 5], rows: &[Row], counts: &[Counts]) {
+fn write(t: &mut Tables, head: Head, rows: &[Row], counts: &[Counts]) {
     t.head = head;
     t.waiting.fill(Request::default());
     for (record, &(deadline, number, client)) in t.waiting.iter_mut().zip(rows) {
@@ -35,15 +34,15 @@ fn write(t: &mut Tables, head: [u64; 5], rows: &[Row], counts: &[Counts]) {
 }
 
 // Tables of so many records, and of as many clients as counts.
-fn tables(records: usize, head: [u64; 5], rows: &[Row], counts: &[Counts]) -> Tables {
-    let mut t = Tables::zero([counts.len() as u64, 0, 0, 0, 0], records);
+fn tables(records: usize, head: Head, rows: &[Row], counts: &[Counts]) -> Tables {
+    let mut t = opened(records, counts.len() as u64);
     write(&mut t, head, rows, counts);
     t
 }
 
 // Tables of so many records just opened for so many clients, with a period that no case reaches.
 fn opened(records: usize, clients: u64) -> Tables {
-    Tables::zero([clients, 1_000_000, 0, 0, 0], records)
+    Tables::zero(head(clients, 1_000_000, 0, 0, 0), records)
 }
 
 // The library under test, the tables lent to it, and what they were before the last call.
@@ -113,30 +112,24 @@ impl Library {
 impl Library {
     fn opened(&self, clients: u64, period: u64) {
         let counts = vec![FRESH; clients as usize];
-        self.gives(&[OPENED], [clients, period, 0, 0, 0], &[], &counts);
+        self.gives(&[OPENED], head(clients, period, 0, 0, 0), &[], &counts);
     }
 
     fn kept(&self, number: u64, place: u64, rows: &[Row], counts: &[Counts]) {
-        let [clients, period, clock, ..] = self.before.head;
-        let head = [clients, period, clock, number, rows.len() as u64];
-        self.gives(&[KEPT, number, place], head, rows, counts);
+        self.gives(&[KEPT, number, place], self.submitted(number, rows), rows, counts);
     }
 
     fn dropped(&self, number: u64, victim: u64, client: u64, rows: &[Row], counts: &[Counts]) {
-        let [clients, period, clock, ..] = self.before.head;
-        let head = [clients, period, clock, number, rows.len() as u64];
+        let head = self.submitted(number, rows);
         self.gives(&[DROPPED, number, victim, client], head, rows, counts);
     }
 
     fn served(&self, slot: u64, number: u64, client: u64, rows: &[Row], counts: &[Counts]) {
-        let [clients, period, _, last, _] = self.before.head;
-        let head = [clients, period, slot + 1, last, rows.len() as u64];
-        self.gives(&[SERVED, slot, number, client], head, rows, counts);
+        self.gives(&[SERVED, slot, number, client], self.ticked(slot, rows), rows, counts);
     }
 
     fn idle(&self, slot: u64, counts: &[Counts]) {
-        let [clients, period, _, last, _] = self.before.head;
-        self.gives(&[IDLE, slot], [clients, period, slot + 1, last, 0], &[], counts);
+        self.gives(&[IDLE, slot], self.ticked(slot, &[]), &[], counts);
     }
 
     fn refused(&self, number: u64) {
@@ -152,7 +145,25 @@ impl Library {
         self.hold(&[CHART, starts.len() as u64], &self.before, &output);
     }
 
-    fn gives(&self, answer: &[u64], head: [u64; 5], rows: &[Row], counts: &[Counts]) {
+    // The head after a submit that gave this number.
+    fn submitted(&self, number: u64, rows: &[Row]) -> Head {
+        Head {
+            last: number,
+            waiting: rows.len() as u64,
+            ..self.before.head
+        }
+    }
+
+    // The head after a tick in this slot.
+    fn ticked(&self, slot: u64, rows: &[Row]) -> Head {
+        Head {
+            clock: slot + 1,
+            waiting: rows.len() as u64,
+            ..self.before.head
+        }
+    }
+
+    fn gives(&self, answer: &[u64], head: Head, rows: &[Row], counts: &[Counts]) {
         let mut expected = self.before.clone();
         write(&mut expected, head, rows, counts);
         self.hold(answer, &expected, &self.output_before);
@@ -160,7 +171,7 @@ impl Library {
 
     fn hold(&self, answer: &[u64], expected: &Tables, output: &[u64]) {
         self.same("answer", answer, &self.answer);
-        self.same("head", &expected.head, &self.tables.head);
+        self.same("head", &[expected.head], &[self.tables.head]);
         self.same("waiting", &expected.waiting, &self.tables.waiting);
         self.same("clients", expected.clients(), self.tables.clients());
         self.same("client numbers", &expected.client_numbers, &self.tables.client_numbers);
@@ -182,7 +193,7 @@ impl Library {
 }
 
 fn session(l: &mut Library) {
-    l.lend(tables(8, [9; 5], &[(9, 9, 9); 8], &[(9, 9, 9); 2]));
+    l.lend(tables(8, head(9, 9, 9, 9, 9), &[(9, 9, 9); 8], &[(9, 9, 9); 2]));
     l.open(2, 100).opened(2, 100);
     l.submit(0, 1).kept(1, 0, &[(1, 1, 0)], &[(1, 0, 0), FRESH]);
     let rows = [(1, 1, 0), (2, 2, 1)];
@@ -194,7 +205,7 @@ fn session(l: &mut Library) {
 }
 
 fn idle_ticks(l: &mut Library) {
-    l.lend(tables(4, [1, 3, 0, 0, 0], &[], &[FRESH]));
+    l.lend(tables(4, head(1, 3, 0, 0, 0), &[], &[FRESH]));
     for slot in 0..7 {
         l.tick().idle(slot, &[FRESH]);
     }
@@ -208,7 +219,7 @@ fn deadlines(l: &mut Library) {
     l.submit(0, 1).kept(1, 0, &[(1, 1, 0)], &[(1, 0, 0)]);
     l.lend(opened(4, 1));
     l.submit(0, MOST_AHEAD).kept(1, 0, &[(MOST_AHEAD, 1, 0)], &[(1, 0, 0)]);
-    l.lend(tables(4, [1, 9, 5, 0, 0], &[], &[FRESH]));
+    l.lend(tables(4, head(1, 9, 5, 0, 0), &[], &[FRESH]));
     l.submit(0, 5).refused(7);
     l.submit(0, 65_541).refused(7);
     l.submit(0, 6).kept(1, 0, &[(6, 1, 0)], &[(1, 0, 0)]);
@@ -225,7 +236,7 @@ fn third_at_two(l: &mut Library) {
 
 // Client 0 waits for deadline 1, and client 1 submits deadline 1 too; its counts are those before.
 fn one_slot_for_two(l: &mut Library, waits: Counts, submits: Counts, is_first_lost: bool) {
-    l.lend(tables(4, [2, 100, 0, 7, 1], &[(1, 7, 0)], &[waits, submits]));
+    l.lend(tables(4, head(2, 100, 0, 7, 1), &[(1, 7, 0)], &[waits, submits]));
     let (w, s) = (waits, (submits.0 + 1, submits.1, submits.2));
     if is_first_lost {
         l.submit(1, 1).dropped(8, 7, 0, &[(1, 8, 1)], &[(w.0, w.1, w.2 + 1), s]);
@@ -350,7 +361,7 @@ fn full_of_many_clients(l: &mut Library) {
 }
 
 fn clock_at_its_end(l: &mut Library) {
-    l.lend(tables(4, [1, 100, END, 0, 0], &[], &[FRESH]));
+    l.lend(tables(4, head(1, 100, END, 0, 0), &[], &[FRESH]));
     l.tick().refused(11);
     l.submit(0, END).refused(7);
     l.submit(0, END + 65_536).refused(7);
@@ -364,19 +375,19 @@ fn clock_at_its_end(l: &mut Library) {
     // the last tick; the end is a multiple of 65,535
     for (period, counts) in [(100, (6, 3, 2)), (65_535, (1, 0, 0))] {
         let rows = [(END, 4, 0), (END + 9, 5, 0)];
-        l.lend(tables(4, [1, period, END - 1, 5, 2], &rows, &[(6, 2, 2)]));
+        l.lend(tables(4, head(1, period, END - 1, 5, 2), &rows, &[(6, 2, 2)]));
         l.tick().served(END - 1, 4, 0, &rows[1..], &[counts]);
         l.tick().refused(11);
     }
-    l.lend(tables(1, [1, 100, END - 1, 0, 0], &[], &[FRESH]));
+    l.lend(tables(1, head(1, 100, END - 1, 0, 0), &[], &[FRESH]));
     l.tick().idle(END - 1, &[FRESH]);
 }
 
 fn last_number(l: &mut Library) {
-    l.lend(tables(4, [1, 100, 0, END, 1], &[(9, END, 0)], &[(1, 0, 0)]));
+    l.lend(tables(4, head(1, 100, 0, END, 1), &[(9, END, 0)], &[(1, 0, 0)]));
     l.submit(0, 9).refused(9);
     let rows = [(9, END - 1, 0), (9, END, 0)];
-    l.lend(tables(4, [1, 100, 0, END - 1, 1], &rows[..1], &[(1, 0, 0)]));
+    l.lend(tables(4, head(1, 100, 0, END - 1, 1), &rows[..1], &[(1, 0, 0)]));
     l.submit(0, 9).kept(END, 1, &rows, &[(2, 0, 0)]);
     l.submit(0, 9).refused(9);
     l.tick().served(0, END - 1, 0, &rows[1..], &[(2, 1, 0)]);
@@ -384,7 +395,7 @@ fn last_number(l: &mut Library) {
 
 fn count_bound(l: &mut Library) {
     let (most, full) = (MOST_COUNTED, (MOST_COUNTED, MOST_COUNTED, 0));
-    l.lend(tables(4, [2, 100, 0, 7, 0], &[], &[full, (most - 1, 0, most - 1)]));
+    l.lend(tables(4, head(2, 100, 0, 7, 0), &[], &[full, (most - 1, 0, most - 1)]));
     l.submit(0, 9).refused(8);
     l.submit(1, 9).kept(8, 0, &[(9, 8, 1)], &[full, (most, 0, most - 1)]);
     l.submit(1, 9).refused(8);
@@ -392,14 +403,14 @@ fn count_bound(l: &mut Library) {
     l.tick().served(0, 8, 1, &[], &[full, (most, 1, most - 1)]);
     // the last that can be submitted is dropped: 0 of many against 3 of 4
     let rows = [(1, 9, 0)];
-    l.lend(tables(2, [2, 100, 0, 9, 1], &rows, &[(4, 0, 3), (most - 1, most - 1, 0)]));
+    l.lend(tables(2, head(2, 100, 0, 9, 1), &rows, &[(4, 0, 3), (most - 1, most - 1, 0)]));
     l.submit(1, 1).dropped(10, 10, 1, &rows, &[(4, 0, 3), (most, most - 1, 1)]);
 }
 
 fn period_starts(l: &mut Library) {
     // clients 0 and 1 have requests waiting, client 2 has none
     let rows = [(101, 3, 1), (102, 4, 0), (105, 6, 1), (105, 7, 1)];
-    l.lend(tables(6, [3, 100, 98, 7, 4], &rows, &[(9, 5, 3), (8, 4, 1), (7, 3, 4)]));
+    l.lend(tables(6, head(3, 100, 98, 7, 4), &rows, &[(9, 5, 3), (8, 4, 1), (7, 3, 4)]));
     l.tick().served(98, 3, 1, &rows[1..], &[(9, 5, 3), (8, 5, 1), (7, 3, 4)]);
     l.tick().served(99, 4, 0, &rows[2..], &[FRESH, (2, 0, 0), FRESH]);
     l.tick().served(100, 6, 1, &rows[3..], &[FRESH, (2, 1, 0), FRESH]);
@@ -408,17 +419,17 @@ fn period_starts(l: &mut Library) {
     // with none waiting: before a multiple of the period, to it and on from it; then the longest period
     let counts = [(7, 3, 4)];
     for (clock, after) in [(148, counts), (149, [FRESH]), (150, counts)] {
-        l.lend(tables(2, [1, 50, clock, 7, 0], &[], &counts));
+        l.lend(tables(2, head(1, 50, clock, 7, 0), &[], &counts));
         l.tick().idle(clock, &after);
     }
-    l.lend(tables(2, [1, MOST_PERIOD, MOST_PERIOD - 2, 7, 0], &[], &counts));
+    l.lend(tables(2, head(1, MOST_PERIOD, MOST_PERIOD - 2, 7, 0), &[], &counts));
     l.tick().idle(MOST_PERIOD - 2, &counts);
     l.tick().idle(MOST_PERIOD - 1, &[FRESH]);
 }
 
 fn period_of_one(l: &mut Library) {
     let rows = [(4, 1, 0), (4, 2, 1), (4, 3, 0), (9, 4, 1)];
-    l.lend(tables(5, [2, 1, 0, 4, 4], &rows, &[(5, 2, 1), (9, 4, 3)]));
+    l.lend(tables(5, head(2, 1, 0, 4, 4), &rows, &[(5, 2, 1), (9, 4, 3)]));
     l.tick().served(0, 1, 0, &rows[1..], &[(1, 0, 0), (2, 0, 0)]);
     l.tick().served(1, 2, 1, &rows[2..], &[(1, 0, 0), (1, 0, 0)]);
     l.tick().served(2, 3, 0, &rows[3..], &[FRESH, (1, 0, 0)]);
@@ -429,7 +440,7 @@ fn period_of_one(l: &mut Library) {
 fn places(l: &mut Library) {
     let rows = [(10, 4, 1), (20, 1, 0), (20, 3, 1), (30, 2, 0)];
     for (deadline, place) in [(5, 0), (9, 0), (10, 1), (19, 1), (20, 3), (21, 3), (29, 3), (30, 4), (31, 4)] {
-        l.lend(tables(6, [2, 100, 2, 4, 4], &rows, &[(2, 0, 0), (2, 0, 0)]));
+        l.lend(tables(6, head(2, 100, 2, 4, 4), &rows, &[(2, 0, 0), (2, 0, 0)]));
         let mut after = rows.to_vec();
         after.insert(place, (deadline, 5, 0));
         l.submit(0, deadline).kept(5, place as u64, &after, &[(3, 0, 0), (2, 0, 0)]);
@@ -442,7 +453,7 @@ fn one_goes(l: &mut Library, rows: &[Row], lost: usize, place: usize, deadline: 
     let (n, mut rows) = (rows.len(), rows.to_vec());
     let (count, submitted) = (n as u64, n as u32);
     rows[lost].2 = 0;
-    let head = [2, 10_000, 0, count, count];
+    let head = head(2, 10_000, 0, count, count);
     l.lend(tables(n + 1, head, &rows, &[(4, 3, 0), (submitted, 0, 1)]));
     let victim = rows[lost].1;
     rows.insert(place, (deadline, count + 1, 1));
@@ -481,7 +492,7 @@ fn victim_is_the_new(l: &mut Library) {
     // overfull at 4, the new request at the front, between and at the end of the candidates; then overfull at 1
     for (deadline, first) in [(1, 2), (2, 2), (4, 2), (1, 1)] {
         let rows = [(first, 1, 0), (4, 2, 0), (4, 3, 0), (4, 4, 0), (8, 5, 0)];
-        l.lend(tables(6, [2, 100, 0, 5, 5], &rows, &[(9, 1, 3), (2, 2, 0)]));
+        l.lend(tables(6, head(2, 100, 0, 5, 5), &rows, &[(9, 1, 3), (2, 2, 0)]));
         l.submit(1, deadline).dropped(6, 6, 1, &rows, &[(9, 1, 3), (3, 2, 1)]);
     }
 }
@@ -489,13 +500,13 @@ fn victim_is_the_new(l: &mut Library) {
 fn equal_ratios(l: &mut Library) {
     // one client: the last candidate loses, and the record at 9 is none
     let rows = [(2, 1, 0), (3, 2, 0), (3, 3, 0), (9, 4, 0)];
-    l.lend(tables(8, [1, 100, 0, 4, 4], &rows, &[(6, 1, 1)]));
+    l.lend(tables(8, head(1, 100, 0, 4, 4), &rows, &[(6, 1, 1)]));
     let after = [(1, 5, 0), rows[0], rows[1], rows[3]];
     l.submit(0, 1).dropped(5, 3, 0, &after, &[(7, 1, 2)]);
     // 1 of 4, 2 of 8 and 3 of 12: the last of the three; the fourth client has 1 of 3
     let rows = [(4, 1, 0), (4, 2, 1), (4, 3, 2), (4, 4, 3)];
     let counts = [(4, 2, 1), (8, 5, 2), (12, 8, 3), (2, 0, 1)];
-    l.lend(tables(5, [4, 100, 0, 4, 4], &rows, &counts));
+    l.lend(tables(5, head(4, 100, 0, 4, 4), &rows, &counts));
     let after = [(3, 5, 3), rows[0], rows[1], rows[3]];
     let counts = [(4, 2, 1), (8, 5, 2), (12, 8, 4), (3, 0, 1)];
     l.submit(3, 3).dropped(5, 3, 2, &after, &counts);
@@ -504,7 +515,7 @@ fn equal_ratios(l: &mut Library) {
 fn later_ones_are_no_candidates(l: &mut Library) {
     // one segment up to 5, where 2 and 5 become overfull; client 2, with nothing dropped, has all behind 2
     let rows = [(2, 1, 0), (2, 2, 1), (5, 3, 2), (5, 4, 2), (5, 5, 2)];
-    l.lend(tables(8, [3, 100, 0, 5, 5], &rows, &[(2, 0, 1), (4, 0, 3), (3, 0, 0)]));
+    l.lend(tables(8, head(3, 100, 0, 5, 5), &rows, &[(2, 0, 1), (4, 0, 3), (3, 0, 0)]));
     l.chart(5).charted(&[0, 1, 2, 3, 4]);
     let after = [(1, 6, 1), rows[1], rows[2], rows[3], rows[4]];
     l.submit(1, 1).dropped(6, 1, 0, &after, &[(2, 0, 2), (5, 0, 3), (3, 0, 0)]);
@@ -516,7 +527,7 @@ fn opens(l: &mut Library) {
     for (clients, records) in [(1, 1), (2, 3), (most, MOST_RECORDS)] {
         for period in [1, 100, MOST_PERIOD] {
             let counts = vec![(u32::MAX, 1, 2); clients as usize];
-            l.lend(tables(records, [u64::MAX, 0, END + 1, 7, u64::MAX], &anything, &counts));
+            l.lend(tables(records, head(u64::MAX, 0, END + 1, 7, u64::MAX), &anything, &counts));
             l.open(clients, period).opened(clients, period);
         }
     }
@@ -533,7 +544,7 @@ fn opens(l: &mut Library) {
 const GOOD: [Row; 4] = [(12, 4, 0), (12, 7, 1), (20, 2, 0), (25, 5, 1)];
 
 fn good() -> Tables {
-    tables(6, [2, 100, 10, 9, 4], &GOOD, &[(5, 2, 1), (5, 3, 0)])
+    tables(6, head(2, 100, 10, 9, 4), &GOOD, &[(5, 2, 1), (5, 3, 0)])
 }
 
 fn good_tables_are_sound(l: &mut Library) {
@@ -555,7 +566,7 @@ fn no_such_client(l: &mut Library) {
 
 // With arguments that sound tables accept.
 fn all_but_open_refuse(l: &mut Library, number: u64) {
-    let deadline = l.tables.head[2].wrapping_add(9);
+    let deadline = l.tables.head.clock.wrapping_add(9);
     l.submit(0, deadline).refused(number);
     l.tick().refused(number);
     l.report(0).refused(number);
@@ -567,21 +578,21 @@ type Edit = (&'static str, fn(&mut Tables));
 
 // Each breaks one clause of "sound", as far as one can be broken without another.
 const DAMAGES: [Edit; 42] = [
-    ("no clients", |t| *t = tables(6, [0, 100, 10, 9, 0], &[], &[])),
+    ("no clients", |t| *t = tables(6, head(0, 100, 10, 9, 0), &[], &[])),
     ("257 clients", |t| *t = opened(6, 257)),
-    ("period 0", |t| t.head[1] = 0),
-    ("period above its bound", |t| t.head[1] = MOST_PERIOD + 1),
+    ("period 0", |t| t.head.setup.period = 0),
+    ("period above its bound", |t| t.head.setup.period = MOST_PERIOD + 1),
     ("clock past its end", |t| {
-        *t = tables(6, [1, 100, END + 1, 9, 1], &[(END + 3, 5, 0)], &[(1, 0, 0)])
+        *t = tables(6, head(1, 100, END + 1, 9, 1), &[(END + 3, 5, 0)], &[(1, 0, 0)])
     }),
     ("clock past its end, none waiting", |t| {
-        *t = tables(6, [1, 100, END + 1, 9, 0], &[], &[FRESH])
+        *t = tables(6, head(1, 100, END + 1, 9, 0), &[], &[FRESH])
     }),
     ("clock at the last of 64 bits", |t| {
-        *t = tables(6, [1, 100, u64::MAX, 9, 0], &[], &[FRESH])
+        *t = tables(6, head(1, 100, u64::MAX, 9, 0), &[], &[FRESH])
     }),
-    ("last number past its end", |t| t.head[3] = END + 1),
-    ("last number at the last of 64 bits", |t| t.head[3] = u64::MAX),
+    ("last number past its end", |t| t.head.last = END + 1),
+    ("last number at the last of 64 bits", |t| t.head.last = u64::MAX),
     ("later deadline first", |t| t.waiting.swap(2, 3)),
     ("larger number first", |t| t.waiting.swap(0, 1)),
     ("two equal in both", |t| t.waiting[1].number = 4),
@@ -623,8 +634,8 @@ const DAMAGES: [Edit; 42] = [
         let client = &mut t.clients_mut()[1];
         (client.served, client.dropped) = (3 + (1 << 31), 1 << 31);
     }),
-    ("one waiting record not counted", |t| t.head[4] = 3),
-    ("a free record counted", |t| t.head[4] = 5),
+    ("one waiting record not counted", |t| t.head.waiting = 3),
+    ("a free record counted", |t| t.head.waiting = 5),
 ];
 
 fn damaged(l: &mut Library) {
@@ -638,7 +649,7 @@ fn damaged(l: &mut Library) {
 
 // Tables of the largest size, with one record or one count wrong, at each place in turn.
 fn damaged_anywhere(l: &mut Library) {
-    let full = tables(MOST_RECORDS, [256, 100, 0, 2_048, 2_048], &in_turn(), &[(8, 0, 0); 256]);
+    let full = tables(MOST_RECORDS, head(256, 100, 0, 2_048, 2_048), &in_turn(), &[(8, 0, 0); 256]);
     let mut refused = |damage: &dyn Fn(&mut Tables)| {
         l.lend(full.clone());
         damage(&mut l.tables);
@@ -660,17 +671,17 @@ fn damaged_anywhere(l: &mut Library) {
 
 // Each leaves another length, or a waiting count above the length.
 const LENGTHS: [Edit; 11] = [
-    ("no records", |t| *t = tables(0, [2, 100, 10, 9, 0], &[], &[FRESH; 2])),
+    ("no records", |t| *t = tables(0, head(2, 100, 10, 9, 0), &[], &[FRESH; 2])),
     ("2,049 records", |t| t.waiting.resize(2_049, Request::default())),
-    ("a client short", |t| *t = tables(6, [2, 100, 10, 9, 0], &[], &[FRESH])),
-    ("a client more", |t| *t = tables(6, [2, 100, 10, 9, 0], &[], &[FRESH; 3])),
+    ("a client short", |t| *t = tables(6, head(2, 100, 10, 9, 0), &[], &[FRESH])),
+    ("a client more", |t| *t = tables(6, head(2, 100, 10, 9, 0), &[], &[FRESH; 3])),
     ("no numbers of clients", |t| t.client_numbers.clear()),
     ("a number short", |t| t.client_numbers.truncate(5)),
     ("two numbers short", |t| t.client_numbers.truncate(4)),
     ("a number more", |t| t.client_numbers.push(0)),
     ("two numbers more", |t| t.client_numbers.extend([0, 9])),
-    ("waiting count above the table", |t| t.head[4] = 7),
-    ("waiting count at the last of 64 bits", |t| t.head[4] = u64::MAX),
+    ("waiting count above the table", |t| t.head.waiting = 7),
+    ("waiting count at the last of 64 bits", |t| t.head.waiting = u64::MAX),
 ];
 
 // Open asks all of them but the waiting counts.
@@ -691,29 +702,29 @@ fn lengths(l: &mut Library) {
 }
 
 fn before_an_open(l: &mut Library) {
-    l.lend(tables(0, [0; 5], &[], &[]));
+    l.lend(tables(0, Head::default(), &[], &[]));
     all_but_open_refuse(l, 4);
     l.open(1, 1).refused(4);
 }
 
 fn first_match_of_open_and_submit(l: &mut Library) {
-    l.lend(tables(0, [2, 100, 0, 0, 0], &[], &[FRESH; 2]));
+    l.lend(tables(0, head(2, 100, 0, 0, 0), &[], &[FRESH; 2]));
     l.open(0, 0).refused(2);
     l.open(257, 0).refused(2);
     l.open(3, 0).refused(3);
     l.open(3, 100).refused(4);
     // a waiting count above the table, records out of order, a client at its bound, the last number given, a full table
     let (rows, bound) = ([(12, END, 1), (12, 5, 0)], (MOST_COUNTED, MOST_COUNTED - 1, 0));
-    l.lend(tables(2, [2, 100, 10, END, 3], &rows, &[bound, (1, 0, 0)]));
+    l.lend(tables(2, head(2, 100, 10, END, 3), &rows, &[bound, (1, 0, 0)]));
     l.submit(2, 10).refused(4);
-    l.tables.head[4] = 2;
+    l.tables.head.waiting = 2;
     l.submit(2, 10).refused(5);
     l.tables.waiting.swap(0, 1);
     l.submit(2, 10).refused(6);
     l.submit(0, 10).refused(7);
     l.submit(0, 12).refused(8);
     l.submit(1, 12).refused(9);
-    (l.tables.head[3], l.tables.waiting[1].number) = (END - 1, END - 1);
+    (l.tables.head.last, l.tables.waiting[1].number) = (END - 1, END - 1);
     l.submit(0, 12).refused(8);
     l.submit(1, 10).refused(7);
     // though deadline 12 is full
@@ -722,8 +733,8 @@ fn first_match_of_open_and_submit(l: &mut Library) {
 
 // At the end of the clock, a waiting count above the table and a period of 0 are put right, one after the other.
 fn first_match_of_the_others(l: &mut Library) {
-    l.lend(tables(1, [0; 5], &[(END + 1, 1, 0)], &[(1, 0, 0)]));
-    let heads = [[1, 0, END, 1, 2], [1, 0, END, 1, 1], [1, 1, END, 1, 1]];
+    l.lend(tables(1, Head::default(), &[(END + 1, 1, 0)], &[(1, 0, 0)]));
+    let heads = [head(1, 0, END, 1, 2), head(1, 0, END, 1, 1), head(1, 1, END, 1, 1)];
     for (head, [of_report, of_tick, of_chart]) in heads.into_iter().zip([[4; 3], [5; 3], [6, 11, 12]]) {
         l.tables.head = head;
         l.report(1).refused(of_report);
@@ -742,7 +753,7 @@ fn odd_numbers(l: &mut Library) {
                 client_numbers: vec![0; numbers as usize],
                 ..opened(6, 0)
             });
-            l.tables.head[0] = clients;
+            l.tables.head.setup.clients = clients;
             all_but_open_refuse(l, 4);
         }
         for clients in [1, 2, 3] {
@@ -769,70 +780,9 @@ fn little_stack(l: &mut Library) {
     });
 }
 
-// Tables that the wrapper owns, opened, and a call on them that is refused.
-type Refused = fn(&mut welsbell::Tables<2, 2>) -> Answer;
-
-fn opened_with(t: &mut welsbell::Tables<2, 2>, clients: u64, period: u64) -> Answer {
-    t.queue().open(Setup { clients, period })
-}
-
-// Each refusal of the wrapper with its number in document 01 and a call that gives it.
-const REFUSALS: [(Refusal, u64, Refused); 11] = [
-    (Refusal::Clients, 2, |t| opened_with(t, 0, 1)),
-    (Refusal::Period, 3, |t| opened_with(t, 2, 0)),
-    (Refusal::Lengths, 4, |t| opened_with(t, 1, 1)),
-    (Refusal::Unsound, 5, |t| {
-        t.head.setup.period = 0;
-        t.queue().tick()
-    }),
-    (Refusal::Client, 6, |t| t.queue().report(2)),
-    (Refusal::Deadline, 7, |t| t.queue().submit(0, 0)),
-    (Refusal::Count, 8, |t| {
-        (t.clients[0].submitted, t.clients[0].served) = (MOST_COUNTED, MOST_COUNTED);
-        t.queue().submit(0, 1)
-    }),
-    (Refusal::Number, 9, |t| {
-        t.head.last = END;
-        t.queue().submit(0, 1)
-    }),
-    (Refusal::Full, 10, |t| {
-        let answers = [7, 8, 9].map(|deadline| t.queue().submit(0, deadline));
-        answers[2]
-    }),
-    (Refusal::Clock, 11, |t| {
-        t.head.clock = END;
-        t.queue().tick()
-    }),
-    (Refusal::Output, 12, |t| {
-        let _ = t.queue().submit(0, 1);
-        t.queue().chart(&mut [])
-    }),
-];
-
-// The wrapper's refusals by name, and the wrapper's version.
-fn wrapper(l: &mut Library) {
-    l.call = "version".into();
-    l.same("version", &[welsbell::VERSION], &[welsbell::version()]);
-    for (refusal, number, call) in REFUSALS {
-        l.call = format!("{refusal:?}");
-        let mut tables = welsbell::Tables::new();
-        l.same("open", &[Answer::Opened], &[opened_with(&mut tables, 2, 100)]);
-        let answer = call(&mut tables);
-        l.same("answer", &[Answer::Refused(refusal)], &[answer]);
-        l.same("number", &[number], &[refusal.number()]);
-        l.same(
-            "words",
-            &[format!("refused, number {number}: {refusal}")],
-            &[answer.to_string()],
-        );
-        l.calls += 2;
-    }
-    l.same("all refusals", &REFUSALS.map(|(refusal, _, _)| refusal), &Refusal::ALL);
-}
-
 type Case = (&'static str, fn(&mut Library));
 
-const CASES: [Case; 34] = [
+const CASES: [Case; 33] = [
     ("document 01's session", session),
     ("idle ticks", idle_ticks),
     ("deadlines at their bounds", deadlines),
@@ -866,11 +816,10 @@ const CASES: [Case; 34] = [
     ("first match wins: report, tick and chart", first_match_of_the_others),
     ("numbers of clients that are not records", odd_numbers),
     ("a stack of 32 KiB", little_stack),
-    ("the wrapper's refusals by name", wrapper),
 ];
 
 fn main() {
-    let none = tables(0, [0; 5], &[], &[]);
+    let none = tables(0, Head::default(), &[], &[]);
     let mut l = Library {
         case: String::new(),
         calls: 0,

@@ -7,7 +7,7 @@ use tests::model::{Call, KINDS};
 use tests::program::{end, fail, seed};
 use tests::random::tables::call;
 use tests::random::Random;
-use tests::tables::{Tables, END, MOST_COUNTED, MOST_PERIOD, MOST_RECORDS};
+use tests::tables::{head, Head, Tables, END, MOST_COUNTED, MOST_PERIOD, MOST_RECORDS};
 
 // At least so many calls, all phases together.
 const CALLS: u64 = 10_000_000;
@@ -67,7 +67,7 @@ const PHASES: [Phase; 7] = [
     Phase {
         name: "request numbers to their end",
         calls: 1_500_000,
-        moves: |tables| tables.head[3] = END - 400_000,
+        moves: |tables| tables.head.last = END - 400_000,
         ..USUAL
     },
     Phase {
@@ -91,8 +91,8 @@ const PHASES: [Phase; 7] = [
 
 // The deadlines move with it.
 fn move_clock(tables: &mut Tables, to: u64) {
-    let [_, _, clock, _, waiting] = tables.head;
-    tables.head[2] = to;
+    let Head { clock, waiting, .. } = tables.head;
+    tables.head.clock = to;
     for request in &mut tables.waiting[..waiting as usize] {
         request.deadline += to - clock;
     }
@@ -110,7 +110,7 @@ fn move_counts(tables: &mut Tables, to: u32) {
 
 fn run(phase: &Phase, held: &mut Held, random: &mut Random) -> Result<(), String> {
     let &Phase { clients, period, .. } = phase;
-    held.lend(&Tables::zero([clients, 0, 0, 0, 0], phase.records));
+    held.lend(&Tables::zero(head(clients, 0, 0, 0, 0), phase.records));
     held.call(&Call::Open { clients, period })?;
     for number in 0..phase.calls {
         if number == BEFORE_MOVING {
@@ -144,7 +144,7 @@ fn missing(held: &Held) -> Vec<String> {
 fn main() {
     let arguments: Vec<String> = args().collect();
     let mut random = Random::of_part(seed(arguments.get(1)), 0);
-    let mut held = Held::over(&Tables::zero([0; 5], 0));
+    let mut held = Held::over(&Tables::zero(Head::default(), 0));
     for phase in &PHASES {
         let ran = run(phase, &mut held, &mut random);
         ran.unwrap_or_else(|difference| fail(format!("{}: {difference}", phase.name)));

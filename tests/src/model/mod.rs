@@ -10,7 +10,7 @@ pub mod sound;
 pub mod tables;
 
 pub use calls::{Answer, Call, KINDS, REFUSED};
-pub use tables::{Counts, Head, Queue, Setup};
+pub use tables::{Counts, Queue};
 
 // A fault that the model can be made to have, to show that a comparison with it finds faults.
 #[derive(Clone, Copy, Debug, Default, PartialEq, Eq)]

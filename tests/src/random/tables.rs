@@ -1,7 +1,7 @@
 //! Random tables that are sound, many of them at the bounds, and calls on them.
 use crate::model::Call;
 use crate::random::Random;
-use crate::tables::{request, Request, Tables, END, MOST_AHEAD, MOST_COUNTED, MOST_PERIOD};
+use crate::tables::{head, request, Head, Request, Tables, END, MOST_AHEAD, MOST_COUNTED, MOST_PERIOD};
 use std::collections::BTreeSet;
 
 // Tables of so many records, of which so many wait.
@@ -10,7 +10,7 @@ pub fn sound(random: &mut Random, records: usize, waiting: usize) -> Tables {
     let clock = clock(random);
     let last = last(random, waiting as u64);
     let ahead = random.one_of(&[1, 4, 2 * waiting as u64 + 1, MOST_AHEAD]);
-    let mut tables = Tables::zero([clients, period(random, clock), clock, last, waiting as u64], records);
+    let mut tables = Tables::zero(head(clients, period(random, clock), clock, last, waiting as u64), records);
     let requests = requests(random, &tables.head, ahead);
     tables.waiting[..waiting].copy_from_slice(&requests);
     count(random, &mut tables);
@@ -36,13 +36,12 @@ fn last(random: &mut Random, waiting: u64) -> u64 {
 }
 
 // In chart order, with room for each. Deadlines lie at most so far ahead of the clock, or as near as there is room.
-fn requests(random: &mut Random, head: &[u64; 5], ahead: u64) -> Vec<Request> {
-    let &[clients, _, clock, last, waiting] = head;
-    let mut aheads: Vec<u64> = (0..waiting).map(|_| random.between(1, ahead)).collect();
+fn requests(random: &mut Random, head: &Head, ahead: u64) -> Vec<Request> {
+    let mut aheads: Vec<u64> = (0..head.waiting).map(|_| random.between(1, ahead)).collect();
     aheads.sort();
-    let with_room = (1..).zip(aheads).map(|(count, ahead)| clock + ahead.max(count));
-    let mut numbers = numbers(random, waiting as usize, last);
-    let client = |random: &mut Random| random.below(clients as usize) as u64;
+    let with_room = (1..).zip(aheads).map(|(count, ahead)| head.clock + ahead.max(count));
+    let mut numbers = numbers(random, head.waiting as usize, head.last);
+    let client = |random: &mut Random| random.below(head.setup.clients as usize) as u64;
     let mut requests: Vec<Request> = with_room
         .map(|deadline| request(deadline, numbers.swap_remove(random.below(numbers.len())), client(random)))
         .collect();
@@ -73,7 +72,7 @@ fn repeat_a_number(random: &mut Random, requests: &mut [Request]) {
 
 // Counts of served and dropped, few or up to the bound, and submitted as their sum with the waiting records.
 fn count(random: &mut Random, tables: &mut Tables) {
-    for place in 0..tables.head[4] as usize {
+    for place in 0..tables.head.waiting as usize {
         let client = tables.waiting[place].client as usize;
         tables.clients_mut()[client].submitted += 1;
     }
@@ -89,8 +88,8 @@ fn count(random: &mut Random, tables: &mut Tables) {
 
 // A call on tables, one that is accepted for the most part unless they are damaged.
 pub fn call(random: &mut Random, tables: &Tables, ahead: u64) -> Call {
-    let [clients, _, clock, _, waiting] = tables.head;
-    let client = random.next() % clients.max(1);
+    let Head { setup, clock, .. } = tables.head;
+    let client = random.next() % setup.clients.max(1);
     let deadline = clock.saturating_add(random.between(1, ahead));
     match random.below(20) {
         0..=8 => Call::Submit { client, deadline },
@@ -101,7 +100,7 @@ pub fn call(random: &mut Random, tables: &Tables, ahead: u64) -> Call {
         },
         _ => random.one_of(&[
             Call::Submit {
-                client: clients,
+                client: setup.clients,
                 deadline,
             },
             Call::Submit { client, deadline: clock },
@@ -109,9 +108,9 @@ pub fn call(random: &mut Random, tables: &Tables, ahead: u64) -> Call {
                 client,
                 deadline: clock.saturating_add(MOST_AHEAD + 1),
             },
-            Call::Report { client: clients },
+            Call::Report { client: setup.clients },
             Call::Chart {
-                entries: (waiting as usize).saturating_sub(1),
+                entries: (tables.head.waiting as usize).saturating_sub(1),
             },
         ]),
     }

@@ -25,10 +25,10 @@ use Rattle.spec.proofs.Laws.Every.{length-mapFrom, getD-mapFrom}
 use Rattle.spec.proofs.Laws.Layout.{numbers-records, numbers-zero}
 use Rattle.spec.proofs.Laws.Sound.{Balanced, Shaped}
 use Rattle.spec.proofs.Laws.Accepted.{open-ready, TickReady, tick-ready, waiting-length}
-use Rattle.spec.proofs.Calls.Keeps.{Tidy, tidy, Ends, tidy-remove, tidy-restart}
+use Rattle.spec.proofs.Calls.Keeps.{Tidy, tidy, Ends, tidy-remove}
 use Rattle.columns.specs.Widths.{largest32}
-use Rattle.columns.specs.declared.clients.Count.the-variants.{Served}
-use Rattle.columns.specs.Clients.{changedAt, more, restartedCounts, restartedNumbers}
+use Rattle.columns.specs.declared.clients.Count.the-variants as count
+use Rattle.columns.specs.Clients.{changedAt, oneMoreUnlessFull, restartedCounts, restartedNumbers}
 use Rattle.columns.proofs.Changed.{restartedAt, restarted-numbers, more-numbers}
 use Rattle.decide.specs.declared.types.Decision.{Decision}
 use Rattle.decide.specs.declared.types.Decision.the-variants.{Serve}
@@ -149,7 +149,7 @@ module _ (s : State) (r : TickReady s) where
         head = laterHead (s .head) (s .head .waiting - 1);
         answer = answer.Served clock (w .number) (w .client);
       })
-      (restartedNumbers (s .head .setup .period) (raised clock) (changedAt (more Served) (w .client) (s .clientNumbers)))
+      (restartedNumbers (s .head .setup .period) (raised clock) (changedAt (oneMoreUnlessFull count.Served) (w .client) (s .clientNumbers)))
   unfolding tickAccepted removeAt
   served-answers w ws e =
       answers refl
@@ -167,10 +167,10 @@ module _ (s : State) (r : TickReady s) where
       ends : Ends oneMoreServed
       ends = record { submits = λ k. refl; ends = λ k. omega arith }
 
-      counted : changedAt (more Served) (w .client) (s .clientNumbers) ≡ numbersOf cs
+      counted : changedAt (oneMoreUnlessFull count.Served) (w .client) (s .clientNumbers) ≡ numbersOf cs
       counted =
-          ap (changedAt (more Served) (w .client)) (whole s (r .ready .shape))
-          ∙ more-numbers Served (w .client) (clientTable s) (bounded all (w .client) (all .owned .0) .1)
+          ap (changedAt (oneMoreUnlessFull count.Served) (w .client)) (whole s (r .ready .shape))
+          ∙ more-numbers count.Served (w .client) (clientTable s) (bounded all (w .client) (all .owned .0) .1)
 
 -- no tick decides on Keep or Drop
 pub tick-answers : (s : State) {gone : Request} {decision : Decision} {r : Reply} {xs : List ℕ}

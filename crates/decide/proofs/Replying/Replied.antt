@@ -24,8 +24,8 @@ use Rattle.spec.proofs.Laws.Sound.{Owned}
 use Rattle.spec.proofs.Laws.Accepted.{SubmitReady, submit-ready, report-ready, waiting-length}
 use Rattle.spec.proofs.Calls.Victim.{victim-place}
 use Rattle.spec.proofs.Calls.Keeps.{Tidy, tidy, tidy-put}
-use Rattle.columns.specs.declared.clients.Count.the-variants.{Submitted, Dropped}
-use Rattle.columns.specs.Clients.{changedAt, more, waitingCount}
+use Rattle.columns.specs.declared.clients.Count.the-variants as count
+use Rattle.columns.specs.Clients.{changedAt, oneMoreUnlessFull, waitingCount}
 use Rattle.columns.proofs.Changed.{more-numbers}
 use Rattle.decide.specs.declared.types.Decision.{Decision}
 use Rattle.decide.specs.declared.types.Decision.the-variants.{Drop}
@@ -73,25 +73,25 @@ module _ (client deadline : ℕ) (s : State) (ready : SubmitReady client deadlin
         waiting-length s (ready .ready .shape),
       )
 
-  counted : changedAt (more Submitted) client (s .clientNumbers) ≡ numbersOf (countedIn client s)
+  counted : changedAt (oneMoreUnlessFull count.Submitted) client (s .clientNumbers) ≡ numbersOf (countedIn client s)
   counted =
-      ap (changedAt (more Submitted) client) (whole s (ready .ready .shape))
-      ∙ more-numbers Submitted client (clientTable s) (bounded (tidy s (ready .ready)) client (ready .exists) .0)
+      ap (changedAt (oneMoreUnlessFull count.Submitted) client) (whole s (ready .ready .shape))
+      ∙ more-numbers count.Submitted client (clientTable s) (bounded (tidy s (ready .ready)) client (ready .exists) .0)
 
   kept-answers : Answers (kept client deadline s)
       (keptWith (s .head) (placeOf (newRequest client deadline s) (waiting s)))
-      (changedAt (more Submitted) client (s .clientNumbers))
+      (changedAt (oneMoreUnlessFull count.Submitted) client (s .clientNumbers))
   unfolding kept nextState
   kept-answers = answers (rw given) (numbered-head all (s .head) _ given one-more) counted
 
   dropped-answers : (k : ℕ) → k < length all
       → Answers (droppedAt k client deadline s) (droppedWith (s .head) (requestAt k client deadline s))
-      (changedAt (more Dropped) (requestAt k client deadline s .client) (changedAt (more Submitted) client (s .clientNumbers)))
+      (changedAt (oneMoreUnlessFull count.Dropped) (requestAt k client deadline s .client) (changedAt (oneMoreUnlessFull count.Submitted) client (s .clientNumbers)))
   unfolding droppedAt nextState
   dropped-answers k h =
       answers (rw given) (numbered-head (removeAt k all) (s .head) _ given (as-many k h))
-      (ap (changedAt (more Dropped) whose) counted
-      ∙ more-numbers Dropped whose (countedIn client s) (bounded together whose exists .2))
+      (ap (changedAt (oneMoreUnlessFull count.Dropped) whose) counted
+      ∙ more-numbers count.Dropped whose (countedIn client s) (bounded together whose exists .2))
     where
       whose : ℕ
       whose = requestAt k client deadline s .client

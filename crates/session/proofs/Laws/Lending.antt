@@ -10,14 +10,12 @@ use lib.ListN.{length}
 use Rattle.slots.proofs.Laws.Tests.{Same, same-yes, same-no, same}
 use Rattle.spec.specs.declared.types.Setup.{Setup}
 use Rattle.spec.specs.declared.types.Answer.the-variants.{Refused}
-use Rattle.spec.specs.declared.types.Request.{Request}
 use Rattle.spec.specs.Every.{isWithin}
 use Rattle.spec.specs.Tables.{mostRecords, mostClients, State, width}
 use Rattle.spec.specs.Setup.{Refusal, firstMatch, setupRefusals}
 use Rattle.spec.specs.Refusals.{openRefusals}
 use Rattle.spec.specs.Calls.{Outcome, unlessRefused}
 use Rattle.spec.proofs.Laws.Every.{Value, is-true, is-false, value, cond-true}
-use Rattle.spec.specs.Tables.{stateOf}
 use Rattle.session.specs.declared.types.Session.{Session}
 use Rattle.session.specs.Standing.{doFit, upTo}
 

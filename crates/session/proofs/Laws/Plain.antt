@@ -20,7 +20,7 @@ use Rattle.spec.specs.Refusals.{submitRefusals, tickRefusals, reportRefusals, c
 use Rattle.spec.specs.Refusals.{refusal5, refusal12}
 use Rattle.spec.specs.Calls.{Outcome, submitOf, submitAccepted, kept, droppedAt, victimPlace, withNew, tickOf, tickAccepted}
 use Rattle.spec.specs.Calls.{reportOf, reportAccepted, chartOf, chartAccepted, chartOutput}
-use Rattle.spec.specs.Lists.{submit, tick, report, outcomeOf}
+use Rattle.spec.specs.Lists.{outcomeOf}
 use Rattle.spec.specs.Frames.{answerLine, kindOf}
 use Rattle.spec.specs.Session.{reply, replyOf, blank, chartBytes}
 use Rattle.spec.proofs.Demands.Demand1.{Charts, chart-written}

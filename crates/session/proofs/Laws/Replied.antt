@@ -3,7 +3,7 @@ use Prim.Native.Nat.{ℕ}
 use mathlib.Core.Bool.{true, false}
 use mathlib.Core.List.{List, _++_}
 use mathlib.Core.Path.{_≡_}
-use lib.ListN.{length, drop}
+use lib.ListN.{drop}
 use Rattle.spec.specs.declared.types.Frame.{Frame}
 use Rattle.spec.specs.declared.types.Request.{Request}
 use Rattle.spec.specs.Session.{reply}

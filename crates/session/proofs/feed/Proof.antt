@@ -3,7 +3,7 @@
 -- Assumes nothing.
 use prog.Wp.{Env, spotOf}
 use types.Kit.{drop, use0, fsplit, fjoin}
-use denote.Ref.{now, ptr, name}
+use denote.Ref.{now}
 use Rattle.walk.proofs.Prelude.{_≡_, refl, sym, ap, _∙_, subst, lt-of-le-of-lt, erased, number, true, ℕ, _<_, List, [], _∷_, length, lit<, URA, w8, SProp, Lft, Share, ftrue, id⊢, Memory, Routine, Heap, Tables, Out, Wp, afterSeq, afterBlock, afterTurn, atReturn, Atoms, Fun, Given, Item, Sq, runs, anyQ, atRet, ‵, _$_, !, move, rewrite, use2, agg, addr, stop, from, lit, of-opd, and-then, no-more, first, blocks, exec, Below, again, loops, Is, RattleType, u8, u32, u64, sliceVal, Room, Array, tripleOf, InvImage·wf, Nat·lt-wfRel}
 use Rattle.walk.proofs.Prelude.{lent, shown, so, Shape, Walk, proved, Lent-at, tests, var, vars, field-var, sets, sets-last, empties, gives, mut-of, passed-on, takes-out, loan, of-number, taken, given, relends, calls-for, made, fit, copies}
 use Rattle.walk.proofs.Enter.{envAt, Slice, ref}

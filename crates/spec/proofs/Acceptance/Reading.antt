@@ -7,7 +7,6 @@ use mathlib.Core.List.{List, [], _∷_, map}
 use lib.ListN.{replicate}
 use Rattle.slots.specs.Plan.{Slot, none, at}
 use Rattle.spec.specs.declared.types.Counts.{Counts}
-use Rattle.spec.specs.declared.types.Answer.the-variants.{Refused}
 use Rattle.spec.specs.Every.{exists, select}
 use Rattle.spec.specs.Tables.{zeroRequest, zeroCounts, openHead, State, numbersOf}
 use Rattle.spec.specs.Calls.{openOf}

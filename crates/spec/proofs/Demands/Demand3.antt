@@ -13,7 +13,6 @@ use Rattle.slots.proofs.Laws.Sums.{All, total}
 use Rattle.slots.proofs.Single.{Distinct, distinct, distinct-plan}
 use Rattle.slots.proofs.Largest.{largest, reached}
 use Rattle.spec.specs.declared.types.Setup.{Setup}
-use Rattle.spec.specs.declared.types.Head.{Head}
 use Rattle.spec.specs.declared.types.Request.{Request}
 use Rattle.spec.specs.Every.{exists}
 use Rattle.spec.specs.Tables.{State, waiting}

@@ -16,7 +16,7 @@ use Rattle.spec.specs.declared.types.Request.{Request}
 use Rattle.spec.specs.declared.types.Answer.the-variants.{Refused}
 use Rattle.spec.specs.Order.{removeAt}
 use Rattle.spec.specs.Every.{isWithin}
-use Rattle.spec.specs.Tables.{mostClients, mostRecords, mostCounted, clockEnd, numberEnd, mostPeriod, mostAhead, clientTable, width}
+use Rattle.spec.specs.Tables.{mostRecords, mostCounted, clockEnd, numberEnd, mostAhead, clientTable, width}
 use Rattle.spec.specs.Tables.{zeroRequest, zeroCounts, State, waiting, behind, holding, nextState}
 use Rattle.spec.specs.Sound.{isClient, isSound}
 use Rattle.spec.specs.Setup.{Refusal, firstMatch}

@@ -9,7 +9,7 @@ use Rattle.table.proofs.Heads.{the-head, a-head}
 use Rattle.walk.proofs.Prelude.{taken, shown, shown-one, lent-one}
 use Rattle.walk.proofs.Prelude.{Shape, Walk, proved}
 use Rattle.walk.proofs.Prelude.{mut-one, passed-on-one, relends-one}
-use Rattle.welsbell.proofs.Calls.{head-numbers, value-numbers, Exports, cites-numbers}
+use Rattle.welsbell.proofs.Calls.{head-array, values-array, Exports, cites-numbers}
 use Rattle.welsbell.proofs.Exporting.{report-stays, exports-read}
 use Rattle.queue.proofs.report as report
 use Rattle.welsbell.proofs.welsbell_report as f
@@ -17,7 +17,7 @@ use Rattle.welsbell.proofs.welsbell_report as f
 module _ {M : Type 1} (𝓤 : URA M) (H : Heap 𝓤) (A : Atoms 𝓤) (W : Given 𝓤 H A) (mem : Memory → SProp 𝓤) (run : Routine → Fun 𝓤) where
   abbrev shape : Shape W
   shape =
-      Exports W mem run (shown-one head-numbers ∷ shown R ∷ shown u32 ∷ taken (of-number w64) ∷ lent-one value-numbers ∷ []) (f.clauses 𝓤 H A mem run) f.Code.function (λ κs a. refl)
+      Exports W mem run (shown-one head-array ∷ shown R ∷ shown u32 ∷ taken (of-number w64) ∷ lent-one values-array ∷ []) (f.clauses 𝓤 H A mem run) f.Code.function (λ κs a. refl)
       ((report.Symbol.name, tripleOf 𝓤 H A report.signature (report.spec 𝓤 H A mem run)) ∷ [])
 
   walk : (𝓣 : Tables 𝓤 H) → Walk shape 𝓣

@@ -9,8 +9,8 @@ use Rattle.columns.proofs.clients.add_one.Tie as tie
 counts-at-requires : tie.Need-counts-at-requires
 counts-at-requires c κs = search needs
 
-more-requires : tie.Need-more-requires
-more-requires c κs = search needs
+one-more-requires : tie.Need-one-more-requires
+one-more-requires c κs = search needs
 
 put-at-requires : tie.Need-put-at-requires
 put-at-requires c κs = search needs
@@ -22,10 +22,10 @@ returns : tie.Need-returns
 returns c =
     let put = c .before .before in
     let counted = put .before .before in
-    let raised = clients.more (c .before .before .before .before .before .before .before .before .args .count) in
+    let raised = clients.oneMoreUnlessFull (c .before .before .before .before .before .before .before .before .args .which) in
     put .put-at .ensures
-    ∙ changedAt-same _ raised _ _ (counted .more .ensures ∙ ap raised (counted .before .counts-at .ensures))
+    ∙ changedAt-same _ raised _ _ (counted .one-more .ensures ∙ ap raised (counted .before .counts-at .ensures))
 
 pub add-one-spec : {M : Type 1} → statement M
 add-one-spec =
-    tie.close (tie.spec counts-at-requires more-requires put-at-requires same-length returns)
+    tie.close (tie.spec counts-at-requires one-more-requires put-at-requires same-length returns)

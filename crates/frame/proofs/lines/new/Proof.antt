@@ -1,11 +1,11 @@
 -- `frame::lines::new` meets its contract: a walk by hand. A `Reader` is made of the slice and the number passed.
 -- Assumes nothing.
-use Rattle.walk.proofs.Prelude.{ℕ, List, [], _∷_, refl, URA, named, w64, Val, Lft, Share, flft, SProp, ent, via, Memory, Routine, Heap, WpFn, Tables, Atoms, Fun, givenOf, tables, tablesOf, Given, ‵, ⋆, _$_, _∵_, !, qed, by, move, use1, suffices, agg}
+use Rattle.walk.proofs.Prelude.{ℕ, List, [], _∷_, refl, URA, named, w64, Val, Lft, Share, flft, SProp, ent, via, Memory, Routine, Heap, WpFn, Tables, Atoms, Fun, givenOf, tables, tablesOf, Given, ‵, ⋆, _$_, _∵_, !, qed, by, use1, suffices, agg}
 use Rattle.walk.proofs.Prelude.{look, init, stop, from, load, and-then, no-more, assigns, returns, enter, alloc1, alloc0, params1, pass1, pass0, WpFn-mono, u8, usize, yes, Is, uint-vals, uint-tells, RefT, plain, shrSliceOf, slice-vals}
 use Rattle.walk.proofs.Prelude.{shr-slice-tells, shr-slice-lawful, Meets, tripleOf, entered, says, Stays, stay-dropped, walkOf, goes-dropped, ends-at, walked, walk-meets}
 use Rattle.walk.proofs.Frees.{frees-all}
 use Rattle.frame.specs.declared.lines.Reader.{Reader}
-use Rattle.frame.proofs.Reader.{Word, machine, bound, Bytes, slice, Held, mach, made, typed, buffer-in, taken, leaves}
+use Rattle.frame.proofs.Reader.{Word, machine, bound, Bytes, slice, Held, mach, made, buffer-in, taken, leaves}
 use Rattle.frame.proofs.lines.new as f
 
 abbrev stayed : Stays (f.ended .signature .params) (f.ended .kept)

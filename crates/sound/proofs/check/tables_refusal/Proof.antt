@@ -1,11 +1,10 @@
 -- `sound::check::tables_refusal` meets its contract: a walk of two calls with an early return.
 -- Assumes nothing.
-use Rattle.walk.proofs.Prelude.{ℕ, _≡_, refl, sym, _∙_, ap, List, [], _∷_, length, URA, w64, vint, SProp, emp, id⊢, Memory, Routine, Heap, Tables, Atoms, Fun, Given, _$_, !, lit, of-opd, bin, first, u32, u64, tripleOf}
+use Rattle.walk.proofs.Prelude.{ℕ, _≡_, refl, sym, _∙_, List, [], _∷_, length, URA, w64, vint, SProp, emp, id⊢, Memory, Routine, Heap, Tables, Atoms, Fun, Given, _$_, !, lit, of-opd, bin, first, u32, u64, tripleOf}
 use Rattle.walk.proofs.Prelude.{shown, so, Shape, Walk, drop, var, vars, field-var, gives, gives-within, passed-on, branches-then, into-assign, skips-then, number, fit, of-number, proved, sets, copies, calls-for, made, taken}
 use Rattle.spec.specs.declared.types.Request.{Request}
 use Rattle.table.proofs.Rows.{R}
 use Rattle.table.proofs.Heads.{the-head, a-head}
-use Rattle.sound.specs.Checks.{headRefusal}
 use Rattle.sound.proofs.Laws.{not-zero, is-zero}
 use Rattle.sound.proofs.Contents.{Headed, refused}
 use Rattle.sound.proofs.check.head_refusal as head-refusal

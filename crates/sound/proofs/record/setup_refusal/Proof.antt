@@ -1,5 +1,4 @@
 -- `sound::record::setup_refusal` meets its contract. Assumes nothing.
-use borrow.Author.Needs.{needs}
 use Rattle.spec.specs.Setup.{firstMatch, setupRefusals}
 use Rattle.sound.proofs.record.setup_refusal.Statement.{statement}
 use Rattle.sound.proofs.record.setup_refusal.Tie as tie

@@ -1,10 +1,10 @@
--- `columns::clients::more` meets its contract. Assumes nothing.
+-- `columns::clients::one_more` meets its contract. Assumes nothing.
 use Prim.Native.Nat.{ℕ}
 use borrow.Author.Needs.{needs}
 use Rattle.spec.specs.Tables.{recordOf}
 use Rattle.columns.proofs.Changed.{next-record}
-use Rattle.columns.proofs.clients.more.Statement.{statement}
-use Rattle.columns.proofs.clients.more.Tie as tie
+use Rattle.columns.proofs.clients.one_more.Statement.{statement}
+use Rattle.columns.proofs.clients.one_more.Tie as tie
 
 enum-told : tie.Need-enum-told
 enum-told c = search needs
@@ -42,8 +42,8 @@ returns-3 c =
     rw (c .before .enum-told3 .given .1, c .saturating-next3 .ensures)
     (next-record (λ (n : ℕ). recordOf (k .submitted) (k .served) n) (k .dropped))
 
-pub more-spec : {M : Type 1} → statement M
-more-spec =
+pub one-more-spec : {M : Type 1} → statement M
+one-more-spec =
     tie.close
     (tie.spec
     enum-told

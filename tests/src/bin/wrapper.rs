@@ -1,0 +1,182 @@
+//! The Rust wrapper held to document 01: its version, each answer with its values by name and its words, each refusal with its number
+//! and its words. In no answer are two values the same, so that none can stand for another.
+use std::fmt::Debug;
+use std::process::exit;
+use tests::tables::setup;
+use welsbell::{version, Answer, Client, Refusal, Tables, END, MOST_COUNTED, VERSION};
+
+#[derive(Default)]
+struct Held {
+    facts: usize,
+    failed: usize,
+}
+
+impl Held {
+    fn same<T: Debug + PartialEq>(&mut self, what: &str, expected: T, came: T) {
+        self.facts += 1;
+        if expected != came {
+            self.failed += 1;
+            eprintln!("{what}\nexpected {expected:?}\ncame {came:?}");
+        }
+    }
+
+    fn answer(&mut self, words: &str, expected: Answer, came: Answer) {
+        self.same(words, expected, came);
+        self.same(words, words, &came.to_string());
+    }
+}
+
+// Client 7 has missed more than clients 2 and 6, so that its read is kept and the last of theirs is dropped.
+fn answers(held: &mut Held) {
+    let mut t = Tables::<8, 8>::new();
+    held.answer("opened", Answer::Opened, t.queue().open(setup(8, 1_000)));
+    t.head.clock = 4;
+    t.clients[7] = Client {
+        submitted: 10,
+        served: 7,
+        dropped: 3,
+    };
+    held.answer("nothing waits in slot 4", Answer::Idle { slot: 4 }, t.queue().tick());
+    let kept = |number, place| Answer::Kept { number, place };
+    held.answer("number 1 is kept, at place 0", kept(1, 0), t.queue().submit(2, 7));
+    held.answer("number 2 is kept, at place 1", kept(2, 1), t.queue().submit(6, 7));
+    held.answer(
+        "number 3 is one too many, number 2 of client 6 is dropped",
+        Answer::Dropped {
+            number: 3,
+            victim: 2,
+            client: 6,
+        },
+        t.queue().submit(7, 6),
+    );
+    held.answer(
+        "number 3 of client 7 is served in slot 5",
+        Answer::Served {
+            slot: 5,
+            number: 3,
+            client: 7,
+        },
+        t.queue().tick(),
+    );
+    held.answer("number 4 is kept, at place 1", kept(4, 1), t.queue().submit(7, 9));
+    held.answer(
+        "client 7: 12 submitted, 8 served, 3 dropped, 1 waiting",
+        Answer::Reported {
+            client: 7,
+            submitted: 12,
+            served: 8,
+            dropped: 3,
+            waiting: 1,
+        },
+        t.queue().report(7),
+    );
+    let mut starts = [99; 3];
+    held.answer("2 waiting", Answer::Charted { count: 2 }, t.queue().chart(&mut starts));
+    held.same("start slots", [6, 8, 99], starts);
+}
+
+// Tables that are opened, and a call on them that is refused.
+type Refused = fn(&mut Tables<2, 2>) -> Answer;
+
+fn open_with(t: &mut Tables<2, 2>, clients: u64, period: u64) -> Answer {
+    t.queue().open(setup(clients, period))
+}
+
+// Each refusal with a call that gives it and the words.
+const REFUSALS: [(Refusal, Refused, &str); 11] = [
+    (
+        Refusal::Clients,
+        |t| open_with(t, 0, 1),
+        "refused, number 2: clients are not 1 to 256",
+    ),
+    (
+        Refusal::Period,
+        |t| open_with(t, 2, 0),
+        "refused, number 3: the period is not 1 to 4294967295 slots",
+    ),
+    (
+        Refusal::Lengths,
+        |t| open_with(t, 1, 1),
+        "refused, number 4: the tables do not have the lengths that are needed",
+    ),
+    (
+        Refusal::Unsound,
+        |t| {
+            t.head.setup.period = 0;
+            t.queue().tick()
+        },
+        "refused, number 5: the tables are not sound",
+    ),
+    (
+        Refusal::Client,
+        |t| t.queue().report(2),
+        "refused, number 6: the client does not exist",
+    ),
+    (
+        Refusal::Deadline,
+        |t| t.queue().submit(0, 0),
+        "refused, number 7: the deadline is not 1 to 65535 slots after the clock",
+    ),
+    (
+        Refusal::Count,
+        |t| {
+            (t.clients[0].submitted, t.clients[0].served) = (MOST_COUNTED, MOST_COUNTED);
+            t.queue().submit(0, 1)
+        },
+        "refused, number 8: the client has submitted as many requests as can be counted",
+    ),
+    (
+        Refusal::Number,
+        |t| {
+            t.head.last = END;
+            t.queue().submit(0, 1)
+        },
+        "refused, number 9: the last request number has been given",
+    ),
+    (
+        Refusal::Full,
+        |t| {
+            let answers = [7, 8, 9].map(|deadline| t.queue().submit(0, deadline));
+            answers[2]
+        },
+        "refused, number 10: the waiting table is full",
+    ),
+    (
+        Refusal::Clock,
+        |t| {
+            t.head.clock = END;
+            t.queue().tick()
+        },
+        "refused, number 11: the clock is at its end",
+    ),
+    (
+        Refusal::Output,
+        |t| {
+            let _ = t.queue().submit(0, 1);
+            t.queue().chart(&mut [])
+        },
+        "refused, number 12: the output is shorter than the waiting count",
+    ),
+];
+
+fn refusals(held: &mut Held) {
+    for (number, (refusal, call, words)) in (2..).zip(REFUSALS) {
+        let mut t = Tables::new();
+        held.same("an open", Answer::Opened, open_with(&mut t, 2, 100));
+        held.answer(words, Answer::Refused(refusal), call(&mut t));
+        held.same(words, number, refusal.number());
+    }
+    held.same("all refusals", REFUSALS.map(|(refusal, _, _)| refusal), Refusal::ALL);
+}
+
+fn main() {
+    let mut held = Held::default();
+    held.same("the archive's version", VERSION, version());
+    answers(&mut held);
+    refusals(&mut held);
+    if held.failed > 0 {
+        eprintln!("{} of {} facts of the Rust wrapper are not so", held.failed, held.facts);
+        exit(1);
+    }
+    println!("{} facts of the Rust wrapper: all as document 01 says", held.facts);
+}
