@@ -9,8 +9,8 @@ use borrow.Author.Tests.{lt-ltb}
 use lib.Dec.{ltb}
 use lib.ListN.{length, getD, set, drop, replicate}
 use Rattle.spec.specs.declared.types.Counts.{Counts}
-use Rattle.spec.specs.Tables.{zeroCounts, width, recordThen, recordsOf, numbersOf}
-use Rattle.spec.specs.Calls.{change, isPeriodStart}
+use Rattle.spec.specs.Tables.{zeroCounts, width, recordThen, recordsOf, numbersOf, change}
+use Rattle.spec.specs.Calls.Tick.{isPeriodStart}
 use Rattle.columns.specs.declared.clients.Count.{Count}
 use Rattle.columns.specs.Widths.{largest32}
 use Rattle.columns.specs.Clients.{changedAt, changedAll, saturatingNext, countOf, oneMoreOf, oneMoreUnlessFull, restartedCounts, restartedNumbers}

@@ -4,8 +4,8 @@ use mathlib.Core.Bool.{cond, _&&_}
 use mathlib.Core.List.{List, [], _∷_}
 use lib.Dec.{ltb}
 use Rattle.spec.specs.declared.types.Counts.{Counts}
-use Rattle.spec.specs.Calls.{isPeriodStart, oneMoreSubmitted, oneMoreServed, oneMoreDropped}
-use Rattle.spec.specs.Tables.{recordOf, recordThen}
+use Rattle.spec.specs.Tables.{oneMoreSubmitted, oneMoreServed, oneMoreDropped, recordOf, recordThen}
+use Rattle.spec.specs.Calls.Tick.{isPeriodStart}
 use Rattle.columns.specs.declared.clients.Count.{Count}
 use Rattle.columns.specs.declared.clients.Count.the-variants.{Submitted, Served, Dropped}
 use Rattle.columns.specs.Widths.{largest32}

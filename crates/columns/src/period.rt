@@ -7,7 +7,7 @@ use spec::types::Counts;
 ghost use mathlib.Core.Path.{_≡_};
 ghost use mathlib.Core.Bool.{_&&_};
 ghost use lib.Dec.{ltb};
-ghost use Rattle.spec.specs.Calls.{isPeriodStart};
+ghost use Rattle.spec.specs.Calls.Tick.{isPeriodStart};
 ghost use Rattle.columns.specs.Clients.{changedAll, restartedCounts, restartedNumbers};
 
 // A client's counts at a period's start: submitted becomes its waiting count, served and dropped become 0.

@@ -10,12 +10,14 @@ use Rattle.slots.proofs.Laws.Tests.{Same, same-yes, same-no, same}
 use Rattle.spec.specs.declared.types.Request.{Request}
 use Rattle.spec.specs.declared.types.Answer.the-variants.{Refused}
 use Rattle.spec.specs.Tables.{State, waiting, deadlinesOf}
+use Rattle.spec.specs.Setup.{Refusal, firstMatch}
 use Rattle.spec.specs.Order.{placeOf}
 use Rattle.spec.specs.Chart.{hasNoOverfull, startsOf}
-use Rattle.spec.specs.Setup.{Refusal, firstMatch}
-use Rattle.spec.specs.Refusals.{submitRefusals, tickRefusals, chartRefusals}
-use Rattle.spec.specs.Calls.{Outcome, newRequest, withNew, kept, droppedAt, victimPlace, submitAccepted, tickAccepted}
-use Rattle.spec.specs.Calls.{unlessRefused, submitOf, tickOf, chartOutput}
+use Rattle.spec.specs.Calls.Outcome.{Outcome, unlessRefused, refusing}
+use Rattle.spec.specs.Calls.Submit.{submitRefusals, newRequest, withNew, kept, droppedAt, victimPlace, submitAccepted}
+use Rattle.spec.specs.Calls.Tick.{tickRefusals, tickAccepted}
+use Rattle.spec.specs.Calls.Chart.{chartRefusals, chartOutput}
+use Rattle.spec.specs.Calls.Call.{outcomeOf, submit, tick}
 use Rattle.spec.proofs.Laws.Accepted.{chart-ready, waiting-length}
 use Rattle.spec.proofs.Calls.Refused.{Written, untouched, written, output-written, length-starts}
 use Rattle.columns.specs.Charted.{startSlots}
@@ -27,7 +29,7 @@ use Rattle.decide.specs.Decisions.{unless, submitChoice, submitDecision,
 -- a call is refused with a number, and changes nothing; or no refusal matches, and it goes as it chose
 pub data Carried (rs : List Refusal) (s : State) (goes : Decision → Outcome → Type 0) : Decision → Outcome → Type 0 where
   refuses : firstMatch rs ≢ 0
-      → Carried rs s goes (Refuse (firstMatch rs)) (record { answer = Refused (firstMatch rs); after = s })
+      → Carried rs s goes (Refuse (firstMatch rs)) (refusing (firstMatch rs) s)
   accepts : {d : Decision} {o : Outcome} → firstMatch rs ≡ 0 → goes d o → Carried rs s goes d o
 
 carried : (rs : List Refusal) (s : State) (goes : Decision → Outcome → Type 0) (d : Decision) (o : Outcome) → goes d o
@@ -36,7 +38,7 @@ carried rs s goes d o g = go (eqb (firstMatch rs) 0) (same (firstMatch rs) 0)
   where
     go : (x : Bool) → Same (firstMatch rs) 0 x
         → Carried rs s goes (cond x d (Refuse (firstMatch rs)))
-        (cond x o (record { answer = Refused (firstMatch rs); after = s }))
+        (cond x o (refusing (firstMatch rs) s))
     go true (same-yes e) = accepts e g
     go false (same-no e) = refuses e
 
@@ -63,8 +65,8 @@ submits client deadline s = go (hasNoOverfull (s .head) (withNew client deadline
 
 pub submit-carried : (client deadline : ℕ) (s : State)
     → Carried (submitRefusals client deadline s) s (Submits client deadline s) (submitDecision client deadline s)
-    (submitOf client deadline s)
-unfolding submitDecision submitOf
+    (outcomeOf (submit client deadline) s)
+unfolding submitDecision outcomeOf
 submit-carried client deadline s = carried _ s (Submits client deadline s) _ _ (submits client deadline s)
 
 -- ---- what an accepted tick chose, and what it comes to
@@ -76,8 +78,8 @@ ticks : (s : State) (ws : List Request) → waiting s ≡ ws → Ticks s (tickCh
 ticks s [] e = idles e
 ticks s (w ∷ ws) e = serves w ws e
 
-pub tick-carried : (s : State) → Carried (tickRefusals s) s (Ticks s) (tickDecision s) (tickOf s)
-unfolding tickDecision tickOf
+pub tick-carried : (s : State) → Carried (tickRefusals s) s (Ticks s) (tickDecision s) (outcomeOf tick s)
+unfolding tickDecision outcomeOf
 tick-carried s = carried _ s (Ticks s) _ _ (ticks s (waiting s) refl)
 
 -- ---- an accepted chart's output: the start slots of the waiting requests' deadlines, and what stood beyond

@@ -11,8 +11,13 @@ use lib.ListN.{length, getD, length-replicate}
 use Rattle.spec.specs.declared.types.Setup.{Setup}
 use Rattle.spec.specs.Tables.{mostAhead, mostCounted, zeroRequest, zeroCounts, State, clientTable}
 use Rattle.spec.specs.Setup.{Refusal, firstMatch}
-use Rattle.spec.specs.Refusals.{openRefusals, submitRefusals, tickRefusals, reportRefusals, chartRefusals, refusal4}
-use Rattle.spec.specs.Refusals.{refusal5, refusal6, refusal7, refusal8, refusal9, refusal10, refusal11, refusal12}
+use Rattle.spec.specs.Calls.Refusals.{refusal4, refusal5, refusal6, refusal7, refusal8, refusal9, refusal10, refusal11}
+use Rattle.spec.specs.Calls.Refusals.{refusal12}
+use Rattle.spec.specs.Calls.Open.{openRefusals}
+use Rattle.spec.specs.Calls.Submit.{submitRefusals}
+use Rattle.spec.specs.Calls.Tick.{tickRefusals}
+use Rattle.spec.specs.Calls.Report.{reportRefusals}
+use Rattle.spec.specs.Calls.Chart.{chartRefusals}
 use Rattle.spec.proofs.Laws.Sound.{within-test}
 use Rattle.sound.specs.Checks.{tablesRefusal}
 use Rattle.decide.specs.Matches.{ofTables, openMatch, submitMatch, tickMatch, reportMatch, chartMatch}

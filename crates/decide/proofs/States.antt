@@ -12,7 +12,8 @@ use Rattle.slots.proofs.Laws.Tests.{Same, same-yes, same-no, same}
 use Rattle.spec.specs.declared.types.Request.{Request}
 use Rattle.spec.specs.Tables.{zeroCounts, State, waiting, clientTable}
 use Rattle.spec.specs.Setup.{Refusal, firstMatch}
-use Rattle.spec.specs.Refusals.{submitRefusals, tickRefusals}
+use Rattle.spec.specs.Calls.Submit.{submitRefusals}
+use Rattle.spec.specs.Calls.Tick.{tickRefusals}
 use Rattle.spec.proofs.Laws.Accepted.{SubmitReady, waiting-length, tick-ready}
 use Rattle.columns.specs.Widths.{largest32}
 use Rattle.decide.specs.declared.types.Decision.the-variants.{Refuse, Serve, Idle}

@@ -10,11 +10,11 @@ use Rattle.spec.specs.declared.types.Head.{Head}
 use Rattle.spec.specs.declared.types.Request.{Request}
 use Rattle.spec.specs.declared.types.Counts.{Counts}
 use Rattle.spec.specs.Tables.{mostClients, State, waiting, deadlinesOf, clientsOf}
+use Rattle.spec.specs.Setup.{Refusal, firstMatch}
 use Rattle.spec.specs.Order.{placeOf}
 use Rattle.spec.specs.Chart.{dueBy, hasNoOverfull}
-use Rattle.spec.specs.Setup.{Refusal, firstMatch}
-use Rattle.spec.specs.Refusals.{submitRefusals, tickRefusals}
-use Rattle.spec.specs.Calls.{newRequest, withNew, victimPlace}
+use Rattle.spec.specs.Calls.Submit.{submitRefusals, newRequest, withNew, victimPlace}
+use Rattle.spec.specs.Calls.Tick.{tickRefusals}
 use Rattle.search.specs.Scans.{overfullFrom, latestOf, putAt, smallestRatioPlace}
 use Rattle.decide.specs.declared.types.Decision.{Decision}
 use Rattle.decide.specs.declared.types.Decision.the-variants.{Refuse, Keep, Drop, Serve, Idle}

@@ -9,8 +9,8 @@ use Rattle.spec.specs.declared.types.Setup.{Setup}
 use Rattle.spec.specs.declared.types.Head.{Head}
 use Rattle.spec.specs.Tables.{zeroRequest, openHead, State, stateOf}
 use Rattle.spec.specs.Setup.{Refusal, firstMatch}
-use Rattle.spec.specs.Refusals.{openRefusals, refusal6, refusal7, refusal8, refusal9, refusal10}
-use Rattle.spec.specs.Refusals.{refusal11, refusal12}
+use Rattle.spec.specs.Calls.Refusals.{refusal6, refusal7, refusal8, refusal9, refusal10, refusal11, refusal12}
+use Rattle.spec.specs.Calls.Open.{openRefusals}
 
 -- what the tables call for, however it was found: a refusal of this number, none where it is 0
 abbrev pub ofTables : ℕ → Refusal

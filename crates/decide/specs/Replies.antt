@@ -2,18 +2,19 @@
 use Prim.Native.Nat.{ℕ, suc, _-_, min}
 use mathlib.Core.Path.{_≡_}
 use mathlib.Core.Bool.{cond}
-use mathlib.Core.List.{List, _∷_}
+use mathlib.Core.List.{List, [], _∷_}
 use lib.Dec.{ltb, eqb}
 use lib.ListN.{length, getD, replicate}
 use Rattle.spec.specs.declared.types.Setup.{Setup}
 use Rattle.spec.specs.declared.types.Head.{Head}
 use Rattle.spec.specs.declared.types.Request.{Request}
 use Rattle.spec.specs.declared.types.Counts.{Counts}
+use Rattle.spec.specs.declared.types.Answer.{Answer}
 use Rattle.spec.specs.declared.types.Answer.the-variants as answer
 use Rattle.spec.specs.declared.types.Answer.the-variants.{Opened, Kept, Dropped, Served, Reported, Charted, Refused}
 use Rattle.spec.specs.Tables.{zeroRequest, openHead}
 use Rattle.spec.specs.Order.{insertAt, removeAt}
-use Rattle.spec.specs.Calls.{Outcome}
+use Rattle.spec.specs.Calls.Outcome.{Outcome}
 use Rattle.columns.specs.Widths.{largest64}
 use Rattle.columns.specs.declared.clients.Count.the-variants as count
 use Rattle.columns.specs.Clients.{changedAt, oneMoreUnlessFull, waitingCount, restartedNumbers}
@@ -170,8 +171,12 @@ tickNumbers head gone Serve xs =
     restartedNumbers (head .setup .period) (raised (head .clock)) (changedAt (oneMoreUnlessFull count.Served) (gone .client) xs)
 tickNumbers head gone Idle xs = restartedNumbers (head .setup .period) (raised (head .clock)) xs
 
+-- the answers that a reply stands for: the one that it has
+abbrev pub said : Reply → List Answer
+said r = r .answer ∷ []
+
 -- what a call hands back, and what it leaves of the client table, is what the outcome says
 pub record Answers (o : Outcome) (r : Reply) (numbers : List ℕ) : Type 0 where
-  pub answer-same : r .answer ≡ o .answer
+  pub answers-same : said r ≡ o .answers
   pub head-same : r .head ≡ o .after .head
   pub numbers-same : numbers ≡ o .after .clientNumbers

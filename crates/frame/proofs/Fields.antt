@@ -10,7 +10,7 @@ use borrow.Author.Tests.{ltb-true, lt-ltb, le-ltb}
 use lib.ListN.{length, getD, take, drop, set, drop-of-length-le, length-set, take-append-drop}
 use lib.Seq.{drop-cons, append-snoc, take-add, drop-at, length-take-le, take-set-lt, drop-set-lt, getD-set-same, take-take}
 use Rattle.spec.specs.Every.{every}
-use Rattle.spec.specs.Frames.{digitOf, isDigit, characterOf, numberFrom, fieldAt, digits}
+use Rattle.spec.specs.Lines.Frames.{digitOf, isDigit, characterOf, numberFrom, fieldAt, digits}
 use Rattle.spec.proofs.Laws.Every.{all-at, every-facts}
 use Rattle.columns.proofs.Laws.{rest-cons, rest-none}
 use Rattle.frame.specs.Digits.{valuesFrom, digitTable}

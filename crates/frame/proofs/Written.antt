@@ -11,9 +11,9 @@ use Rattle.spec.specs.declared.types.Setup.{Setup}
 use Rattle.spec.specs.declared.types.Answer.{Answer}
 use Rattle.spec.specs.declared.types.Answer.the-variants.{Opened, Kept, Dropped, Served, Idle, Reported, Charted, Refused}
 use Rattle.spec.specs.Chart.{Segment, segmentsOf}
-use Rattle.spec.specs.Frames.{Field, lineFeed, digits, field, fieldDigits, lineOf, answerLine, segmentLines}
+use Rattle.spec.specs.Calls.Readings.{Field, field}
+use Rattle.spec.specs.Lines.Frames.{lineFeed, digits, fieldDigits, lineOf, answerLine, segmentLines, answerLines}
 use Rattle.columns.specs.Charted.{segment}
-use Rattle.frame.specs.Written.{replyBytes}
 use Rattle.spec.proofs.types.Answer.{the-type}
 use Rattle.columns.proofs.Laws.{rest-none}
 
@@ -73,8 +73,7 @@ segments-end setup starts n i h = rw (rest-none starts n i h)
 -- ---- replies
 -- an answer of a variant that is not a chart's is its line
 pub line-alone : (setup : Setup) (a : Answer) (starts : List ℕ) → OneOf (0 ∷ 1 ∷ 2 ∷ 3 ∷ 4 ∷ 5 ∷ 7 ∷ []) (tagOf the-type a)
-    → replyBytes setup a starts ≡ answerLine a
-unfolding replyBytes
+    → answerLines setup starts a ≡ answerLine a
 line-alone setup Opened starts h = refl
 line-alone setup (Kept number place) starts h = refl
 line-alone setup (Dropped number victim client) starts h = refl

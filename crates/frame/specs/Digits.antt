@@ -1,7 +1,7 @@
 -- The table of characters' values. Assumes nothing.
 use Prim.Native.Nat.{ℕ, zero, suc}
 use mathlib.Core.List.{List, [], _∷_}
-use Rattle.spec.specs.Frames.{digitOf}
+use Rattle.spec.specs.Lines.Frames.{digitOf}
 
 -- the values of so many characters, from a character on
 unfoldable pub valuesFrom : ℕ → ℕ → List ℕ

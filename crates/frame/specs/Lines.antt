@@ -5,7 +5,7 @@ use mathlib.Core.List.{List, []}
 use mathlib.Core.Path.{_≡_}
 use lib.Dec.{leb, ltb}
 use lib.ListN.{length, getD, take, drop}
-use Rattle.spec.specs.Frames.{lineFeed}
+use Rattle.spec.specs.Lines.Frames.{lineFeed}
 
 -- no line feed stands from an index up to another
 abbrev pub NoFeed : List ℕ → ℕ → ℕ → Type 0

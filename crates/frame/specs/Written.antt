@@ -1,45 +1,36 @@
--- What a reply is written as. Assumes nothing.
-use Prim.Native.Nat.{ℕ, _+_, _≤_, _<_}
-use mathlib.Core.List.{List, [], _∷_, _++_}
-use lib.ListN.{length, getD, take}
-use Rattle.spec.specs.declared.types.Setup.{Setup}
+-- How long the lines of a reply are, and what a chart's answer asks of its start slots. Assumes nothing.
+use Prim.Native.Nat.{ℕ, _+_, _*_, _≤_, _<_}
+use mathlib.Core.List.{List, [], _∷_, map}
+use lib.ListN.{length, getD}
 use Rattle.spec.specs.declared.types.Answer.{Answer}
-use Rattle.spec.specs.declared.types.Answer.the-variants.{Opened, Kept, Dropped, Served, Idle, Reported, Charted, Refused}
+use Rattle.spec.specs.declared.types.Answer.the-variants.{Refused}
+use Rattle.spec.specs.Every.{largest}
 use Rattle.spec.specs.Tables.{mostRecords}
-use Rattle.spec.specs.Chart.{Segment, segmentsOf}
-use Rattle.spec.specs.Frames.{field, lineOf, answerLine, segmentLines}
+use Rattle.spec.specs.Calls.Readings.{reading, valuesOf}
+use Rattle.spec.specs.Lines.Frames.{lineLength, segmentFields, countFields}
+use Rattle.spec.specs.Lines.Printed.{shown}
 use Rattle.columns.specs.Widths.{largest64}
 
--- the lines of segments, and their count's
-abbrev pub chartLines : List Segment → List ℕ
-chartLines gs = segmentLines gs ++ lineOf 0x88 (field 2 (length gs) ∷ [])
+-- a segment's line, and their count's
+abbrev pub segmentLength : ℕ
+segmentLength = lineLength (segmentFields (record { left = 0; right = 0 }))
 
--- the bytes of a reply: an answer's line, a chart's as its segments' lines, from the start slots
-unfoldable pub replyBytes : Setup → Answer → List ℕ → List ℕ
-replyBytes setup (Charted count) starts = chartLines (segmentsOf setup (take count starts))
-replyBytes setup Opened starts = answerLine Opened
-replyBytes setup (Kept number place) starts = answerLine (Kept number place)
-replyBytes setup (Dropped number victim client) starts = answerLine (Dropped number victim client)
-replyBytes setup (Served slot number client) starts = answerLine (Served slot number client)
-replyBytes setup (Idle slot) starts = answerLine (Idle slot)
-replyBytes setup (Reported client submitted served dropped waiting) starts = answerLine (Reported client submitted served dropped waiting)
-replyBytes setup (Refused number) starts = answerLine (Refused number)
+abbrev pub countLength : ℕ
+countLength = lineLength (countFields 0)
 
--- the characters of the longest line, a drop's or a served read's, with its line feed
+-- the longest line of an answer
 abbrev pub longestLine : ℕ
-longestLine = 39
+longestLine = largest (lineLength (valuesOf (Refused 0)) ∷ map (λ answer. lineLength (valuesOf (answer []))) shown)
 
--- the most bytes that a reply has: 2,048 segments of 35 and their count's 7
+-- the most bytes that a reply has: a segment for each record of the largest table, and their count
 abbrev pub mostBytes : ℕ
-mostBytes = 71687
+mostBytes = mostRecords * segmentLength + countLength
 
--- what of a chart's answer its start slots must have
+-- what of a chart's answer its start slots must have: all that it counts, and none that is the largest number
+abbrev pub CanDrawFirst : List ℕ → List ℕ → Type 0
+CanDrawFirst [] starts = Unit {0}
+CanDrawFirst (count ∷ more) starts =
+    (count ≤ mostRecords) × (count ≤ length starts) × ((k : ℕ) → k < count → getD starts k 0 < largest64)
+
 abbrev pub CanDraw : Answer → List ℕ → Type 0
-CanDraw (Charted count) starts = (count ≤ mostRecords) × (count ≤ length starts) × ((k : ℕ) → k < count → getD starts k 0 < largest64)
-CanDraw Opened starts = Unit {0}
-CanDraw (Kept number place) starts = Unit {0}
-CanDraw (Dropped number victim client) starts = Unit {0}
-CanDraw (Served slot number client) starts = Unit {0}
-CanDraw (Idle slot) starts = Unit {0}
-CanDraw (Reported client submitted served dropped waiting) starts = Unit {0}
-CanDraw (Refused number) starts = Unit {0}
+CanDraw a starts = CanDrawFirst (reading a .charted) starts

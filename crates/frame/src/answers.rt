@@ -2,6 +2,7 @@
 // its line ends.
 use crate::digits;
 use columns::chart;
+use spec::bounds::MOST_RECORDS;
 use spec::types::Answer;
 use spec::types::Setup;
 ghost use mathlib.Core.List.{_∷_, [], _++_};
@@ -9,15 +10,17 @@ ghost use mathlib.Core.Path.{_≡_};
 ghost use Prim.Native.Nat.{ℕ, _+_, _*_, _<_, _≤_};
 ghost use lib.ListN.{length, getD, take};
 ghost use Rattle.spec.specs.Chart.{segmentsOf};
-ghost use Rattle.spec.specs.Frames.{lineFeed, field, lineOf, answerLine, segmentLines};
+ghost use Rattle.spec.specs.Calls.Readings.{field, valuesOf};
+ghost use Rattle.spec.specs.Lines.Frames.{lineFeed, lineOf, answerLine, segmentLines, lineLength, answerLines, chartLines};
 ghost use Rattle.columns.specs.Widths.{largest64};
-ghost use Rattle.frame.specs.Written.{longestLine, mostBytes, CanDraw, chartLines, replyBytes};
+ghost use Rattle.spec.specs.declared.types.Answer.the-variants.{Reported};
+ghost use Rattle.frame.specs.Written.{segmentLength, countLength, longestLine, mostBytes, CanDraw};
 
-// The characters of the longest line, a drop's or a served read's, with its line feed.
-pub const LONGEST_LINE: usize = 39;
+// The characters of the longest line, a drop's or a served read's, with its line feed: a kind byte, two numbers of 8 bytes and a client.
+pub const LONGEST_LINE: usize = 2 * (1 + 8 + 8 + 2) + 1;
 
-// The characters of the longest reply: 2,048 segments of 35 and their count's 7.
-pub const MOST_BYTES: usize = 71687;
+// The characters of the longest reply: a line for each segment, a kind byte and two ends, and their count's.
+pub const MOST_BYTES: usize = MOST_RECORDS * (2 * (1 + 8 + 8) + 1) + (2 * (1 + 2) + 1);
 
 fn put_feed(out: &mut [u8], at: usize) -> usize
     requires { ⌜ at < length (now out) ⌝ }
@@ -29,8 +32,8 @@ fn put_feed(out: &mut [u8], at: usize) -> usize
 
 // A line of its kind alone.
 fn put_kind(out: &mut [u8], at: usize, kind: u64) -> usize
-    requires { ⌜ at + 3 ≤ length (now out) ⌝ }
-    ensures { λ r. ⌜ (r ≡ at + 3) × (take r (now (out .exit)) ≡ take at (now (out .entry)) ++ lineOf kind []) ⌝ }
+    requires { ⌜ at + lineLength [] ≤ length (now out) ⌝ }
+    ensures { λ r. ⌜ (r ≡ at + lineLength []) × (take r (now (out .exit)) ≡ take at (now (out .entry)) ++ lineOf kind []) ⌝ }
 {
     let end = digits::put_field(out, at, 1, kind);
     put_feed(out, end)
@@ -38,8 +41,8 @@ fn put_kind(out: &mut [u8], at: usize, kind: u64) -> usize
 
 // A line of one value.
 fn put_value(out: &mut [u8], at: usize, kind: u64, width: usize, value: u64) -> usize
-    requires { ⌜ (at + 2 * width + 3 ≤ length (now out)) × (width ≤ 8) ⌝ }
-    ensures { λ r. ⌜ (r ≡ at + 2 * width + 3)
+    requires { ⌜ (at + lineLength (field width value ∷ []) ≤ length (now out)) × (width ≤ 8) ⌝ }
+    ensures { λ r. ⌜ (r ≡ at + lineLength (field width value ∷ []))
         × (take r (now (out .exit)) ≡ take at (now (out .entry)) ++ lineOf kind (field width value ∷ [])) ⌝ }
 {
     let mut end = digits::put_field(out, at, 1, kind);
@@ -49,8 +52,8 @@ fn put_value(out: &mut [u8], at: usize, kind: u64, width: usize, value: u64) -> 
 
 // A line of two values, the first of 8 bytes.
 fn put_pair(out: &mut [u8], at: usize, kind: u64, first: u64, width: usize, second: u64) -> usize
-    requires { ⌜ (at + 2 * width + 19 ≤ length (now out)) × (width ≤ 8) ⌝ }
-    ensures { λ r. ⌜ (r ≡ at + 2 * width + 19)
+    requires { ⌜ (at + lineLength (field 8 first ∷ field width second ∷ []) ≤ length (now out)) × (width ≤ 8) ⌝ }
+    ensures { λ r. ⌜ (r ≡ at + lineLength (field 8 first ∷ field width second ∷ []))
         × (take r (now (out .exit)) ≡ take at (now (out .entry)) ++ lineOf kind (field 8 first ∷ field width second ∷ [])) ⌝ }
 {
     let mut end = digits::put_field(out, at, 1, kind);
@@ -61,8 +64,8 @@ fn put_pair(out: &mut [u8], at: usize, kind: u64, first: u64, width: usize, seco
 
 // A line of two values of 8 bytes and a client.
 fn put_triple(out: &mut [u8], at: usize, kind: u64, first: u64, second: u64, client: u64) -> usize
-    requires { ⌜ at + 39 ≤ length (now out) ⌝ }
-    ensures { λ r. ⌜ (r ≡ at + 39)
+    requires { ⌜ at + lineLength (field 8 first ∷ field 8 second ∷ field 2 client ∷ []) ≤ length (now out) ⌝ }
+    ensures { λ r. ⌜ (r ≡ at + lineLength (field 8 first ∷ field 8 second ∷ field 2 client ∷ []))
         × (take r (now (out .exit))
         ≡ take at (now (out .entry)) ++ lineOf kind (field 8 first ∷ field 8 second ∷ field 2 client ∷ [])) ⌝ }
 {
@@ -83,11 +86,10 @@ fn put_report(
     dropped: u64,
     waiting: u64,
 ) -> usize
-    requires { ⌜ at + 35 ≤ length (now out) ⌝ }
-    ensures { λ r. ⌜ (r ≡ at + 35)
+    requires { ⌜ at + lineLength (valuesOf (Reported client submitted served dropped waiting)) ≤ length (now out) ⌝ }
+    ensures { λ r. ⌜ (r ≡ at + lineLength (valuesOf (Reported client submitted served dropped waiting)))
         × (take r (now (out .exit))
-        ≡ take at (now (out .entry)) ++ lineOf 0x86 (field 2 client ∷ field 4 submitted ∷ field 4 served ∷ field 4 dropped
-        ∷ field 2 waiting ∷ [])) ⌝ }
+        ≡ take at (now (out .entry)) ++ answerLine (Reported client submitted served dropped waiting)) ⌝ }
 {
     let mut end = digits::put_field(out, at, 1, 0x86);
     end = digits::put_field(out, end, 2, client);
@@ -138,8 +140,8 @@ struct Drawn {
 
 // A line for each segment of the first n start slots, from the left.
 fn put_segments(setup: Setup, out: &mut [u8], at: usize, starts: &[u64], n: usize) -> Drawn
-    requires { ⌜ (at + 35 * n ≤ length (now out)) × (n ≤ length (now starts)) × ((k : ℕ) → k < n → getD (now starts) k 0 < largest64) ⌝ }
-    ensures { λ r. ⌜ (at ≤ r .end) × (r .end ≤ at + 35 * n)
+    requires { ⌜ (at + segmentLength * n ≤ length (now out)) × (n ≤ length (now starts)) × ((k : ℕ) → k < n → getD (now starts) k 0 < largest64) ⌝ }
+    ensures { λ r. ⌜ (at ≤ r .end) × (r .end ≤ at + segmentLength * n)
         × (r .count ≡ length (segmentsOf setup (take n (now (starts .entry)))))
         × (take (r .end) (now (out .exit)) ≡ take at (now (out .entry)) ++ segmentLines (segmentsOf setup (take n (now (starts .entry))))) ⌝ }
 {
@@ -157,8 +159,8 @@ fn put_segments(setup: Setup, out: &mut [u8], at: usize, starts: &[u64], n: usiz
 
 // A chart's segments and their count.
 fn put_chart(setup: Setup, out: &mut [u8], at: usize, starts: &[u64], n: usize) -> usize
-    requires { ⌜ (at + 35 * n + 7 ≤ length (now out)) × (n ≤ length (now starts)) × ((k : ℕ) → k < n → getD (now starts) k 0 < largest64) ⌝ }
-    ensures { λ r. ⌜ (at ≤ r) × (r ≤ at + 35 * n + 7)
+    requires { ⌜ (at + segmentLength * n + countLength ≤ length (now out)) × (n ≤ length (now starts)) × ((k : ℕ) → k < n → getD (now starts) k 0 < largest64) ⌝ }
+    ensures { λ r. ⌜ (at ≤ r) × (r ≤ at + segmentLength * n + countLength)
         × (take r (now (out .exit)) ≡ take at (now (out .entry)) ++ chartLines (segmentsOf setup (take n (now (starts .entry))))) ⌝ }
 {
     let drawn = put_segments(setup, out, at, starts, n);
@@ -168,8 +170,8 @@ fn put_chart(setup: Setup, out: &mut [u8], at: usize, starts: &[u64], n: usize) 
 // A reply: an answer's line; a chart's as the segments of its start slots.
 pub fn put_reply(setup: Setup, out: &mut [u8], at: usize, answer: Answer, starts: &[u64]) -> usize
     requires { ⌜ (at + mostBytes ≤ length (now out)) × CanDraw answer (now starts) ⌝ }
-    ensures { λ r. ⌜ (r ≡ at + length (replyBytes setup answer (now (starts .entry)))) × (r ≤ at + mostBytes)
-        × (take r (now (out .exit)) ≡ take at (now (out .entry)) ++ replyBytes setup answer (now (starts .entry))) ⌝ }
+    ensures { λ r. ⌜ (r ≡ at + length (answerLines setup (now (starts .entry)) answer)) × (r ≤ at + mostBytes)
+        × (take r (now (out .exit)) ≡ take at (now (out .entry)) ++ answerLines setup (now (starts .entry)) answer) ⌝ }
 {
     match answer {
         Answer::Charted { count } => put_chart(setup, out, at, starts, count as usize),

@@ -5,7 +5,7 @@ ghost use mathlib.Core.Path.{_≡_};
 ghost use Prim.Native.Nat.{_+_, _*_, _<_, _≤_};
 ghost use lib.ListN.{length, take};
 ghost use Rattle.spec.specs.Every.{every};
-ghost use Rattle.spec.specs.Frames.{digitOf, isDigit, characterOf, fieldAt, digits};
+ghost use Rattle.spec.specs.Lines.Frames.{digitOf, isDigit, characterOf, fieldAt, digits};
 ghost use Rattle.frame.specs.Digits.{digitTable};
 
 // A character's value, by the table that is lent.

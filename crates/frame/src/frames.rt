@@ -3,12 +3,23 @@ use crate::digits;
 use spec::types::Frame;
 use spec::types::Setup;
 ghost use mathlib.Core.Path.{_≡_};
-ghost use Rattle.spec.specs.Frames.{frameOf};
+ghost use Rattle.spec.specs.Lines.Frames.{frameOf};
 ghost use Rattle.frame.specs.Digits.{digitTable};
-ghost use Rattle.frame.specs.Kinds.{kindOf};
+ghost use Rattle.frame.specs.Kinds.{kindBy};
 
-// The digits of the longest frame, submit's.
-pub const LONGEST_FRAME: usize = 22;
+// The digits of each kind of frame: two for its kind byte, and two for each byte of its fields.
+const OPEN_DIGITS: usize = 2 * (1 + 2 + 4 + 2);
+
+const SUBMIT_DIGITS: usize = 2 * (1 + 2 + 8);
+
+const TICK_DIGITS: usize = 2 * 1;
+
+const REPORT_DIGITS: usize = 2 * (1 + 2);
+
+const CHART_DIGITS: usize = 2 * 1;
+
+// The digits of the longest frame, submit's; no frame has fewer than tick.
+pub const LONGEST_FRAME: usize = SUBMIT_DIGITS;
 
 pub enum Kind {
     Open,
@@ -21,14 +32,44 @@ pub enum Kind {
 
 // Which kind of frame a kind byte with so many digits is: "an unknown kind, a wrong length" are none.
 fn kind_of(kind: u64, count: usize) -> Kind
-    ensures { λ r. ⌜ r ≡ kindOf kind count ⌝ }
+    ensures { λ r. ⌜ r ≡ kindBy kind count ⌝ }
 {
     match kind {
-        0x01 => { if count == 18 { Kind::Open } else { Kind::Bad } }
-        0x02 => { if count == 22 { Kind::Submit } else { Kind::Bad } }
-        0x03 => { if count == 2 { Kind::Tick } else { Kind::Bad } }
-        0x04 => { if count == 6 { Kind::Report } else { Kind::Bad } }
-        0x05 => { if count == 2 { Kind::Chart } else { Kind::Bad } }
+        0x01 => {
+            if count == OPEN_DIGITS {
+                Kind::Open
+            } else {
+                Kind::Bad
+            }
+        }
+        0x02 => {
+            if count == SUBMIT_DIGITS {
+                Kind::Submit
+            } else {
+                Kind::Bad
+            }
+        }
+        0x03 => {
+            if count == TICK_DIGITS {
+                Kind::Tick
+            } else {
+                Kind::Bad
+            }
+        }
+        0x04 => {
+            if count == REPORT_DIGITS {
+                Kind::Report
+            } else {
+                Kind::Bad
+            }
+        }
+        0x05 => {
+            if count == CHART_DIGITS {
+                Kind::Chart
+            } else {
+                Kind::Bad
+            }
+        }
         0 | 6..=18446744073709551615 => Kind::Bad,
     }
 }
@@ -39,7 +80,7 @@ pub fn frame_of(table: &[u8], line: &[u8]) -> Frame
     ensures { λ r. ⌜ r ≡ frameOf (now (line .entry)) ⌝ }
 {
     let count = line.len();
-    if count < 2 {
+    if count < TICK_DIGITS {
         return Frame::Bad;
     }
     if count > LONGEST_FRAME {

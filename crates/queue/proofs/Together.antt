@@ -15,10 +15,12 @@ use Rattle.spec.specs.declared.types.Request.{Request}
 use Rattle.spec.specs.declared.types.Answer.the-variants.{Refused}
 use Rattle.spec.specs.Tables.{zeroRequest, zeroCounts, recordsOf, State, stateOf, deadlinesOf}
 use Rattle.spec.specs.Setup.{Refusal, firstMatch}
-use Rattle.spec.specs.Refusals.{openRefusals, submitRefusals, reportRefusals, chartRefusals}
-use Rattle.spec.specs.Calls.{Outcome, unlessRefused, openAccepted, openOf, newRequest}
-use Rattle.spec.specs.Calls.{reportAccepted, reportOf, chartAccepted, chartOf, chartOutput}
-use Rattle.spec.specs.Lists.{Call, opening, submit, tick, report, chart, outcomeOf}
+use Rattle.spec.specs.Calls.Outcome.{Outcome, unlessRefused, refusing}
+use Rattle.spec.specs.Calls.Open.{openRefusals, openAccepted}
+use Rattle.spec.specs.Calls.Submit.{submitRefusals, newRequest}
+use Rattle.spec.specs.Calls.Report.{reportRefusals, reportAccepted}
+use Rattle.spec.specs.Calls.Chart.{chartRefusals, chartAccepted, chartOutput}
+use Rattle.spec.specs.Calls.Call.{Call, opening, submit, tick, report, chart, outcomeOf}
 use Rattle.spec.proofs.Laws.Accepted.{Decided as Settled, accepts, refuses as declines, decided as settled}
 use Rattle.spec.proofs.Laws.Accepted.{ChartReady, chart-ready}
 use Rattle.spec.proofs.Calls.Refused.{Written, untouched, written, output-written}
@@ -61,7 +63,7 @@ given : (c : Call) (s : State) {r : Reply} {ws : List Request} {xs : List ℕ} �
     → Answers (outcomeOf c s) r xs → Gives c s r (stateOf (r .head) ws xs)
 given c s w a =
     record {
-      answer-same = a .answer-same;
+      answers-same = a .answers-same;
       head-kept = refl;
       after-same =
           λ i. record { head = a .head-same i; waitingTable = w i; clientNumbers = a .numbers-same i };
@@ -76,7 +78,7 @@ module _ (head : Head) (ws : List Request) (xs : List ℕ) where
       → refusal ≡ reportMatch tables head client
       → r ≡ reportReply refusal head client (getD (recordsOf xs) client zeroCounts)
       → Gives (report client) s r (stateOf (r .head) ws xs)
-  unfolding outcomeOf reportOf reportAccepted
+  unfolding outcomeOf reportAccepted
   reported client tables refusal r e f a =
       given (report client) s
       (ap (λ (t : State). t .waitingTable) (sym (unchanged (reportRefusals client s) s (reportAccepted client s) refl)))
@@ -131,7 +133,7 @@ module _ (head : Head) (ws : List Request) (xs : List ℕ) where
               (untouched-output z (output-written output s))
 
     pub chart-gives : (r : Reply) → r ≡ chartReply refusal head → Gives (chart output) s r (stateOf (r .head) ws xs)
-    unfolding outcomeOf chartOf chartAccepted
+    unfolding outcomeOf chartAccepted
     chart-gives r a =
         let q = unchanged (chartRefusals output s) s (chartAccepted s) refl in
         let b = chart-answers output s told a in
@@ -149,17 +151,17 @@ module _ (head : Head) (ws : List Request) (xs : List ℕ) where
     pub cleared-within : cleared ≤ length ws
     cleared-within = unless-within refusal (length ws) cleared (length ws) some (λ z. omega arith)
 
-    zeros : replicate cleared zeroRequest ++ drop cleared ws ≡ openOf setup s .after .waitingTable
-    unfolding openOf openAccepted
+    zeros : replicate cleared zeroRequest ++ drop cleared ws ≡ outcomeOf (opening setup) s .after .waitingTable
+    unfolding outcomeOf openAccepted
     zeros =
         go (eqb refusal 0) some
         ∙ ap
-        (λ (n : ℕ). cond (eqb n 0) (openAccepted setup s) (record { answer = Refused n; after = s }) .after .waitingTable)
+        (λ (n : ℕ). cond (eqb n 0) (openAccepted setup s) (refusing n s) .after .waitingTable)
         open-refusal
       where
         go : (b : Bool) → cleared ≡ cond b (length ws) 0
             → replicate cleared zeroRequest ++ drop cleared ws
-            ≡ cond b (openAccepted setup s) (record { answer = Refused refusal; after = s }) .after .waitingTable
+            ≡ cond b (openAccepted setup s) (refusing refusal s) .after .waitingTable
         go true e =
             subst (λ (n : ℕ). replicate n zeroRequest ++ drop n ws ≡ replicate (length ws) zeroRequest) (sym e)
             (ap (λ (l : List Request). replicate (length ws) zeroRequest ++ l) (drop-length ws) ∙ append-nil _)

@@ -1,12 +1,13 @@
 -- What a call of the library does: one contract for all five. Assumes nothing.
 use mathlib.Core.Path.{_≡_}
 use Rattle.spec.specs.Tables.{State}
-use Rattle.spec.specs.Lists.{Call, outcomeOf}
+use Rattle.spec.specs.Calls.Call.{Call, outcomeOf}
 use Rattle.decide.specs.declared.types.Reply.{Reply}
+use Rattle.decide.specs.Replies.{said}
 
--- from the head and the tables that a caller lends to those that it then has: the answer is the one that the definition gives, and
+-- from the head and the tables that a caller lends to those that it then has: the answers are those that the definition gives, and
 -- so is all that the head handed back and the tables hold
 pub record Gives (c : Call) (before : State) (r : Reply) (after : State) : Type 0 where
-  pub answer-same : r .answer ≡ outcomeOf c before .answer
+  pub answers-same : said r ≡ outcomeOf c before .answers
   pub head-kept : after .head ≡ r .head
   pub after-same : after ≡ outcomeOf c before .after

@@ -1,11 +1,14 @@
 -- Lists of calls of the library: each is handed the head and the tables that the one before handed back, but for refused calls that were
 -- lent others. Assumes nothing.
+use Prim.Native.Nat.{ℕ}
 use mathlib.Core.Path.{_≡_}
-use mathlib.Core.Bool.{true}
 use mathlib.Core.List.{List, [], _∷_}
+use Rattle.spec.specs.declared.types.Answer.the-variants.{Refused}
 use Rattle.spec.specs.Tables.{State}
-use Rattle.spec.specs.Lists.{Call, Event, isRefused}
+use Rattle.spec.specs.Calls.Call.{Call}
+use Rattle.spec.specs.Lists.{Event, refusedEvent}
 use Rattle.decide.specs.declared.types.Reply.{Reply}
+use Rattle.decide.specs.Replies.{said}
 use Rattle.queue.specs.Gives.{Gives}
 
 -- a list of calls that meet their contract, with their answers, the newest first. Among them may stand refused calls that were lent
@@ -13,7 +16,7 @@ use Rattle.queue.specs.Gives.{Gives}
 pub data Ran (from : State) : List Event → State → Type 0 where
   none : Ran from [] from
   next : {es : List Event} {before after : State} (c : Call) (r : Reply) → Ran from es before → Gives c before r after
-      → Ran from (record { call = c; answer = r .answer } ∷ es) after
+      → Ran from (record { call = c; answers = said r } ∷ es) after
   refused :
-      {es : List Event} {now other otherAfter : State} (c : Call) (r : Reply) → Ran from es now → Gives c other r otherAfter
-      → isRefused (r .answer) ≡ true → Ran from (record { call = c; answer = r .answer } ∷ es) now
+      {es : List Event} {now other otherAfter : State} (c : Call) (r : Reply) (number : ℕ) → Ran from es now
+      → Gives c other r otherAfter → r .answer ≡ Refused number → Ran from (refusedEvent c number ∷ es) now

@@ -12,7 +12,7 @@ use lib.ListN.{getD}
 use Rattle.slots.proofs.Laws.Tests.{Test, holds, fails, test, Same, same-yes, same-no, same, le, gt, order}
 use Rattle.spec.specs.declared.types.Counts.{Counts}
 use Rattle.spec.specs.Tables.{zeroCounts}
-use Rattle.spec.specs.Victim.{hasSmallerRatio}
+use Rattle.spec.specs.Chart.{hasSmallerRatio}
 use Rattle.spec.proofs.Calls.Victim.{AtMost, at-most-trans, at-most-facts, at-most-test, Rated, smaller, not-smaller, rated}
 use Rattle.search.specs.declared.victim.Latest.{Latest}
 use Rattle.search.specs.Scans.{betterOf, bestOf, smallestRatioPlace, HaveRatios, Wins}

@@ -9,8 +9,7 @@ use native.Mathlib.Omega.{arith}
 use lib.ListN.{length, getD}
 use lib.Seq.{set-out, getD-set-same, getD-set-other}
 use Rattle.spec.specs.declared.types.Counts.{Counts}
-use Rattle.spec.specs.Tables.{zeroCounts, recordOf}
-use Rattle.spec.specs.Calls.{change, oneMoreSubmitted}
+use Rattle.spec.specs.Tables.{zeroCounts, recordOf, change, oneMoreSubmitted}
 
 -- a product of two u32 fits u64
 pub product-fits : (a b : ℕ) → a < 2 ^ 32 → b < 2 ^ 32 → a * b < 2 ^ 64

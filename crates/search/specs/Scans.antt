@@ -7,10 +7,8 @@ use lib.Dec.{leb, ltb, eqb}
 use lib.ListN.{length, getD, take, drop, set}
 use Rattle.spec.specs.declared.types.Head.{Head}
 use Rattle.spec.specs.declared.types.Counts.{Counts}
-use Rattle.spec.specs.Tables.{mostClients, zeroCounts}
-use Rattle.spec.specs.Chart.{roomTo}
-use Rattle.spec.specs.Victim.{hasSmallerRatio}
-use Rattle.spec.specs.Calls.{change, oneMoreSubmitted}
+use Rattle.spec.specs.Tables.{mostClients, zeroCounts, change, oneMoreSubmitted}
+use Rattle.spec.specs.Chart.{roomTo, hasSmallerRatio}
 use Rattle.search.specs.declared.victim.Latest.{Latest}
 
 -- no entry is larger than a later one

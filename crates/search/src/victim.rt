@@ -6,7 +6,7 @@ ghost use mathlib.Core.Path.{_≡_};
 ghost use Prim.Native.Nat.{_≤_, _<_};
 ghost use lib.ListN.{length, getD};
 ghost use Rattle.spec.specs.Tables.{zeroCounts, recordsOf};
-ghost use Rattle.spec.specs.Victim.{hasSmallerRatio};
+ghost use Rattle.spec.specs.Chart.{hasSmallerRatio};
 ghost use Rattle.columns.specs.Widths.{largest32};
 ghost use Rattle.search.specs.Scans.{countsWith, betterOf, smallestRatioPlace};
 

@@ -11,16 +11,17 @@ use Rattle.spec.specs.declared.types.Frame.{Frame}
 use Rattle.spec.specs.declared.types.Frame.the-variants.{Open, Submit, Tick, Report, Chart, Bad}
 use Rattle.spec.specs.declared.types.Head.{Head}
 use Rattle.spec.specs.declared.types.Request.{Request}
-use Rattle.spec.specs.Tables.{mostRecords, mostClients, width}
-use Rattle.frame.specs.Written.{mostBytes, replyBytes, CanDraw}
-use Rattle.spec.specs.Tables.{stateOf}
+use Rattle.spec.specs.Tables.{mostRecords, mostClients, width, stateOf}
+use Rattle.spec.specs.Lines.Frames.{answerLines}
+use Rattle.spec.specs.Lines.Session.{task}
+use Rattle.frame.specs.Written.{mostBytes, CanDraw}
 use Rattle.decide.specs.declared.types.Reply.{Reply}
 use Rattle.session.specs.declared.types.Session.{Session}
 use Rattle.session.specs.declared.types.Fed.{Fed}
 use Rattle.session.specs.declared.types.Turn.{Turn}
 use Rattle.session.specs.declared.types.Share.{Share}
-use Rattle.session.specs.Answers.{Answered}
-use Rattle.session.specs.Standing.{reservedOf, doFit, recordsFor, numbersFor}
+use Rattle.session.specs.Answered.{Answered}
+use Rattle.session.specs.Standing.{reservedOf, doFit, lengthsFor, recordsFor, numbersFor}
 use Rattle.session.specs.Feeding.{Next, canWith, Steps}
 use Rattle.session.proofs.Laws.Lending.{fit-facts, up-most}
 use Rattle.session.proofs.Laws.Replied.{Replied}
@@ -41,21 +42,11 @@ shareFor turn fed = record { records = recordsFor (turn .frame) (fed .session); 
 
 records-most : (frame : Frame) (s : Session) → recordsFor frame s ≤ mostRecords
 unfolding recordsFor
-records-most (Open setup records) s = up-most mostRecords records
-records-most (Submit client deadline) s = up-most mostRecords (s .records)
-records-most Tick s = up-most mostRecords (s .records)
-records-most (Report client) s = up-most mostRecords (s .records)
-records-most Chart s = up-most mostRecords (s .records)
-records-most Bad s = up-most mostRecords (s .records)
+records-most frame s = up-most mostRecords (lengthsFor (task frame .named) s .records)
 
 numbers-most : (frame : Frame) (s : Session) → numbersFor frame s ≤ width * mostClients
 unfolding numbersFor
-numbers-most (Open setup records) s = omega (arith, up-most mostClients (setup .clients))
-numbers-most (Submit client deadline) s = omega (arith, up-most mostClients (s .head .setup .clients))
-numbers-most Tick s = omega (arith, up-most mostClients (s .head .setup .clients))
-numbers-most (Report client) s = omega (arith, up-most mostClients (s .head .setup .clients))
-numbers-most Chart s = omega (arith, up-most mostClients (s .head .setup .clients))
-numbers-most Bad s = omega (arith, up-most mostClients (s .head .setup .clients))
+numbers-most frame s = omega (arith, up-most mostClients (lengthsFor (task frame .named) s .clients))
 
 module _ (line : List ℕ) (behind : ℕ) (fed : Fed) (ws : List Request) (xs st out : List ℕ) (turn : Turn) (goes : turn .ends ≡ false)
     (next : Next line behind fed (canWith fed (reservedOf ws xs) st out) turn) (l : Share) (lends : l ≡ shareFor turn fed) where
@@ -82,7 +73,7 @@ module _ (line : List ℕ) (behind : ℕ) (fed : Fed) (ws : List Request) (xs st
     -- the reply can be written, and once it is, the turn is done
     pub turn-goes : ((fed .put + mostBytes ≤ length out) × CanDraw (a .answer) st′)
         × ((out′ : List ℕ) (put : ℕ) (r : Fed)
-        → (fed .put ≤ put) × (put ≤ fed .put + mostBytes) × (take put out′ ≡ take (fed .put) out ++ replyBytes (a .head .setup) (a .answer) st′)
+        → (fed .put ≤ put) × (put ≤ fed .put + mostBytes) × (take put out′ ≡ take (fed .put) out ++ answerLines (a .head .setup) st′ (a .answer))
         → r ≡ answered fed turn a put
         → Steps line behind fed (reservedOf ws xs) st out r
         (reservedOf (zs ++ drop (l .records) ws) (ys ++ drop (l .numbers) xs)) out′)

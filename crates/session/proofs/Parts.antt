@@ -10,13 +10,14 @@ use lib.ListN.{length, getD, take, drop, replicate, length-take, length-drop}
 use lib.Seq.{take-length, take-take, take-add, getD-drop}
 use Rattle.slots.proofs.Laws.Tests.{le, gt, order}
 use Rattle.spec.specs.Tables.{State}
-use Rattle.spec.specs.Session.{Text, textOf, replies, atEnd, session, atStart as stateAtStart}
+use Rattle.spec.specs.Lines.Frames.{longestFrame}
+use Rattle.spec.specs.Lines.Session.{Text, textOf, replies, atEnd, session, atStart as stateAtStart}
 use Rattle.spec.proofs.Laws.Every.{and-both}
 use Rattle.frame.specs.Lines.{NoFeed, slice}
 use Rattle.frame.specs.Written.{mostBytes}
 use Rattle.session.specs.declared.types.Session.{Session}
 use Rattle.session.specs.declared.types.Fed.{Fed}
-use Rattle.session.specs.Standing.{Reserved, heldIn, fitsIn, longestFrame, Begun, Reached, Leads}
+use Rattle.session.specs.Standing.{Reserved, heldIn, fitsIn, Begun, Reached, Leads}
 use Rattle.session.specs.Feeding.{FedBy, Left, canWith, owed}
 use Rattle.session.specs.Parts.{atStart, Lent, Made, Through, begins, goes}
 use Rattle.session.proofs.Laws.Texts.{begun, text-append, slice-goes-on, take-slice}

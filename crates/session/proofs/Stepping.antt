@@ -10,9 +10,10 @@ use lib.ListN.{length, take}
 use Rattle.spec.specs.declared.types.Request.{Request}
 use Rattle.spec.specs.Every.{toNumber}
 use Rattle.spec.specs.Tables.{State}
-use Rattle.spec.specs.Session.{reply}
+use Rattle.spec.specs.Lines.Frames.{answerLines}
+use Rattle.spec.specs.Lines.Session.{reply}
 use Rattle.spec.proofs.Laws.Every.{and-left, and-right}
-use Rattle.frame.specs.Written.{mostBytes, replyBytes}
+use Rattle.frame.specs.Written.{mostBytes}
 use Rattle.decide.specs.declared.types.Reply.{Reply}
 use Rattle.session.specs.declared.types.Session.{Session}
 use Rattle.session.specs.declared.types.Fed.{Fed}
@@ -142,7 +143,7 @@ pub answers : {line : List ℕ} {behind : ℕ} {fed : Fed} {t : Reserved} {start
     → turn .ends ≡ false → Next line behind fed (canWith fed t starts out) turn
     → Replied (turn .frame) (fed .session) t starts a zs ys starts′
     → (fed .put ≤ put) × (put ≤ fed .put + mostBytes)
-    × (take put out′ ≡ take (fed .put) out ++ replyBytes (a .head .setup) (a .answer) starts′)
+    × (take put out′ ≡ take (fed .put) out ++ answerLines (a .head .setup) starts′ (a .answer))
     → r ≡ answered fed turn a put
     → Steps line behind fed t starts out r
     (putBack (turn .frame) (fed .session) zs ys t) out′

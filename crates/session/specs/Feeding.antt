@@ -7,14 +7,14 @@ use lib.Dec.{leb}
 use lib.ListN.{length, take}
 use Rattle.spec.specs.declared.types.Answer.the-variants.{Refused}
 use Rattle.spec.specs.Tables.{State}
-use Rattle.spec.specs.Frames.{frameOf, answerLine}
-use Rattle.spec.specs.Session.{textOf}
+use Rattle.spec.specs.Lines.Frames.{frameOf, answerLine, longestFrame}
+use Rattle.spec.specs.Lines.Session.{textOf}
 use Rattle.frame.specs.Lines.{NoFeed, Behind, slice, lineAt}
 use Rattle.frame.specs.Written.{longestLine, mostBytes}
 use Rattle.session.specs.declared.types.Session.{Session}
 use Rattle.session.specs.declared.types.Fed.{Fed}
 use Rattle.session.specs.declared.types.Turn.{Turn}
-use Rattle.session.specs.Standing.{Reserved, heldIn, doFit, fitsIn, longestFrame, Begun, Leads}
+use Rattle.session.specs.Standing.{Reserved, heldIn, doFit, fitsIn, Begun, Leads}
 
 -- ---- what stands next in the input, from `used` on
 -- what a reader of the input that stands at used hands back: a line, and where the reader then stands

@@ -1,4 +1,4 @@
-pub mod Answers
+pub mod Answered
 pub mod Feeding
 pub mod Parts
 pub mod Standing

@@ -2,18 +2,19 @@
 -- is remembered. Assumes nothing.
 use Prim.Native.Nat.{ℕ, _*_, _<_}
 use mathlib.Core.Bool.{Bool, true, false, cond, _&&_}
-use mathlib.Core.List.{List, [], _++_}
+use mathlib.Core.List.{List, [], _∷_, _++_}
 use mathlib.Core.Path.{_≡_}
 use lib.Dec.{leb}
 use lib.ListN.{length, take}
 use Rattle.spec.specs.declared.types.Frame.{Frame}
-use Rattle.spec.specs.declared.types.Frame.the-variants.{Open, Submit, Tick, Report, Chart, Bad}
 use Rattle.spec.specs.declared.types.Answer.{Answer}
 use Rattle.spec.specs.declared.types.Request.{Request}
+use Rattle.spec.specs.Every.{firstOr}
 use Rattle.spec.specs.Tables.{mostRecords, mostClients, width, State, stateOf}
-use Rattle.spec.specs.Lists.{isRefused}
-use Rattle.spec.specs.Session.{textOf, replies}
-unfoldable pub use Rattle.spec.specs.Session.{stateAfter}
+use Rattle.spec.specs.Calls.Readings.{isRefused, reading}
+use Rattle.spec.specs.Lines.Frames.{longestFrame}
+use Rattle.spec.specs.Lines.Session.{textOf, replies, Lengths, task}
+unfoldable pub use Rattle.spec.specs.Lines.Session.{stateAfter}
 use Rattle.session.specs.declared.types.Session.{Session}
 
 -- "reserves 2,048 waiting records once": the tables that a session is lent, as long as any open can name
@@ -43,35 +44,24 @@ fitsIn s t starts = doFit s (length (t .waitingTable)) (length (t .clientNumbers
 abbrev pub upTo : ℕ → ℕ → ℕ
 upTo most n = cond (leb n most) n 0
 
+-- the lengths that an open names, or else those in use
+abbrev pub lengthsFor : List Lengths → Session → Lengths
+lengthsFor named s = firstOr (record { records = s .records; clients = s .head .setup .clients }) named
+
 -- how many waiting records, and how many numbers of client records, are lent to the call that a frame asks for
 unfoldable pub recordsFor : Frame → Session → ℕ
-recordsFor (Open setup records) s = upTo mostRecords records
-recordsFor (Submit client deadline) s = upTo mostRecords (s .records)
-recordsFor Tick s = upTo mostRecords (s .records)
-recordsFor (Report client) s = upTo mostRecords (s .records)
-recordsFor Chart s = upTo mostRecords (s .records)
-recordsFor Bad s = upTo mostRecords (s .records)
+recordsFor frame s = upTo mostRecords (lengthsFor (task frame .named) s .records)
 
 unfoldable pub numbersFor : Frame → Session → ℕ
-numbersFor (Open setup records) s = width * upTo mostClients (setup .clients)
-numbersFor (Submit client deadline) s = width * upTo mostClients (s .head .setup .clients)
-numbersFor Tick s = width * upTo mostClients (s .head .setup .clients)
-numbersFor (Report client) s = width * upTo mostClients (s .head .setup .clients)
-numbersFor Chart s = width * upTo mostClients (s .head .setup .clients)
-numbersFor Bad s = width * upTo mostClients (s .head .setup .clients)
+numbersFor frame s = width * upTo mostClients (lengthsFor (task frame .named) s .clients)
 
 -- how many waiting records are in use after a frame got its answer: those that an accepted open names
-unfoldable pub recordsAfter : Frame → Answer → ℕ → ℕ
-recordsAfter (Open setup records) a before = cond (isRefused a) before records
-recordsAfter (Submit client deadline) a before = before
-recordsAfter Tick a before = before
-recordsAfter (Report client) a before = before
-recordsAfter Chart a before = before
-recordsAfter Bad a before = before
+abbrev pub recordsNamed : List Lengths → Answer → ℕ → ℕ
+recordsNamed [] a before = before
+recordsNamed (l ∷ ls) a before = cond (reading a .refuses) before (l .records)
 
--- the digits of the longest frame
-abbrev pub longestFrame : ℕ
-longestFrame = 22
+unfoldable pub recordsAfter : Frame → Answer → ℕ → ℕ
+recordsAfter frame a before = recordsNamed (task frame .named) a before
 
 -- what is remembered of the characters behind the last line feed: there are none, or more than any frame has
 abbrev pub Begun : Bool → List ℕ → Type 0

@@ -15,7 +15,7 @@ ghost use Prim.Native.Nat.{_+_, _≤_, _<_, _^_};
 ghost use lib.ListN.{length};
 ghost use Rattle.spec.specs.Tables.{stateOf};
 ghost use Rattle.frame.specs.Digits.{digitTable};
-ghost use Rattle.session.specs.Answers.{Answered};
+ghost use Rattle.session.specs.Answered.{Answered};
 ghost use Rattle.session.specs.Standing.{reservedOf};
 ghost use Rattle.session.specs.Feeding.{Steps, FedBy};
 

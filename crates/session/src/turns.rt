@@ -19,9 +19,10 @@ ghost use mathlib.Core.Path.{_≡_};
 ghost use Prim.Native.Nat.{ℕ, _+_, _≤_, _<_, _^_};
 ghost use lib.ListN.{length, take};
 ghost use Rattle.spec.specs.declared.types.Answer.the-variants.{Refused};
-ghost use Rattle.spec.specs.Lists.{isRefused};
+ghost use Rattle.spec.specs.Calls.Readings.{isRefused, reading};
+ghost use Rattle.spec.specs.Lines.Frames.{answerLines};
 ghost use Rattle.frame.specs.Digits.{digitTable};
-ghost use Rattle.frame.specs.Written.{mostBytes, CanDraw, replyBytes};
+ghost use Rattle.frame.specs.Written.{mostBytes, CanDraw};
 ghost use Rattle.session.specs.Standing.{doFit, upTo, recordsFor, numbersFor, recordsAfter};
 ghost use Rattle.session.specs.Parts.{atStart};
 ghost use Rattle.session.specs.Feeding.{can, HandsBack, Whole, None, Next, owedIn};
@@ -224,7 +225,7 @@ pub(crate) fn no_frame(head: Head) -> Reply
 pub(crate) fn put_reply(out: &mut [u8], fed: Fed, reply: Reply, starts: &[u64]) -> usize
     requires { ⌜ (fed .put + mostBytes ≤ length (now out)) × CanDraw (reply .answer) (now starts) ⌝ }
     ensures { λ r. ⌜ (fed .put ≤ r) × (r ≤ fed .put + mostBytes)
-        × (take r (now (out .exit)) ≡ take (fed .put) (now (out .entry)) ++ replyBytes (reply .head .setup) (reply .answer) (now (starts .entry))) ⌝ }
+        × (take r (now (out .exit)) ≡ take (fed .put) (now (out .entry)) ++ answerLines (reply .head .setup) (now (starts .entry)) (reply .answer)) ⌝ }
 {
     let answer = reply.answer;
     let setup = reply.head.setup;
@@ -232,7 +233,7 @@ pub(crate) fn put_reply(out: &mut [u8], fed: Fed, reply: Reply, starts: &[u64]) 
 }
 
 fn is_refused(answer: Answer) -> bool
-    ensures { λ r. ⌜ r ≡ isRefused answer ⌝ }
+    ensures { λ r. ⌜ r ≡ reading answer .refuses ⌝ }
 {
     match answer {
         Answer::Refused { number: _ } => true,

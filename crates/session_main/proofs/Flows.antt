@@ -12,7 +12,7 @@ use Rattle.columns.specs.Widths.{largest64}
 use Rattle.session.specs.declared.types.Fed.{Fed}
 use Rattle.frame.specs.Lines.{NoFeed}
 use Rattle.frame.specs.Written.{mostBytes}
-use Rattle.session.specs.Standing.{Reserved, fitsIn, doFit, longestFrame}
+use Rattle.session.specs.Standing.{Reserved, fitsIn, doFit}
 use Rattle.session.specs.Feeding.{FedBy, Left, canWith, owed}
 use Rattle.session.proofs.Parts.{parts-together, no-feed-left, feeds-on}
 use Rattle.session.specs.Parts.{Lent, Through, begins, goes}
@@ -20,6 +20,7 @@ use Rattle.session_main.specs.declared.flow.Flow.{Flow}
 use Rattle.session_main.specs.declared.system.Got.{Got}
 use Rattle.session_main.specs.Flowing.{bufferLength, deliveredBy, isFailed, atFirst, afterRead, CanRead, ReadsOn, toWrite, GoesOn, Suffices, first, amount, AllDeliver, Delivers, Write, handedTo, AllWritten, Writes, Handed, Served}
 use Rattle.session_main.proofs.Reading.{at-most, failed-none}
+use Rattle.spec.specs.Lines.Frames.{longestFrame}
 
 -- ---- an input of which more is read
 -- what was cut from it can still be cut from it

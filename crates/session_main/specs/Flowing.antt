@@ -19,7 +19,7 @@ use lib.IntN.{ℤ, pos, negsuc}
 use lib.ListN.{length, take, drop}
 use Rattle.libc.specs.Io.{Moved}
 use Rattle.session.specs.declared.types.Fed.{Fed}
-use Rattle.spec.specs.Session.{session as sessionOf}
+use Rattle.spec.specs.Lines.Session.{session as sessionOf}
 use Rattle.columns.specs.Widths.{largest64}
 use Rattle.frame.specs.Written.{mostBytes}
 use Rattle.session.specs.Standing.{Reserved, fitsIn}

@@ -7,14 +7,15 @@ use native.Mathlib.Omega.{arith}
 use lib.ListN.{length}
 use Rattle.slots.proofs.Laws.Tests.{le, gt, order}
 use Rattle.slots.proofs.Laws.Sums.{All, all-imp, all-append, total, total-append}
-use Rattle.slots.proofs.Queue.{opens, Entry, Booking, Queue, empty, arrival, asking, ticked, Joined, Swapped}
+use Rattle.slots.proofs.Queue.{opens, Entry, Booking, Queue, empty, arrival, asking, ticked, Joined, Swapped, Taken}
+use Rattle.slots.proofs.Queue.{withdrawing}
 use Rattle.slots.proofs.Laws.Sorted.{Sorted, due, upto}
-use Rattle.slots.proofs.Upper.{Inv, inv-empty, inv-kept, inv-dropped, inv-ticked}
+use Rattle.slots.proofs.Upper.{Inv, inv-empty, inv-kept, inv-dropped, inv-ticked, inv-withdrawn}
 use Rattle.slots.proofs.Reached.Chart.{chart}
 use Rattle.slots.proofs.Reached.Book.{who, Known, Good}
 use Rattle.slots.proofs.Reached.Seat.{sits, chart-who, seated, rank-heads, rank-none}
-use Rattle.slots.proofs.Reached.Own.{Served, Waits, Own, own-empty, own-kept, own-dropped, own-ticked, log-none}
-use Rattle.slots.proofs.Reached.Own.{none-due, roomy}
+use Rattle.slots.proofs.Reached.Own.{Served, Waits, Own, own-empty, own-kept, own-dropped, own-ticked, own-withdrawn}
+use Rattle.slots.proofs.Reached.Own.{log-none, none-due, roomy}
 
 module _ (heads : ℕ → ℕ) where
   pub record Both (q : Queue) : Type 0 where
@@ -44,7 +45,13 @@ module _ (heads : ℕ → ℕ) where
       }
 
   pub both-ticked : (q : Queue) → Both q → Both (ticked heads q)
-  both-ticked q B = record { inv = inv-ticked heads q (B .inv); own = own-ticked heads q (B .inv) (B .own) }
+  both-ticked q B = record { inv = inv-ticked heads q (B .inv); own = own-ticked heads q (none-due heads q (B .inv)) (B .own) }
+
+  -- e is withdrawn, and vs waits: no call withdraws yet, and one that does will follow this step
+  pub both-withdrawn : (e : Entry) (q : Queue) (vs : List Entry) → Taken e (q .waiting) vs → Sorted 0 vs → Both q
+      → Both (withdrawing vs q)
+  both-withdrawn e q vs T s B =
+      record { inv = inv-withdrawn heads e q vs T s (B .inv); own = own-withdrawn heads e q vs T (B .own) }
 
   -- ---- the log and the chart together
   abbrev pub bookings : Queue → List Booking

@@ -1,10 +1,15 @@
--- Small queues, computed: the definitions say what is meant with one head, with two, and where a slot is closed. Assumes nothing.
-use Prim.Native.Nat.{ℕ, zero, suc}
+-- Small queues, computed: the definitions say what is meant with one head, with two, where a slot is closed, and where a request
+-- is withdrawn or discarded. Assumes nothing.
+use Prim.Native.Nat.{ℕ, zero, suc, _+_, _≤_}
 use mathlib.Core.Path.{_≡_, refl}
 use mathlib.Core.List.{[], _∷_}
+use native.Mathlib.Omega.{arith}
+use lib.ListN.{length}
 use Rattle.slots.proofs.Room.{room}
-use Rattle.slots.specs.Plan.{none, at, uses}
-use Rattle.slots.proofs.Queue.{opens, Queue, empty, arrival, asking, ticked}
+use Rattle.slots.specs.Plan.{none, at, uses, Plan, size}
+use Rattle.slots.proofs.Laws.Sums.{total}
+use Rattle.slots.proofs.Queue.{opens, Queue, empty, arrival, asking, ticked, Taken, withdrawing, discarded}
+use Rattle.slots.proofs.Laws.Count.{isAt-no}
 use Rattle.slots.proofs.Reached.Chart.{plan}
 use Rattle.slots.proofs.Single.{own}
 
@@ -39,8 +44,11 @@ uses-two = refl
 
 -- ---- plans
 -- requests 1, 2 and 3, where request 1 was dropped for request 2
+abbrev first : Queue
+first = asking 1 (arrival 1 empty ∷ []) empty
+
 abbrev second : Queue
-second = asking 1 (record { deadline = 1; number = 2 } ∷ []) (asking 1 (arrival 1 empty ∷ []) empty)
+second = asking 1 (arrival 1 first ∷ []) first
 
 abbrev third : Queue
 third = asking 3 (record { deadline = 1; number = 2 } ∷ arrival 3 second ∷ []) second
@@ -61,3 +69,40 @@ third-two = refl
 third-closed : plan closed third ≡ at 1 ∷ at 0 ∷ none ∷ []
 unfolding opens
 third-closed = refl
+
+-- ---- a withdrawal
+-- request 2 is withdrawn, and none waits
+abbrev gone : Queue
+gone = withdrawing [] second
+
+-- it was the only one that waited
+gone-taken : Taken (arrival 1 first) (second .waiting) (gone .waiting)
+unfolding total
+gone-taken = record { sums = λ f. refl; lifts = λ p a. tt }
+
+-- request 1, which was dropped for it, does not come back
+gone-own : own gone ≡ none ∷ none ∷ []
+gone-own = refl
+
+-- a plan may still hold request 2
+gone-plan : Plan single (gone .asked) (at 0 ∷ none ∷ [])
+unfolding uses
+gone-plan = record { fits = (omega arith, omega arith, tt); shared = most }
+  where
+    most : (s : ℕ) → uses s (at 0 ∷ none ∷ []) ≤ 1
+    most zero = omega arith
+    most (suc s) = omega (arith, isAt-no (suc s) 0 (λ e. omega arith))
+
+-- that plan has one more than were served and wait: as many as were withdrawn
+gone-bound : size (at 0 ∷ none ∷ []) ≡ length (gone .log) + gone .withdrawn + length (gone .waiting)
+unfolding size
+gone-bound = refl
+
+-- ---- a discard
+-- requests 1 and 2 are both kept, the slot 0 serves one, and the other is discarded
+abbrev late : Queue
+late = discarded 1 (ticked single (asking 1 (arrival 1 empty ∷ arrival 1 first ∷ []) first))
+
+-- that is no withdrawal, so that the bound is the one that was served
+late-bound : length (late .log) + late .withdrawn + length (late .waiting) ≡ 1
+late-bound = refl

@@ -1,5 +1,6 @@
 -- The results, for every `heads`, as the specification has room and plans: what the steps need, the queue's own plan is a largest
--- one, and requests released at one time can all finish just where there is room for them. Assumes nothing.
+-- one where none was withdrawn, and requests released at one time can all finish just where there is room for them. Assumes
+-- nothing.
 use Prim.Native.Nat.{ℕ, suc, _+_, _-_, _≤_, _<_, min}
 use mathlib.Core.Path.{_≡_, refl}
 use mathlib.Core.List.{List, map}
@@ -36,8 +37,10 @@ module _ (heads : ℕ → ℕ) where
       (λ D h g. fits-opens heads (due D (arrival d q) + upto D (q .waiting)) (q .clock) D h (under D h g)) B
 
   module _ (q : Queue) (B : Both heads q) where
-    -- ---- no plan has more requests than were served and wait, and the queue's own has as many
-    pub largest : (P : List Slot) → Plan heads (q .asked) P → size P ≤ length (q .log) + length (q .waiting)
+    -- ---- how many requests a plan has
+    -- no plan has more than were served, were withdrawn and wait, and the queue's own has as many as were served and wait: it is
+    -- a largest one where none was withdrawn, and no call withdraws yet
+    pub largest : (P : List Slot) → Plan heads (q .asked) P → size P ≤ length (q .log) + q .withdrawn + length (q .waiting)
     largest = upper heads q (B .inv)
 
     own-plan : Plan heads (q .asked) (plan heads q)

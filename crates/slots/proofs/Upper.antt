@@ -1,4 +1,4 @@
--- No plan of the requests has more than the queue has served and still holds. Assumes nothing.
+-- No plan of the requests has more than were served, were withdrawn and still wait. Assumes nothing.
 use Prim.Native.Nat.{ℕ, suc, _+_, _≤_, _<_}
 use mathlib.Core.Path.{_≡_}
 use mathlib.Core.List.{List, [], _∷_}
@@ -7,9 +7,9 @@ use lib.ListN.{length}
 use Rattle.slots.specs.Plan.{Window, Slot, none, at, Fits, uses, Plan, planned, size}
 use Rattle.slots.proofs.Laws.Tests.{le, gt, order}
 use Rattle.slots.proofs.Laws.Sums.{total}
-use Rattle.slots.proofs.Queue.{opens, Entry, Queue, empty, arrival, asking, ticked, Joined, Swapped}
-use Rattle.slots.proofs.Laws.Count.{length-log, length-joined, length-swapped, before, below, below-mono, below-suc}
-use Rattle.slots.proofs.Laws.Count.{opens-suc, opens-mono, pigeon}
+use Rattle.slots.proofs.Queue.{opens, Entry, Queue, empty, arrival, asking, ticked, Joined, Swapped, Taken, withdrawing}
+use Rattle.slots.proofs.Laws.Count.{length-log, length-joined, length-swapped, length-taken, before, below, below-mono}
+use Rattle.slots.proofs.Laws.Count.{below-suc, opens-suc, opens-mono, pigeon}
 use Rattle.slots.proofs.Laws.Sorted.{Sorted, sorted-drop, due, upto, due-one, due-yes, due-no, upto-drop}
 
 -- ---- the newest entry of a plan, and the plan without it
@@ -35,10 +35,12 @@ module _ (heads : ℕ → ℕ) where
   unfolding uses
   rest r R x P p = record { fits = rest-fits r R x P (p .fits); shared = λ t. omega (arith, p .shared t) }
 
-  -- the slots of a plan before the clock, or not before D, are no more than were served and wait for a deadline after D
+  -- the slots of a plan before the clock, or not before D, are no more than were served, were withdrawn and wait for a deadline
+  -- after D
   abbrev pub Bound : Queue → List Slot → Type 0
   Bound q P =
-      (D : ℕ) → q .clock ≤ D → size P + below (q .clock) P + upto D (q .waiting) ≤ length (q .log) + length (q .waiting) + below D P
+      (D : ℕ) → q .clock ≤ D
+      → size P + below (q .clock) P + upto D (q .waiting) ≤ length (q .log) + q .withdrawn + length (q .waiting) + below D P
 
   -- those of the waiting ones that are due by a time have room from the clock on
   abbrev pub Feasible : ℕ → List Entry → Type 0
@@ -84,7 +86,7 @@ module _ (heads : ℕ → ℕ) where
         n : New t d x
         n = new t d (q .asked) x P (p .fits)
 
-        old : size P + below t P + upto D ws ≤ length (q .log) + length ws + below D P
+        old : size P + below t P + upto D ws ≤ length (q .log) + q .withdrawn + length ws + below D P
         old = I .bound P (rest r (q .asked) x P p) D h
 
     pub inv-kept : Joined e ws vs → Feasible t vs → Inv (asking d vs q)
@@ -153,7 +155,7 @@ module _ (heads : ℕ → ℕ) where
           alike : length vs ≡ length ws
           alike = length-swapped e victim ws vs S
 
-          old : (D : ℕ) → t ≤ D → size P + below t P + upto D ws ≤ length (q .log) + length ws + below D P
+          old : (D : ℕ) → t ≤ D → size P + below t P + upto D ws ≤ length (q .log) + q .withdrawn + length ws + below D P
           old = I .bound P (rest r (q .asked) x P p)
 
       dropped-feasible : Feasible t vs
@@ -167,6 +169,24 @@ module _ (heads : ℕ → ℕ) where
       inv-dropped = record { sorted = s; feasible = dropped-feasible; bound = dropped-bound }
 
   -- ---- a tick
+  -- the bound asks that those that wait are in order, and no room for them, so that it stands too where every request is kept
+  pub bound-ticked : (q : Queue) → Sorted 0 (q .waiting) → (P : List Slot) → Plan heads (q .asked) P → Bound q P
+      → Bound (ticked heads q) P
+  bound-ticked q s P p b D h =
+      let t = q .clock in
+      let k = heads t in
+      let ws = q .waiting in
+      omega (
+        arith,
+        upto-drop D 0 k ws s,
+        below-suc t P,
+        p .shared t,
+        b D (omega arith),
+        b t (omega arith),
+        below-mono (suc t) D P h,
+        length-log t k ws (q .log),
+      )
+
   pub inv-ticked : (q : Queue) → Inv q → Inv (ticked heads q)
   inv-ticked q I =
       record {
@@ -180,18 +200,7 @@ module _ (heads : ℕ → ℕ) where
               opens-suc heads t,
               opens-mono heads (suc t) D h,
             );
-        bound =
-            λ P p D h.
-            omega (
-              arith,
-              upto-drop D 0 k ws (I .sorted),
-              below-suc t P,
-              p .shared t,
-              I .bound P p D (omega arith),
-              I .bound P p t (omega arith),
-              below-mono (suc t) D P h,
-              length-log t k ws (q .log),
-            );
+        bound = λ P p. bound-ticked q (I .sorted) P p (I .bound P p);
       }
     where
       t : ℕ
@@ -203,5 +212,18 @@ module _ (heads : ℕ → ℕ) where
       ws : List Entry
       ws = q .waiting
 
-  pub upper : (q : Queue) → Inv q → (P : List Slot) → Plan heads (q .asked) P → size P ≤ length (q .log) + length (q .waiting)
+  -- ---- one is withdrawn
+  -- it counts as withdrawn where it counted as waiting, so that the bound stands, and those that are left have room as before
+  pub inv-withdrawn : (e : Entry) (q : Queue) (vs : List Entry) → Taken e (q .waiting) vs → Sorted 0 vs → Inv q
+      → Inv (withdrawing vs q)
+  inv-withdrawn e q vs T s I =
+      record {
+        sorted = s;
+        feasible = λ D h. omega (arith, T .sums (due D), I .feasible D h);
+        bound = λ P p D h. omega (arith, T .sums (due D), due-one D e, length-taken e (q .waiting) vs T, I .bound P p D h);
+      }
+
+  -- ---- the bound at the clock is one on the size of a plan
+  pub upper : (q : Queue) → Inv q → (P : List Slot) → Plan heads (q .asked) P
+      → size P ≤ length (q .log) + q .withdrawn + length (q .waiting)
   upper q I P p = omega (arith, I .bound P p (q .clock) (omega arith))

@@ -9,8 +9,8 @@ use native.Mathlib.Omega.{arith}
 use lib.ListN.{length, take, replicate}
 use Rattle.spec.specs.Every.{every, everyFrom}
 use Rattle.spec.specs.Tables.{State, waiting, behind, clientTable}
-use Rattle.spec.specs.Sound.{isHeadWithin, isZeroRequest, isSound}
 use Rattle.spec.specs.Setup.{firstMatch}
+use Rattle.spec.specs.Sound.{isHeadWithin, isZeroRequest, isSound}
 use Rattle.spec.proofs.Laws.Every.{Value, is-true, is-false, value}
 use Rattle.spec.proofs.Laws.Sound.{head-facts}
 use Rattle.sound.specs.Checks.{talliedOf, tallySize, doesBalance, Passed, tablesRefusal, headRefusal}

@@ -23,7 +23,7 @@ use Rattle.spec.specs.Tables.{mostClients, mostRecords, mostCounted, State, wid
 use Rattle.spec.specs.Order.{comesBefore}
 use Rattle.spec.specs.Chart.{roomTo}
 use Rattle.spec.specs.Sound.{waitingOf, isZeroRequest, isBalanced}
-use Rattle.spec.specs.Refusals.{refusal4}
+use Rattle.spec.specs.Calls.Refusals.{refusal4}
 use Rattle.spec.proofs.Laws.Every.{Value, is-true, is-false, value}
 use Rattle.spec.proofs.Laws.Order.{Compared, compared, before as ordered, after as unordered, earlier, alike, later, alike-later}
 use Rattle.spec.proofs.Laws.Room.{room-back}

@@ -9,12 +9,13 @@ use Rattle.spec.specs.declared.types.Head.{Head}
 use Rattle.spec.specs.declared.types.Request.{Request}
 use Rattle.spec.specs.declared.types.Counts.{Counts}
 use Rattle.spec.specs.Every.{isWithin, everyFrom}
-use Rattle.spec.specs.Tables.{mostClients, mostRecords, mostAhead, mostCounted, clockEnd, zeroRequest, zeroCounts, State, width, recordsOf}
+use Rattle.spec.specs.Tables.{mostClients, mostRecords, mostAhead, mostCounted, clockEnd, zeroRequest, zeroCounts, State}
+use Rattle.spec.specs.Tables.{width, recordsOf}
+use Rattle.spec.specs.Setup.{firstMatch}
 use Rattle.spec.specs.Order.{comesBefore}
 use Rattle.spec.specs.Chart.{roomTo}
-use Rattle.spec.specs.Setup.{firstMatch}
-use Rattle.spec.specs.Refusals.{refusal4, refusal5}
 use Rattle.spec.specs.Sound.{isGiven, isClient, isHeadWithin, waitingOf}
+use Rattle.spec.specs.Calls.Refusals.{refusal4, refusal5}
 use Rattle.columns.specs.Widths.{largest16}
 
 -- where refusal 4 does not hold: a waiting table of so many records and a client table of so many numbers fit the head

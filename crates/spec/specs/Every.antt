@@ -1,7 +1,7 @@
 -- Tests over lists, as computing definitions. Assumes nothing.
-use Prim.Native.Nat.{ℕ, suc, _+_}
+use Prim.Native.Nat.{ℕ, suc, _+_, max}
 use mathlib.Core.Bool.{Bool, true, false, cond, _&&_, _||_}
-use mathlib.Core.List.{List, [], _∷_}
+use mathlib.Core.List.{List, [], _∷_, _++_}
 use lib.Dec.{leb}
 
 -- 1 for true, 0 for false
@@ -43,3 +43,22 @@ module _ {A B : Type 0} where
   unfoldable pub mapFrom : (ℕ → A → B) → ℕ → List A → List B
   mapFrom f i [] = []
   mapFrom f i (x ∷ xs) = f i x ∷ mapFrom f (suc i) xs
+
+-- all that f makes of the elements, one after the other
+abbrev pub gather : {A B : Type 0} → (A → List B) → List A → List B
+gather f [] = []
+gather f (x ∷ xs) = f x ++ gather f xs
+
+-- the first element, or what is given where there is none
+abbrev pub firstOr : {A : Type 0} → A → List A → A
+firstOr none [] = none
+firstOr none (x ∷ xs) = x
+
+-- the sum of numbers, and the largest of them
+abbrev pub sum : List ℕ → ℕ
+sum [] = 0
+sum (n ∷ ns) = n + sum ns
+
+abbrev pub largest : List ℕ → ℕ
+largest [] = 0
+largest (n ∷ ns) = max n (largest ns)

@@ -1,13 +1,9 @@
 pub mod Every
 pub mod Tables
+pub mod Setup
 pub mod Order
 pub mod Chart
-pub mod Victim
 pub mod Sound
-pub mod Refusals
 pub mod Calls
 pub mod Lists
-pub mod Frames
-pub mod Session
-pub mod Setup
-pub mod Printed
+pub mod Lines

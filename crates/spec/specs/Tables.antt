@@ -1,8 +1,8 @@
 -- Bounds, records and the whole state of the queue: document 01, "Tables and bounds". Each bound stands here once, under a name.
 -- Assumes nothing.
-use Prim.Native.Nat.{ℕ, _-_}
+use Prim.Native.Nat.{ℕ, suc, _-_}
 use mathlib.Core.List.{List, [], _∷_, _++_, map}
-use lib.ListN.{length, getD, take, drop, replicate}
+use lib.ListN.{length, getD, take, drop, set, replicate}
 use Rattle.spec.specs.declared.types.Setup.{Setup}
 use Rattle.spec.specs.declared.types.Head.{Head}
 use Rattle.spec.specs.declared.types.Request.{Request}
@@ -79,6 +79,20 @@ recordsOf (a ∷ b ∷ c ∷ xs) = recordOf a b c ∷ recordsOf xs
 unfoldable pub numbersOf : List Counts → List ℕ
 numbersOf [] = []
 numbersOf (k ∷ cs) = recordThen k (numbersOf cs)
+
+-- "adds 1 to" one of a client's counts
+abbrev pub oneMoreSubmitted : Counts → Counts
+oneMoreSubmitted k = record { submitted = suc (k .submitted); served = k .served; dropped = k .dropped }
+
+abbrev pub oneMoreServed : Counts → Counts
+oneMoreServed k = record { submitted = k .submitted; served = suc (k .served); dropped = k .dropped }
+
+abbrev pub oneMoreDropped : Counts → Counts
+oneMoreDropped k = record { submitted = k .submitted; served = k .served; dropped = suc (k .dropped) }
+
+-- the client table with one client's counts changed
+unfoldable pub change : (Counts → Counts) → ℕ → List Counts → List Counts
+change f client cs = set cs client (f (getD cs client zeroCounts))
 
 -- ---- the state
 -- The head and the two lent tables, whatever they hold. The client table is lent as its numbers, one record after the other

@@ -4,12 +4,13 @@ use mathlib.Core.Path.{_≡_, refl, sym, ap, subst, _∙_}
 use mathlib.Core.List.{List}
 use Rattle.spec.specs.declared.types.Head.{Head}
 use Rattle.spec.specs.declared.types.Request.{Request}
-use Rattle.spec.specs.declared.types.Answer.{Answer}
 use Rattle.spec.specs.Tables.{State, stateOf}
 use Rattle.spec.specs.Setup.{Refusal}
-use Rattle.spec.specs.Calls.{Outcome, reportAccepted, chartAccepted}
-use Rattle.spec.specs.Lists.{Call, report, chart, outcomeOf}
-use Rattle.spec.specs.Frames.{kindOf}
+use Rattle.spec.specs.Calls.Readings.{kindOf}
+use Rattle.spec.specs.Calls.Outcome.{Outcome}
+use Rattle.spec.specs.Calls.Report.{reportAccepted}
+use Rattle.spec.specs.Calls.Chart.{chartAccepted}
+use Rattle.spec.specs.Calls.Call.{Call, report, chart, outcomeOf}
 use Rattle.spec.proofs.Laws.Accepted.{Decided, accepts, refuses}
 use Rattle.spec.proofs.Calls.Refused.{outcome-decided}
 use Rattle.decide.specs.declared.types.Reply.{Reply}
@@ -43,8 +44,10 @@ module _ (c : Call) (head values₀ : List ℕ) {h : Head} (is-head : h ≡ head
   exports : {after : State} → after ≡ outcomeOf c s .after → Exported c s values₀ kind values after
   exports same =
       record {
-        kind-same = told .0 ∙ ap kindOf (given .answer-same);
-        values-same = told .1 ∙ ap (λ (a : Answer). written (valueNumbers a) values₀) (given .answer-same);
+        answer = reply .answer;
+        answers-same = given .answers-same;
+        kind-same = told .0;
+        values-same = told .1;
         after-same = same;
       }
 

@@ -7,14 +7,15 @@ use native.Mathlib.Omega.{arith}
 use Rattle.spec.specs.declared.types.Setup.{Setup}
 use Rattle.spec.specs.declared.types.Answer.{Answer}
 use Rattle.spec.specs.declared.types.Answer.the-variants.{Opened, Kept, Dropped, Served, Idle, Reported, Charted, Refused}
-use Rattle.spec.specs.Tables.{State}
 use Rattle.spec.specs.Every.{exists}
-use Rattle.spec.specs.Lists.{Call, opening, outcomeOf, Event, isRefused, isOpened}
-use Rattle.spec.specs.Frames.{kindOf}
-use Rattle.spec.proofs.Lists.Trace.{eventOf}
+use Rattle.spec.specs.Tables.{State}
+use Rattle.spec.specs.Calls.Readings.{isRefused, kindOf, reading}
+use Rattle.spec.specs.Calls.Call.{Call, opening, outcomeOf}
+use Rattle.spec.specs.Lists.{Event, isOpened, refusedEvent}
 use Rattle.spec.proofs.Demands.Demand1.{CountsGiven}
 use Rattle.spec.proofs.Demands.Demand3.{Largest}
 use Rattle.decide.specs.declared.types.Reply.{Reply}
+use Rattle.decide.specs.Replies.{said}
 use Rattle.queue.specs.Gives.{Gives}
 use Rattle.queue.specs.Runs.{Ran}
 use Rattle.queue.specs.Runs as runs
@@ -27,31 +28,30 @@ use Rattle.welsbell.specs.Numbers.{Exported}
 pub data Answering (from : State) : List Event → State → Type 0 where
   none : Answering from [] from
   next : {es : List Event} {before after : State} (c : Call) (values₀ : List ℕ) (kind : ℕ) (values : List ℕ) → Answering from es before
-      → Exported c before values₀ kind values after → Answering from (eventOf c before ∷ es) after
+      → (x : Exported c before values₀ kind values after) → Answering from (record { call = c; answers = x .answer ∷ [] } ∷ es) after
   refused :
-      {es : List Event} {now other otherAfter : State} (c : Call) (values₀ : List ℕ) (kind : ℕ) (values : List ℕ) → Answering from es now
-      → Exported c other values₀ kind values otherAfter → isRefused (outcomeOf c other .answer) ≡ true
-      → Answering from (eventOf c other ∷ es) now
+      {es : List Event} {now other otherAfter : State} (c : Call) (values₀ : List ℕ) (kind : ℕ) (values : List ℕ) (number : ℕ)
+      → Answering from es now → (x : Exported c other values₀ kind values otherAfter) → x .answer ≡ Refused number
+      → Answering from (refusedEvent c number ∷ es) now
 
 -- one call: the library's reply, as the exported call hands it on
-abbrev replied : Call → (before after : State) → Reply
-replied c before after = record { head = after .head; answer = outcomeOf c before .answer }
+abbrev replied : Answer → State → Reply
+replied a after = record { head = after .head; answer = a }
 
 exported-gives : {c : Call} {before : State} {values₀ : List ℕ} {kind : ℕ} {values : List ℕ} {after : State}
-    → Exported c before values₀ kind values after → Gives c before (replied c before after) after
-exported-gives x = record { answer-same = refl; head-kept = refl; after-same = x .after-same }
+    → (x : Exported c before values₀ kind values after) → Gives c before (replied (x .answer) after) after
+exported-gives x = record { answers-same = x .answers-same; head-kept = refl; after-same = x .after-same }
 
 -- "For every list of calls": exported ones too
 pub answering-ran : {from after : State} {es : List Event} → Answering from es after → Ran from es after
 answering-ran none = runs.none
 answering-ran (next {es} {before} {after} c values₀ kind values list x) =
-    runs.next c (replied c before after) (answering-ran list) (exported-gives x)
-answering-ran (refused {es} {now} {other} {otherAfter} c values₀ kind values list x e) =
-    runs.refused c (replied c other otherAfter) (answering-ran list) (exported-gives x) e
+    runs.next c (replied (x .answer) after) (answering-ran list) (exported-gives x)
+answering-ran (refused {es} {now} {other} {otherAfter} c values₀ kind values number list x e) =
+    runs.refused c (replied (x .answer) otherAfter) number (answering-ran list) (exported-gives x) e
 
 -- an answer of the kind opened is no refusal
-opened-accepted : (a : Answer) → kindOf a ≡ kindOf Opened → isRefused a ≡ false
-unfolding kindOf
+opened-accepted : (a : Answer) → kindOf a ≡ kindOf Opened → reading a .refuses ≡ false
 opened-accepted Opened e = refl
 opened-accepted (Kept number place) e = refl
 opened-accepted (Dropped number victim client) e = refl
@@ -66,10 +66,10 @@ module _ (setup : Setup) (before from after : State) (values₀ : List ℕ) (kin
     (x : Exported (opening setup) before values₀ kind values from) (accepted : kind ≡ kindOf Opened)
     (list : Answering from es after) (none-opened : exists isOpened es ≡ false) where
   abbrev r : Reply
-  r = replied (opening setup) before from
+  r = replied (x .answer) from
 
-  no-refusal : isRefused (r .answer) ≡ false
-  no-refusal = opened-accepted (r .answer) (sym (x .kind-same) ∙ accepted)
+  no-refusal : isRefused (said r) ≡ false
+  no-refusal = rw (opened-accepted (x .answer) (sym (x .kind-same) ∙ accepted))
 
   -- "For every list of calls from open on, served plus waiting is as many as the largest plan has, even one made by somebody
   -- who knew the whole list beforehand."

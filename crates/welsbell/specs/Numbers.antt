@@ -1,13 +1,13 @@
 -- Head and answer as numbers in lent arrays: what an exported call reads, and what it hands back and leaves. Assumes nothing.
 use Prim.Native.Nat.{ℕ, _+_}
 use mathlib.Core.Path.{_≡_}
-use mathlib.Core.List.{List, _++_, map}
+use mathlib.Core.List.{List, [], _∷_, _++_, map}
 use lib.ListN.{length, getD, drop}
 use Rattle.spec.specs.declared.types.Head.{Head}
 use Rattle.spec.specs.declared.types.Answer.{Answer}
 use Rattle.spec.specs.Tables.{setupWidth, setupOf, State}
-use Rattle.spec.specs.Lists.{Call, outcomeOf}
-use Rattle.spec.specs.Frames.{kindOf, valuesOf}
+use Rattle.spec.specs.Calls.Readings.{kindOf, valuesOf}
+use Rattle.spec.specs.Calls.Call.{Call, outcomeOf}
 
 -- the version that archive and header share: it rises with each change of a signature, a layout or a number of theirs
 abbrev pub version : ℕ
@@ -33,9 +33,11 @@ unfoldable pub written : List ℕ → List ℕ → List ℕ
 written xs ys = xs ++ drop (length xs) ys
 
 -- what an exported call does, one contract for all five: from what a caller lends, the array of values among it, to what it then has.
--- The result is the kind of the answer that the definition gives, and that answer's values and all that head and tables hold are
--- what the definition says
+-- The definition gives one answer; the result is its kind, and its values and all that head and tables hold are what the definition
+-- says
 pub record Exported (c : Call) (before : State) (values₀ : List ℕ) (r : ℕ) (values : List ℕ) (after : State) : Type 0 where
-  pub kind-same : r ≡ kindOf (outcomeOf c before .answer)
-  pub values-same : values ≡ written (valueNumbers (outcomeOf c before .answer)) values₀
+  pub answer : Answer
+  pub answers-same : answer ∷ [] ≡ outcomeOf c before .answers
+  pub kind-same : r ≡ kindOf answer
+  pub values-same : values ≡ written (valueNumbers answer) values₀
   pub after-same : after ≡ outcomeOf c before .after

@@ -9,8 +9,8 @@ use numbers::SETUP_WIDTH;
 use spec::types::Request;
 ghost use mathlib.Core.Path.{_≡_};
 ghost use Rattle.spec.specs.Tables.{setupOf, stateOf};
-ghost use Rattle.spec.specs.Calls.{chartOutput};
-ghost use Rattle.spec.specs.Lists.{opening, submit, tick, report, chart};
+ghost use Rattle.spec.specs.Calls.Chart.{chartOutput};
+ghost use Rattle.spec.specs.Calls.Call.{opening, submit, tick, report, chart};
 ghost use Rattle.welsbell.specs.Numbers.{version, headOf, Exported};
 
 const VERSION: u64 = 2;

@@ -6,8 +6,8 @@ use spec::types::Setup;
 ghost use Prim.Native.Nat.{_≤_};
 ghost use mathlib.Core.Path.{_≡_};
 ghost use lib.ListN.{take};
-ghost use Rattle.spec.specs.Frames.{kindOf};
 ghost use Rattle.spec.specs.Tables.{setupOf};
+ghost use Rattle.spec.specs.Calls.Readings.{kindOf};
 ghost use Rattle.welsbell.specs.Numbers.{headOf, valueNumbers, written};
 
 // How many numbers there are: a setup's, a head's, which are its setup's and three more, and an answer's at most.

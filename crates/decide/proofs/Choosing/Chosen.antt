@@ -19,9 +19,8 @@ use Rattle.spec.specs.declared.types.Request.{Request}
 use Rattle.spec.specs.declared.types.Counts.{Counts}
 use Rattle.spec.specs.Tables.{mostClients, zeroRequest, zeroCounts, State, waiting, deadlinesOf, clientsOf, recordsOf}
 use Rattle.spec.specs.Order.{placeOf, putInOrder}
-use Rattle.spec.specs.Chart.{roomTo, dueBy, hasNoOverfull, Search}
-use Rattle.spec.specs.Victim.{isCandidate, hasSmallerRatio}
-use Rattle.spec.specs.Calls.{newRequest, countedIn, withNew, victimPlace}
+use Rattle.spec.specs.Chart.{roomTo, dueBy, hasNoOverfull, Search, isCandidate, hasSmallerRatio}
+use Rattle.spec.specs.Calls.Submit.{newRequest, countedIn, withNew, victimPlace}
 use Rattle.spec.proofs.Laws.Order.{InOrder, all-put}
 use Rattle.spec.proofs.Laws.Feasible.{due-yes, due-no, dueBy-put, dueBy-none, dueBy-mono, Verdict, fine, over}
 use Rattle.spec.proofs.Laws.Feasible.{verdict, feasible-facts, feasible-test}

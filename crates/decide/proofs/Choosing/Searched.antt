@@ -15,9 +15,9 @@ use Rattle.spec.proofs.Laws.Feasible.{due-yes, due-no, dueBy-cons, dueBy-none, 
 use Rattle.spec.proofs.Laws.Order.{Before, InOrder, Compared, before, after, After, later, alike-later, compared, before-deadline}
 use Rattle.spec.proofs.Laws.Places.{Roomy, feasible-roomy}
 use Rattle.spec.proofs.Laws.Room.{room-mono}
-use Rattle.spec.specs.Chart.{roomTo, dueBy, Search, nothing, found, firstOverfull}
-use Rattle.spec.specs.Order.{comesBefore, placeOf}
 use Rattle.spec.specs.Tables.{zeroRequest, deadlinesOf}
+use Rattle.spec.specs.Order.{comesBefore, placeOf}
+use Rattle.spec.specs.Chart.{roomTo, dueBy, Search, nothing, found, firstOverfull}
 use Rattle.spec.specs.declared.types.Head.{Head}
 use Rattle.spec.specs.declared.types.Request.{Request}
 

@@ -11,13 +11,13 @@ use lib.Seq.{take-take, length-take-le}
 use Rattle.spec.specs.declared.types.Head.{Head}
 use Rattle.spec.specs.declared.types.Request.{Request}
 use Rattle.spec.specs.Every.{countIf}
-use Rattle.spec.specs.Tables.{mostClients, mostRecords, clockEnd, State, waiting, deadlinesOf, clientsOf, recordsOf, zeroCounts}
-use Rattle.spec.specs.Chart.{dueBy}
+use Rattle.spec.specs.Tables.{mostClients, mostRecords, clockEnd, State, waiting, deadlinesOf, clientsOf, recordsOf}
+use Rattle.spec.specs.Tables.{zeroCounts, stateOf}
 use Rattle.spec.specs.Setup.{firstMatch}
-use Rattle.spec.specs.Refusals.{submitRefusals}
+use Rattle.spec.specs.Chart.{dueBy}
+use Rattle.spec.specs.Calls.Submit.{submitRefusals}
 use Rattle.spec.proofs.Laws.Accepted.{SubmitReady, submit-ready}
 use Rattle.columns.specs.Widths.{largest32}
-use Rattle.spec.specs.Tables.{stateOf}
 use Rattle.search.specs.Scans.{Sorted, placeBy, candidateCount, overfullFrom, latestOf, putAt}
 use Rattle.search.proofs.Fields.{field-take, due-column}
 use Rattle.search.proofs.Latest.{latest-parts}

@@ -14,12 +14,14 @@ use Rattle.spec.specs.declared.types.Request.{Request}
 use Rattle.spec.specs.declared.types.Counts.{Counts}
 use Rattle.spec.specs.declared.types.Answer.the-variants as answer
 use Rattle.spec.specs.Every.{mapFrom}
-use Rattle.spec.specs.Tables.{zeroRequest, zeroCounts, width, numbersOf, State, clientTable, waiting, nextState}
-use Rattle.spec.specs.Order.{removeAt}
+use Rattle.spec.specs.Tables.{zeroRequest, zeroCounts, width, numbersOf, State, clientTable, waiting, nextState, change}
+use Rattle.spec.specs.Tables.{oneMoreServed}
 use Rattle.spec.specs.Setup.{Refusal, firstMatch}
-use Rattle.spec.specs.Refusals.{openRefusals, tickRefusals}
-use Rattle.spec.specs.Calls.{Outcome, unlessRefused, change, oneMoreServed, openAccepted, openOf, restarted, countsAfter}
-use Rattle.spec.specs.Calls.{oneLater, tickAccepted, tickOf}
+use Rattle.spec.specs.Order.{removeAt}
+use Rattle.spec.specs.Calls.Outcome.{Outcome, unlessRefused, refusing}
+use Rattle.spec.specs.Calls.Open.{openRefusals, openAccepted}
+use Rattle.spec.specs.Calls.Tick.{tickRefusals, restarted, countsAfter, oneLater, tickAccepted}
+use Rattle.spec.specs.Calls.Call.{opening, outcomeOf, tick}
 use Rattle.spec.proofs.Laws.Clients.{counts-path}
 use Rattle.spec.proofs.Laws.Every.{length-mapFrom, getD-mapFrom}
 use Rattle.spec.proofs.Laws.Layout.{numbers-records, numbers-zero}
@@ -34,7 +36,7 @@ use Rattle.decide.specs.declared.types.Decision.{Decision}
 use Rattle.decide.specs.declared.types.Decision.the-variants.{Serve}
 use Rattle.decide.specs.declared.types.Reply.{Reply}
 use Rattle.decide.specs.Decisions.{tickDecision}
-use Rattle.decide.specs.Replies.{raised, refusedWith, laterHead, replyUnless, openReply, openNumbers, tickReply, tickNumbers, Answers}
+use Rattle.decide.specs.Replies.{said, raised, refusedWith, laterHead, replyUnless, openReply, openNumbers, tickReply, tickNumbers, Answers}
 use Rattle.decide.proofs.Carried.{Carried, refuses, accepts, Ticks, idles, serves, tick-carried}
 
 -- ---- the client table of a state whose lengths fit is all of its numbers
@@ -75,9 +77,9 @@ restarted-after {ws = ws} {cs = cs} period start p t =
 
 -- ---- what a call hands back
 -- the answer, the head and the numbers, each by itself
-pub answers : {o : Outcome} {r : Reply} {xs : List ℕ} → r .answer ≡ o .answer → r .head ≡ o .after .head
+pub answers : {o : Outcome} {r : Reply} {xs : List ℕ} → said r ≡ o .answers → r .head ≡ o .after .head
     → xs ≡ o .after .clientNumbers → Answers o r xs
-answers a h c = record { answer-same = a; head-same = h; numbers-same = c }
+answers a h c = record { answers-same = a; head-same = h; numbers-same = c }
 
 -- a call whose first match is t, refused or accepted: what it hands back, and the numbers that it leaves
 module _ (rs : List Refusal) (s : State) (o : Outcome) {t : ℕ} (found : t ≡ firstMatch rs) where
@@ -89,7 +91,7 @@ module _ (rs : List Refusal) (s : State) (o : Outcome) {t : ℕ} (found : t ≡ 
   unless-answers {accepted = accepted} {ys = ys} goes e h = rw (← found, e, h) (go (eqb t 0) (same t 0))
     where
       go : (b : Bool) → Same t 0 b
-          → Answers (cond b o (record { answer = answer.Refused t; after = s })) (cond b accepted (refusedWith (s .head) t))
+          → Answers (cond b o (refusing t s)) (cond b accepted (refusedWith (s .head) t))
           (cond b ys (s .clientNumbers))
       go true (same-yes z) = goes z
       go false (same-no n) = answers refl refl refl
@@ -98,8 +100,8 @@ module _ (rs : List Refusal) (s : State) (o : Outcome) {t : ℕ} (found : t ≡ 
 pub open-answers : (setup : Setup) (s : State) {refusal : ℕ} {r : Reply} {xs : List ℕ}
     → refusal ≡ firstMatch (openRefusals setup s)
     → (r ≡ openReply refusal (s .head) setup) × (xs ≡ openNumbers refusal (s .clientNumbers))
-    → Answers (openOf setup s) r xs
-unfolding openOf openAccepted
+    → Answers (outcomeOf (opening setup) s) r xs
+unfolding outcomeOf openAccepted
 open-answers setup s found (e, h) =
     unless-answers (openRefusals setup s) s (openAccepted setup s) found (λ z. answers refl refl (zeros (sym found ∙ z))) e h
   where
@@ -177,7 +179,7 @@ pub tick-answers : (s : State) {gone : Request} {decision : Decision} {r : Reply
     → decision ≡ tickDecision s
     → (decision ≡ Serve → gone ≡ getD (waiting s) 0 zeroRequest)
     → (r ≡ tickReply (s .head) gone decision) × (xs ≡ tickNumbers (s .head) gone decision (s .clientNumbers))
-    → Answers (tickOf s) r xs
+    → Answers (outcomeOf tick s) r xs
 tick-answers s {gone} {decision} {r} {xs} e g t = go (tick-carried s) (rw e at g) (rw e at t)
   where
     go : {d : Decision} {o : Outcome} → Carried (tickRefusals s) s (Ticks s) d o

@@ -10,10 +10,12 @@ use lib.Seq.{getD-take}
 use Rattle.slots.proofs.Laws.Tests.{Order, le, gt, order}
 use Rattle.spec.specs.declared.types.Request.{Request}
 use Rattle.spec.specs.Tables.{zeroRequest, State, waiting, behind, holding, nextState}
-use Rattle.spec.specs.Order.{placeOf, insertAt, putInOrder, removeAt}
 use Rattle.spec.specs.Setup.{firstMatch}
-use Rattle.spec.specs.Refusals.{submitRefusals, tickRefusals}
-use Rattle.spec.specs.Calls.{Outcome, newRequest, kept, droppedAt, victimPlace, requestAt, submitOf, tickAccepted, tickOf}
+use Rattle.spec.specs.Order.{placeOf, insertAt, putInOrder, removeAt}
+use Rattle.spec.specs.Calls.Outcome.{Outcome}
+use Rattle.spec.specs.Calls.Submit.{submitRefusals, newRequest, kept, droppedAt, victimPlace, requestAt}
+use Rattle.spec.specs.Calls.Tick.{tickRefusals, tickAccepted}
+use Rattle.spec.specs.Calls.Call.{outcomeOf, submit, tick}
 use Rattle.spec.proofs.Laws.Every.{length-insert, length-remove, remove-insert, getD-insert}
 use Rattle.spec.proofs.Laws.Order.{place-most, length-put}
 use Rattle.spec.proofs.Laws.Accepted.{Ready, SubmitReady, submit-ready, tick-ready, waiting-length, table-held}
@@ -205,7 +207,7 @@ module _
     (client deadline : ℕ) (s : State) (r : Request)
     (new : firstMatch (submitRefusals client deadline s) ≡ 0 → r ≡ newRequest client deadline s) where
   pub submit-table : tableAfter (s .head) r (submitDecision client deadline s) (s .waitingTable)
-      ≡ submitOf client deadline s .after .waitingTable
+      ≡ outcomeOf (submit client deadline) s .after .waitingTable
   submit-table = go (submit-carried client deadline s)
     where
       go : {d : Decision} {o : Outcome} → Carried (submitRefusals client deadline s) s (Submits client deadline s) d o
@@ -259,7 +261,7 @@ none-removed : (ys : List Request) → removed 0 0 ys ≡ ys
 unfolding removed
 none-removed ys = refl
 
-pub tick-table : (s : State) → removed (serving (s .head) (tickDecision s)) 0 (s .waitingTable) ≡ tickOf s .after .waitingTable
+pub tick-table : (s : State) → removed (serving (s .head) (tickDecision s)) 0 (s .waitingTable) ≡ outcomeOf tick s .after .waitingTable
 unfolding tickAccepted nextState
 tick-table s = go (tick-carried s)
   where

@@ -11,13 +11,14 @@ use Rattle.spec.specs.declared.types.Request.{Request}
 use Rattle.spec.specs.declared.types.Counts.{Counts}
 use Rattle.spec.specs.declared.types.Answer.the-variants.{Charted, Refused}
 use Rattle.spec.specs.Tables.{zeroRequest, zeroCounts, numbersOf, State, clientTable, waiting, nextState}
+use Rattle.spec.specs.Setup.{firstMatch}
 use Rattle.spec.specs.Order.{placeOf, removeAt}
 use Rattle.spec.specs.Sound.{waitingOf}
-use Rattle.spec.specs.Setup.{firstMatch}
-use Rattle.spec.specs.Refusals.{submitRefusals, reportRefusals, chartRefusals}
-use Rattle.spec.specs.Calls.{Outcome, newRequest, countedIn, withNew, kept, droppedAt}
-use Rattle.spec.specs.Calls.{victimPlace, requestAt, submitOf}
-use Rattle.spec.specs.Calls.{reportAccepted, reportOf, chartAccepted, chartOf}
+use Rattle.spec.specs.Calls.Outcome.{Outcome, refusing}
+use Rattle.spec.specs.Calls.Submit.{submitRefusals, newRequest, countedIn, withNew, kept, droppedAt, victimPlace, requestAt}
+use Rattle.spec.specs.Calls.Report.{reportRefusals, reportAccepted}
+use Rattle.spec.specs.Calls.Chart.{chartRefusals, chartAccepted}
+use Rattle.spec.specs.Calls.Call.{chart, outcomeOf, report, submit}
 use Rattle.spec.proofs.Laws.Every.{length-remove, all-at}
 use Rattle.spec.proofs.Laws.Order.{length-put}
 use Rattle.spec.proofs.Laws.Sound.{Owned}
@@ -31,7 +32,7 @@ use Rattle.decide.specs.declared.types.Decision.{Decision}
 use Rattle.decide.specs.declared.types.Decision.the-variants.{Drop}
 use Rattle.decide.specs.declared.types.Reply.{Reply}
 use Rattle.decide.specs.Decisions.{submitDecision}
-use Rattle.decide.specs.Replies.{raised, numberedHead, refusedWith, keptWith, droppedWith, reportedWith, submitReply, submitNumbers, reportReply, chartReply, Answers}
+use Rattle.decide.specs.Replies.{said, raised, numberedHead, refusedWith, keptWith, droppedWith, reportedWith, submitReply, submitNumbers, reportReply, chartReply, Answers}
 use Rattle.decide.proofs.Carried.{Carried, refuses, accepts, Submits, keeps, drops, submit-carried}
 use Rattle.decide.proofs.Replying.Counted.{answers, whole, bounded, unless-answers}
 
@@ -107,7 +108,7 @@ pub submit-answers : (client deadline : ℕ) (s : State) {gone : Request} {decis
     → decision ≡ submitDecision client deadline s
     → ((place victim : ℕ) → decision ≡ Drop place victim → gone ≡ requestAt victim client deadline s)
     → (r ≡ submitReply (s .head) gone decision) × (xs ≡ submitNumbers client gone decision (s .clientNumbers))
-    → Answers (submitOf client deadline s) r xs
+    → Answers (outcomeOf (submit client deadline) s) r xs
 submit-answers client deadline s {gone} e g (a, b) =
     rw (a, b, e) (go (submit-carried client deadline s) (λ p v h. g p v (e ∙ h)))
   where
@@ -126,8 +127,8 @@ submit-answers client deadline s {gone} e g (a, b) =
 pub report-answers : (client : ℕ) (s : State) {refusal : ℕ} {r : Reply}
     → refusal ≡ firstMatch (reportRefusals client s)
     → r ≡ reportReply refusal (s .head) client (getD (clientTable s) client zeroCounts)
-    → Answers (reportOf client s) r (s .clientNumbers)
-unfolding reportOf reportAccepted
+    → Answers (outcomeOf (report client) s) r (s .clientNumbers)
+unfolding outcomeOf reportAccepted
 report-answers client s {refusal} found e =
     unless-answers (reportRefusals client s) s (reportAccepted client s) found
     {accepted = reportedWith (s .head) client own} {ys = s .clientNumbers}
@@ -147,12 +148,12 @@ report-answers client s {refusal} found e =
     go false = refl
 
 pub chart-answers : (output : List ℕ) (s : State) {refusal : ℕ} {r : Reply} → refusal ≡ firstMatch (chartRefusals output s)
-    → r ≡ chartReply refusal (s .head) → (r .answer ≡ chartOf output s .answer) × (r .head ≡ chartOf output s .after .head)
-unfolding chartOf chartAccepted
+    → r ≡ chartReply refusal (s .head) → (said r ≡ outcomeOf (chart output) s .answers) × (r .head ≡ outcomeOf (chart output) s .after .head)
+unfolding outcomeOf chartAccepted
 chart-answers output s {refusal} found e = rw (← found, e) (go (eqb refusal 0))
   where
-    go : (b : Bool) → let q = cond b (chartAccepted s) (record { answer = Refused refusal; after = s }) in
+    go : (b : Bool) → let q = cond b (chartAccepted s) (refusing refusal s) in
         let r = cond b (record { head = s .head; answer = Charted (s .head .waiting) }) (refusedWith (s .head) refusal) in
-        (r .answer ≡ q .answer) × (r .head ≡ q .after .head)
+        (said r ≡ q .answers) × (r .head ≡ q .after .head)
     go true = (refl, refl)
     go false = (refl, refl)

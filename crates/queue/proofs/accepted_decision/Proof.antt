@@ -5,13 +5,12 @@ use Rattle.walk.proofs.Prelude.{_≡_, refl, sym, _∙_, subst, ℕ, _+_, _<_, 
 use Rattle.walk.proofs.Prelude.{heard, Param, number, loan, shown, taken, so, Shape, Walk, proved, var, vars, field-var, sets, empties, gives, takes-out, passed-on, made, fit, of-number, of-nothing, calls-for}
 use Rattle.walk.proofs.Slices.Arrays.{ends-array, array-lent, array-shared, repeats}
 use Rattle.columns.specs.Widths.{largest16}
-use Rattle.spec.specs.Tables.{stateOf}
+use Rattle.spec.specs.Tables.{stateOf, mostRecords}
+use Rattle.spec.specs.Setup.{firstMatch}
+use Rattle.spec.specs.Calls.Submit.{submitRefusals}
 use Rattle.decide.proofs.Choosing.Chosen.{choice-found}
 use Rattle.decide.proofs.Choosing.Shown.{waits, few, clock, clients as clients-most, rises, placed-within, candidates-within, found-all}
 use Rattle.queue.proofs.Values.{DecisionT, a-decision}
-use Rattle.spec.specs.Setup.{firstMatch}
-use Rattle.spec.specs.Refusals.{submitRefusals}
-use Rattle.spec.specs.Tables.{mostRecords}
 use Rattle.spec.specs.declared.types.Request.{Request}
 use Rattle.table.proofs.Heads.{a-head, the-head, waiting-fits}
 use Rattle.table.proofs.Rows.{R}

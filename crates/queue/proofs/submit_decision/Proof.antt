@@ -4,12 +4,12 @@ use Rattle.walk.proofs.Prelude.{_≡_, refl, sym, _∙_, ℕ, List, [], _∷_, 
 use Rattle.walk.proofs.Prelude.{drop, number, branches-then, skips-then, shown, taken, so, Shape, Walk, proved, var, vars, field-var, sets, gives, gives-within, passed-on, made, fit, of-number, calls-for}
 use Rattle.walk.proofs.Steps.{into-call}
 use Rattle.spec.specs.Tables.{stateOf}
+use Rattle.spec.specs.Setup.{firstMatch}
+use Rattle.spec.specs.Calls.Submit.{submitRefusals}
 use Rattle.decide.proofs.Matching.{submit-told}
 use Rattle.decide.proofs.States.{submit-refused, submit-goes}
 use Rattle.queue.proofs.Values.{DecisionT, a-decision}
 use Rattle.sound.proofs.Laws.{not-zero, is-zero}
-use Rattle.spec.specs.Setup.{firstMatch}
-use Rattle.spec.specs.Refusals.{submitRefusals}
 use Rattle.spec.specs.declared.types.Request.{Request}
 use Rattle.table.proofs.Heads.{the-head, a-head}
 use Rattle.table.proofs.Rows.{R}

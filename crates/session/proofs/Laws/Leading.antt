@@ -6,8 +6,8 @@ use mathlib.Core.List.{List, [], _++_, append-assoc, append-nil}
 use mathlib.Core.Path.{_≡_, refl, ap, _∙_}
 use Rattle.spec.specs.declared.types.Frame.{Frame}
 use Rattle.spec.specs.Tables.{State}
-use Rattle.spec.specs.Frames.{frameOf}
-use Rattle.spec.specs.Session.{Text, textOf, reply, replies}
+use Rattle.spec.specs.Lines.Frames.{frameOf}
+use Rattle.spec.specs.Lines.Session.{Text, textOf, reply, replies}
 use Rattle.session.specs.declared.types.Turn.{Turn}
 use Rattle.frame.specs.Lines.{slice}
 use Rattle.session.specs.Standing.{Begun, stateAfter, Reached, Leads}

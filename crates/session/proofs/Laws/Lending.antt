@@ -9,12 +9,11 @@ use lib.Dec.{leb, eqb}
 use lib.ListN.{length}
 use Rattle.slots.proofs.Laws.Tests.{Same, same-yes, same-no, same}
 use Rattle.spec.specs.declared.types.Setup.{Setup}
-use Rattle.spec.specs.declared.types.Answer.the-variants.{Refused}
 use Rattle.spec.specs.Every.{isWithin}
 use Rattle.spec.specs.Tables.{mostRecords, mostClients, State, width}
 use Rattle.spec.specs.Setup.{Refusal, firstMatch, setupRefusals}
-use Rattle.spec.specs.Refusals.{openRefusals}
-use Rattle.spec.specs.Calls.{Outcome, unlessRefused}
+use Rattle.spec.specs.Calls.Outcome.{Outcome, unlessRefused, refusing}
+use Rattle.spec.specs.Calls.Open.{openRefusals}
 use Rattle.spec.proofs.Laws.Every.{Value, is-true, is-false, value, cond-true}
 use Rattle.session.specs.declared.types.Session.{Session}
 use Rattle.session.specs.Standing.{doFit, upTo}
@@ -76,12 +75,12 @@ open-match setup records t u a b c d = go (value (leb (setup .clients) mostClien
 -- what holds where both are accepted and where both are refused
 pub alike : (P : Outcome → Outcome → Type 0) (rs rs′ : List Refusal) (t t′ : State) (o o′ : Outcome)
     → firstMatch rs ≡ firstMatch rs′ → (firstMatch rs ≡ 0 → firstMatch rs′ ≡ 0 → P o o′)
-    → ((k : ℕ) → P (record { answer = Refused k; after = t }) (record { answer = Refused k; after = t′ }))
+    → ((k : ℕ) → P (refusing k t) (refusing k t′))
     → P (unlessRefused rs t o) (unlessRefused rs′ t′ o′)
 alike P rs rs′ t t′ o o′ e f g = rw e (go (eqb (firstMatch rs′) 0) (same (firstMatch rs′) 0))
   where
     go : (x : Bool) → Same (firstMatch rs′) 0 x
-        → P (cond x o (record { answer = Refused (firstMatch rs′); after = t }))
-        (cond x o′ (record { answer = Refused (firstMatch rs′); after = t′ }))
+        → P (cond x o (refusing (firstMatch rs′) t))
+        (cond x o′ (refusing (firstMatch rs′) t′))
     go true (same-yes z) = f (e ∙ z) z
     go false (same-no z) = g (firstMatch rs′)

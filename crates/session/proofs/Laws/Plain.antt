@@ -1,104 +1,79 @@
 -- What a frame that opens no session comes to, on any state: how the call's answer reads, and what the call leaves. Assumes
 -- nothing.
 use Prim.Native.Nat.{ℕ, _≤_, _<_}
-use mathlib.Core.Path.{_≡_, refl, sym, _∙_}
+use mathlib.Core.Path.{_≡_, refl, sym, ap, _∙_}
 use mathlib.Core.Bool.{Bool, true, false, cond}
-use mathlib.Core.List.{List, [], _∷_}
+use mathlib.Core.List.{List, [], _∷_, append-nil}
 use native.Mathlib.Omega.{arith}
 use borrow.Author.Tests.{le-ltb, not-false}
 use lib.ListN.{length, getD, take, length-replicate, length-map, List·getD-map}
 use lib.Seq.{getD-take}
 use Rattle.spec.specs.declared.types.Setup.{Setup}
-use Rattle.spec.specs.declared.types.Frame.{Frame}
-use Rattle.spec.specs.declared.types.Frame.the-variants.{Submit, Tick, Report, Chart, Bad}
+use Rattle.spec.specs.declared.types.Answer.{Answer}
 use Rattle.spec.specs.declared.types.Answer.the-variants.{Charted, Refused}
-use Rattle.spec.specs.declared.types.Request.{Request}
-use Rattle.spec.specs.Tables.{mostRecords, State, waiting, zeroRequest, nextState, deadlinesOf}
-use Rattle.spec.specs.Chart.{startsOf, segmentsOf, hasNoOverfull}
-use Rattle.spec.specs.Setup.{Refusal, firstMatch}
-use Rattle.spec.specs.Refusals.{submitRefusals, tickRefusals, reportRefusals, chartRefusals, refusal4}
-use Rattle.spec.specs.Refusals.{refusal5, refusal12}
-use Rattle.spec.specs.Calls.{Outcome, submitOf, submitAccepted, kept, droppedAt, victimPlace, withNew, tickOf, tickAccepted}
-use Rattle.spec.specs.Calls.{reportOf, reportAccepted, chartOf, chartAccepted, chartOutput}
-use Rattle.spec.specs.Lists.{outcomeOf}
-use Rattle.spec.specs.Frames.{answerLine, kindOf}
-use Rattle.spec.specs.Session.{reply, replyOf, blank, chartBytes}
+use Rattle.spec.specs.Every.{gather}
+use Rattle.spec.specs.Tables.{mostRecords, State, waiting, zeroRequest, deadlinesOf}
+use Rattle.spec.specs.Setup.{firstMatch}
+use Rattle.spec.specs.Chart.{startsOf}
+use Rattle.spec.specs.Calls.Readings.{reading, isRefused}
+use Rattle.spec.specs.Calls.Refusals.{refusal4, refusal5, refusal12}
+use Rattle.spec.specs.Calls.Outcome.{Outcome}
+use Rattle.spec.specs.Calls.Chart.{chartRefusals, chartAccepted, chartOutput}
+use Rattle.spec.specs.Calls.Call.{Call, chart, meaning, outcomeOf}
+use Rattle.spec.specs.Lines.Frames.{answerLine, chartLines, answerLines}
+use Rattle.spec.specs.Lines.Session.{Reply, outcomeBy, outputBy, replyOf, blank}
 use Rattle.spec.proofs.Demands.Demand1.{Charts, chart-written}
 use Rattle.spec.proofs.Laws.Every.{all-at}
 use Rattle.spec.proofs.Laws.Sound.{Ahead}
-use Rattle.spec.proofs.Laws.Accepted.{Decided, accepts, refuses, decided, chart-ready, Ready, waiting-length}
+use Rattle.spec.proofs.Laws.Accepted.{chart-ready, Ready, waiting-length}
+use Rattle.spec.proofs.Calls.Refused.{firstAnswer, call-answers, setup-same, left-same}
 use Rattle.columns.specs.Widths.{largest64}
 use Rattle.columns.proofs.Drawing.{starts-column, starts-below}
 use Rattle.sound.proofs.Laws.{shapeOf, shape-facts, shape-refused}
-use Rattle.frame.specs.Written.{CanDraw, replyBytes}
-use Rattle.session.specs.Answers.{outcomeFor, startsFor}
+use Rattle.frame.specs.Written.{CanDraw}
 use Rattle.session.proofs.Laws.Lending.{alike}
 
 -- ---- frames that open no session
--- the tables keep their shape, and what the call gives is the frame's reply
-pub record Plain (frame : Frame) (starts : List ℕ) (t : State) : Type 0 where
-  pub clients : outcomeFor frame starts t .after .head .setup .clients ≡ t .head .setup .clients
-  pub after : outcomeFor frame starts t .after ≡ reply frame t .after
-  pub bytes : replyBytes (outcomeFor frame starts t .after .head .setup) (outcomeFor frame starts t .answer) (startsFor frame starts t) ≡ reply frame t .bytes
-  pub draws : CanDraw (outcomeFor frame starts t .answer) (startsFor frame starts t)
+-- where a line asks for these calls, by the output that is lent: the bytes and the state that it gets in a session
+abbrev pub replyBy : (List ℕ → List Call) → State → Reply
+replyBy calls t = replyOf t (outcomeBy (calls blank) t) (outputBy (calls blank) blank t)
 
--- of those that do not draw: the head keeps its clients, and the answer is one line
-record Told (t : State) (o : Outcome) : Type 0 where
-  clients : o .after .head .setup .clients ≡ t .head .setup .clients
-  line : (setup : Setup) (starts : List ℕ) → replyBytes setup (o .answer) starts ≡ answerLine (o .answer)
-  draws : (starts : List ℕ) → CanDraw (o .answer) starts
+-- the tables keep their shape, and what the call gives, with the answer a, is the session's reply
+pub record Plain (calls : List ℕ → List Call) (starts : List ℕ) (t : State) (a : Answer) : Type 0 where
+  pub clients : outcomeBy (calls starts) t .after .head .setup .clients ≡ t .head .setup .clients
+  pub after : outcomeBy (calls starts) t .after ≡ replyBy calls t .after
+  pub bytes :
+      answerLines (outcomeBy (calls starts) t .after .head .setup) (outputBy (calls starts) starts t) a ≡ replyBy calls t .bytes
+  pub draws : CanDraw a (outputBy (calls starts) starts t)
 
-told-refused : (n : ℕ) (t : State) → Told t (record { answer = Refused n; after = t })
-unfolding replyBytes
-told-refused n t = record { clients = refl; line = λ setup starts. refl; draws = λ starts. tt }
+-- what is the one answer of a list is its first
+the-answer : {a : Answer} {answers : List Answer} → a ∷ [] ≡ answers → a ≡ firstAnswer answers
+the-answer e = ap firstAnswer e
 
-told : {rs : List Refusal} {t : State} {accepted o : Outcome} → Told t accepted → Decided rs t accepted o → Told t o
-told a (accepts e) = a
-told {rs} {t} a (refuses e) = told-refused (firstMatch rs) t
-
-told-plain : (frame : Frame) (starts : List ℕ) (t : State) → reply frame t ≡ replyOf (outcomeFor frame starts t)
-    → Told t (outcomeFor frame starts t) → Plain frame starts t
-told-plain frame starts t e a =
-    record {
-      clients = a .clients;
-      after = rw e;
-      bytes = rw e (a .line (outcomeFor frame starts t .after .head .setup) (startsFor frame starts t));
-      draws = a .draws (startsFor frame starts t);
-    }
-
-module _ (starts : List ℕ) (t : State) where
-  pub submit-plain : (client deadline : ℕ) → Plain (Submit client deadline) starts t
-  unfolding outcomeFor outcomeOf reply submitOf submitAccepted kept droppedAt nextState replyBytes
-  submit-plain client deadline =
-      told-plain (Submit client deadline) starts t refl
-      (told (go (hasNoOverfull (t .head) (withNew client deadline t)))
-      (decided (submitRefusals client deadline t) t (submitAccepted client deadline t)))
+module _ (starts : List ℕ) (t : State) {a : Answer} where
+  -- a call that is no open and is lent no output
+  pub call-plain : (c : Call) → meaning c .isOpen ≡ false → meaning c .outputs t ≡ [] → a ∷ [] ≡ outcomeOf c t .answers
+      → Plain (λ output. c ∷ []) starts t a
+  call-plain c no-open none e =
+      record {
+        clients = ap (λ (x : Setup). x .clients) (setup-same c t no-open);
+        after = sym (left-same c t);
+        bytes = rw (← e, uncharted) (sym (append-nil (answerLine a)));
+        draws = rw uncharted tt;
+      }
     where
-      go : (x : Bool)
-          → Told t (cond x (kept client deadline t) (droppedAt (victimPlace client deadline t) client deadline t))
-      go true = record { clients = refl; line = λ setup starts. refl; draws = λ starts. tt }
-      go false = record { clients = refl; line = λ setup starts. refl; draws = λ starts. tt }
+      uncharted : reading a .charted ≡ []
+      uncharted = ap (λ (x : Answer). reading x .charted) (the-answer e) ∙ call-answers c t .uncharted none
 
-  pub tick-plain : Plain Tick starts t
-  unfolding outcomeFor outcomeOf reply tickOf tickAccepted nextState replyBytes
-  tick-plain =
-      told-plain Tick starts t refl
-      (told (go (waiting t)) (decided (tickRefusals t) t (tickAccepted (waiting t) t)))
-    where
-      go : (ws : List Request) → Told t (tickAccepted ws t)
-      go [] = record { clients = refl; line = λ setup starts. refl; draws = λ starts. tt }
-      go (w ∷ ws) = record { clients = refl; line = λ setup starts. refl; draws = λ starts. tt }
-
-  pub report-plain : (client : ℕ) → Plain (Report client) starts t
-  unfolding outcomeFor outcomeOf reply reportOf reportAccepted replyBytes
-  report-plain client =
-      told-plain (Report client) starts t refl
-      (told (record { clients = refl; line = λ setup starts. refl; draws = λ starts. tt })
-      (decided (reportRefusals client t) t (reportAccepted client t)))
-
-  pub bad-plain : Plain Bad starts t
-  unfolding outcomeFor reply
-  bad-plain = told-plain Bad starts t refl (told-refused 1 t)
+  -- a line that is no frame
+  pub bad-plain : a ∷ [] ≡ Refused 1 ∷ [] → Plain (λ output. []) starts t a
+  bad-plain e =
+      record {
+        clients = refl;
+        after = refl;
+        bytes = rw (the-answer e) (sym (append-nil (answerLine (Refused 1))));
+        draws = rw (the-answer e) tt;
+      }
 
 -- ---- the chart
 -- an output as long as a waiting table can be is never too short: only the tables can be refused
@@ -121,7 +96,7 @@ module _ (output : List ℕ) (t : State) (none : firstMatch (chartRefusals outpu
   ready = chart-ready output t none .ready
 
   charts : Charts output t (chartOutput output t)
-  unfolding chartOf chartAccepted
+  unfolding outcomeOf chartAccepted
   charts = chart-written output t (rw none)
 
   drawn : take (t .head .waiting) (chartOutput output t) ≡ startsOf (t .head .setup) (waiting t)
@@ -147,28 +122,42 @@ module _ (output : List ℕ) (t : State) (none : firstMatch (chartRefusals outpu
   )
 
 -- so every output as long gets the answer and the start slots of the session's own
-module _ (starts : List ℕ) (t : State) (long : mostRecords ≤ length starts) where
+module _ (starts : List ℕ) (t : State) (a : Answer) (long : mostRecords ≤ length starts) where
   record Drawn (o q : Outcome) : Type 0 where
     after : o .after ≡ t
+    back : cond (isRefused (q .answers)) t (q .after) ≡ t
     bytes :
-        replyBytes (t .head .setup) (o .answer) (chartOutput starts t)
-        ≡ chartBytes (segmentsOf (t .head .setup) (take (t .head .waiting) (chartOutput blank t))) (q .answer)
-    draws : CanDraw (o .answer) (chartOutput starts t)
+        answerLines (o .after .head .setup) (chartOutput starts t) a
+        ≡ gather (answerLines (q .after .head .setup) (chartOutput blank t)) (q .answers)
+    draws : CanDraw a (chartOutput starts t)
 
-  both-drawn : Drawn (chartOf starts t) (chartOf blank t)
-  unfolding chartOf chartAccepted replyBytes kindOf
+  both-drawn : a ∷ [] ≡ outcomeOf (chart starts) t .answers → Drawn (outcomeOf (chart starts) t) (outcomeOf (chart blank) t)
+  unfolding outcomeOf chartAccepted
   both-drawn =
-      alike Drawn (chartRefusals starts t) (chartRefusals blank t) t t (chartAccepted t) (chartAccepted t)
+      alike (λ (o q : Outcome). a ∷ [] ≡ o .answers → Drawn o q) (chartRefusals starts t) (chartRefusals blank t) t t
+      (chartAccepted t) (chartAccepted t)
       (chart-match starts t long ∙ sym (chart-match blank t (omega (arith, length-replicate {A = ℕ} mostRecords 0))))
-      (λ e e′. record { after = refl; bytes = rw (drawn starts t e, drawn blank t e′); draws = can-draw starts t e })
-      (λ k. record { after = refl; bytes = refl; draws = tt })
-
-  pub chart-plain : Plain Chart starts t
-  unfolding outcomeFor startsFor reply
-  chart-plain =
+      (λ e e′ g.
       record {
-        clients = rw (both-drawn .after);
-        after = both-drawn .after;
-        bytes = rw (both-drawn .after) (both-drawn .bytes);
-        draws = both-drawn .draws;
+        after = refl;
+        back = refl;
+        bytes = rw (the-answer g, drawn starts t e, drawn blank t e′) (sym (append-nil (chartLines _)));
+        draws = rw (the-answer g) (can-draw starts t e);
+      })
+      (λ k g.
+      record {
+        after = refl;
+        back = refl;
+        bytes = rw (the-answer g) (sym (append-nil (answerLine (Refused k))));
+        draws = rw (the-answer g) tt;
+      })
+
+  pub chart-plain : a ∷ [] ≡ outcomeOf (chart starts) t .answers → Plain (λ output. chart output ∷ []) starts t a
+  chart-plain e =
+      let d = both-drawn e in
+      record {
+        clients = rw (d .after);
+        after = d .after ∙ sym (d .back);
+        bytes = d .bytes;
+        draws = d .draws;
       }

@@ -6,8 +6,9 @@ use mathlib.Core.Path.{_≡_}
 use lib.ListN.{drop}
 use Rattle.spec.specs.declared.types.Frame.{Frame}
 use Rattle.spec.specs.declared.types.Request.{Request}
-use Rattle.spec.specs.Session.{reply}
-use Rattle.frame.specs.Written.{CanDraw, replyBytes}
+use Rattle.spec.specs.Lines.Frames.{answerLines}
+use Rattle.spec.specs.Lines.Session.{reply}
+use Rattle.frame.specs.Written.{CanDraw}
 use Rattle.decide.specs.declared.types.Reply.{Reply}
 use Rattle.session.specs.declared.types.Session.{Session}
 use Rattle.session.specs.Standing.{Reserved, reservedOf, heldIn, fitsIn, recordsFor, numbersFor, recordsAfter}
@@ -23,7 +24,7 @@ putBack frame s zs ys t =
 
 pub record Replied (frame : Frame) (s : Session) (t : Reserved) (starts : List ℕ) (r : Reply) (zs : List Request) (ys starts′ : List ℕ)
     : Type 0 where
-  pub bytes : replyBytes (r .head .setup) (r .answer) starts′ ≡ reply frame (heldIn s t) .bytes
+  pub bytes : answerLines (r .head .setup) starts′ (r .answer) ≡ reply frame (heldIn s t) .bytes
   pub after : heldIn (sessionAfter frame s r) (putBack frame s zs ys t) ≡ reply frame (heldIn s t) .after
   pub fits : fitsIn (sessionAfter frame s r) t starts ≡ true
   pub draws : CanDraw (r .answer) starts′

@@ -2,7 +2,7 @@
 use Prim.Native.Nat.{ℕ, _≤_, _*_}
 use mathlib.Core.Path.{_≡_, refl, sym, ap, _∙_}
 use mathlib.Core.Bool.{true, cond}
-use mathlib.Core.List.{List, _++_}
+use mathlib.Core.List.{List, [], _∷_, _++_, append-nil}
 use native.Mathlib.Omega.{arith}
 use borrow.Author.Tests.{le-leb}
 use lib.ListN.{length, take, drop, length-take, length-replicate, take-append-drop, replicate}
@@ -11,25 +11,28 @@ use Rattle.spec.specs.declared.types.Setup.{Setup}
 use Rattle.spec.specs.declared.types.Frame.{Frame}
 use Rattle.spec.specs.declared.types.Frame.the-variants.{Open, Submit, Tick, Report, Chart, Bad}
 use Rattle.spec.specs.declared.types.Answer.{Answer}
-use Rattle.spec.specs.declared.types.Answer.the-variants.{Refused}
+use Rattle.spec.specs.declared.types.Answer.the-variants.{Opened, Refused}
 use Rattle.spec.specs.declared.types.Head.{Head}
 use Rattle.spec.specs.declared.types.Request.{Request}
-use Rattle.spec.specs.Tables.{mostRecords, mostClients, State, zeroRequest, zeroCounts, width}
-use Rattle.spec.specs.Refusals.{openRefusals}
-use Rattle.spec.specs.Calls.{Outcome, openOf, openAccepted}
-use Rattle.spec.specs.Lists.{isRefused}
-use Rattle.spec.specs.Frames.{answerLine}
-use Rattle.spec.specs.Session.{reply, lent}
+use Rattle.spec.specs.Every.{gather}
+use Rattle.spec.specs.Tables.{mostRecords, mostClients, State, zeroRequest, zeroCounts, width, stateOf}
+use Rattle.spec.specs.Calls.Readings.{isRefused}
+use Rattle.spec.specs.Calls.Outcome.{Outcome, refusing}
+use Rattle.spec.specs.Calls.Open.{openRefusals, openAccepted}
+use Rattle.spec.specs.Calls.Call.{opening as opening-call, outcomeOf, submit, tick, report}
+use Rattle.spec.specs.Lines.Frames.{answerLine, answerLines}
+use Rattle.spec.specs.Lines.Session.{Reply as SessionReply, reply, lent, blank, task}
 use Rattle.spec.proofs.Laws.Layout.{length-numbers, whole-records}
 use Rattle.spec.proofs.Laws.Accepted.{OpenReady, open-ready}
-use Rattle.spec.specs.Tables.{stateOf}
-use Rattle.frame.specs.Written.{CanDraw, replyBytes}
+use Rattle.frame.specs.Written.{CanDraw}
+use Rattle.spec.proofs.Calls.Refused.{firstAnswer}
 use Rattle.decide.specs.declared.types.Reply.{Reply}
+use Rattle.decide.specs.Replies.{said}
 use Rattle.session.specs.declared.types.Session.{Session}
-use Rattle.session.specs.Answers.{Answered, outcomeFor}
+use Rattle.session.specs.Answered.{Answered, outcomeFor}
 use Rattle.session.specs.Standing.{reservedOf, heldIn, doFit, upTo, recordsFor, numbersFor, recordsAfter}
 use Rattle.session.proofs.Laws.Lending.{Fits, fit-facts, up-same, up-most, open-match, alike}
-use Rattle.session.proofs.Laws.Plain.{Plain, submit-plain, tick-plain, report-plain, bad-plain, chart-plain}
+use Rattle.session.proofs.Laws.Plain.{replyBy, Plain, call-plain, bad-plain, chart-plain}
 use Rattle.session.proofs.Laws.Replied.{Replied, sessionAfter}
 
 module _ (s : Session) (ws : List Request) (xs starts : List ℕ)
@@ -78,24 +81,36 @@ module _ (s : Session) (ws : List Request) (xs starts : List ℕ)
         )
 
   -- ---- every frame but open: what is in use is lent
-  plain-replied : (frame : Frame) → ((a : Answer) → recordsAfter frame a (s .records) ≡ s .records) → Plain frame starts held
-      → Handed frame (upTo mostRecords (s .records)) (width * upTo mostClients (s .head .setup .clients)) → Done frame
-  plain-replied frame e p handed =
+  plain-replied : (frame : Frame) → task frame .named ≡ []
+      → (r .answer ∷ [] ≡ outcomeFor frame starts held .answers → Plain (task frame .calls) starts held (r .answer))
+      → Handed frame (recordsFor frame s) (numbersFor frame s) → Done frame
+  unfolding recordsFor numbersFor recordsAfter
+  plain-replied frame none plain handed =
       record {
-        bytes = rw (a .answer-same, heads, a .starts-same) (p .bytes);
+        bytes = rw (heads, a .starts-same) (p .bytes) ∙ ap (λ (x : SessionReply). x .bytes) same-reply;
         after =
             stands h (facts .records) (omega (arith, facts .clients)) (recordsAfter frame (r .answer) (s .records))
-            (drop (recordsFor frame s) ws) (drop (numbersFor frame s) xs) (e (r .answer)) (ap (λ (n : ℕ). width * n) clients)
+            (drop (recordsFor frame s) ws) (drop (numbersFor frame s) xs) records (ap (λ (n : ℕ). width * n) clients)
             ∙ a .after-same
-            ∙ p .after;
-        fits = still-fits frame (omega (arith, e (r .answer), facts .records)) (omega (arith, clients, facts .clients));
-        draws = rw (a .answer-same, a .starts-same) (p .draws);
+            ∙ p .after
+            ∙ ap (λ (x : SessionReply). x .after) same-reply;
+        fits = still-fits frame (omega (arith, records, facts .records)) (omega (arith, clients, facts .clients));
+        draws = rw (a .starts-same) (p .draws);
       }
     where
       h : Handed frame (s .records) (width * s .head .setup .clients)
       h =
           rw (up-same mostRecords (s .records) (facts .records), up-same mostClients (s .head .setup .clients) (facts .clients))
-          at handed
+          at (rw none at handed)
+
+      p : Plain (task frame .calls) starts held (r .answer)
+      p = plain (h .answered .answers-same)
+
+      records : recordsAfter frame (r .answer) (s .records) ≡ s .records
+      records = rw none
+
+      same-reply : replyBy (task frame .calls) held ≡ reply frame held
+      same-reply = unfold reply in rw none
 
       a : Answered frame starts held r left starts′
       a = h .answered
@@ -121,7 +136,7 @@ module _ (s : Session) (ws : List Request) (xs starts : List ℕ)
     inCode = lentState n c
 
     abbrev inSpec : State
-    inSpec = lent (setup .clients) records held
+    inSpec = lent (task opening .named) held
 
     records-lent : length (inCode .waitingTable) ≡ n
     records-lent = omega (arith, length-take n ws, up-most mostRecords records, facts .waiting-long)
@@ -135,15 +150,15 @@ module _ (s : Session) (ws : List Request) (xs starts : List ℕ)
         ∙ ap (λ (n : ℕ). width * n) (length-replicate (setup .clients) zeroCounts)
 
     record Given (o : Outcome) : Type 0 where
-      answer-same : r .answer ≡ o .answer
+      answers-same : said r ≡ o .answers
       after-same : left ≡ o .after
 
     -- the reply is q, what the definition gives on tables as long as the frame names
     record Opens (q : Outcome) : Type 0 where
-      bytes : replyBytes (r .head .setup) (r .answer) starts′ ≡ answerLine (q .answer)
+      bytes : answerLines (r .head .setup) starts′ (r .answer) ≡ gather (answerLines (q .after .head .setup) blank) (q .answers)
       after :
           heldIn (sessionAfter opening s r) (reservedOf (zs ++ drop n ws) (ys ++ drop c xs))
-          ≡ cond (isRefused (q .answer)) held (q .after)
+          ≡ cond (isRefused (q .answers)) held (q .after)
       records-most : recordsAfter opening (r .answer) (s .records) ≤ mostRecords
       clients-most : r .head .setup .clients ≤ mostClients
       draws : CanDraw (r .answer) starts′
@@ -151,14 +166,14 @@ module _ (s : Session) (ws : List Request) (xs starts : List ℕ)
     -- accepted: the tables are zero, and as long
     opens : Handed opening n c → OpenReady setup inSpec → Given (openAccepted setup inCode)
         → Opens (openAccepted setup inSpec)
-    unfolding openAccepted recordsAfter replyBytes
+    unfolding openAccepted recordsAfter
     opens h ready g =
         record {
-          bytes = rw (g .answer-same);
+          bytes = rw is-opened (sym (append-nil (answerLine Opened)));
           after =
               stands h (up-most mostRecords records) (omega (arith, up-most mostClients (setup .clients)))
               (recordsAfter opening (r .answer) (s .records)) (drop n ws) (drop c xs)
-              (rw (g .answer-same) (sym same-records))
+              (rw is-opened (sym same-records))
               (ap (λ (t : State). width * t .head .setup .clients) (g .after-same) ∙ sym same-numbers)
               ∙ g .after-same
               ∙ rw (
@@ -168,11 +183,14 @@ module _ (s : Session) (ws : List Request) (xs starts : List ℕ)
                 whole-records (inCode .clientNumbers) (setup .clients) (numbers-lent ∙ same-numbers),
                 whole-records (inSpec .clientNumbers) (setup .clients) named,
               );
-          records-most = rw (g .answer-same) few;
+          records-most = rw is-opened few;
           clients-most = omega (arith, ap (λ (t : State). t .head .setup .clients) (g .after-same), ready .within .most-clients);
-          draws = rw (g .answer-same) tt;
+          draws = rw is-opened tt;
         }
       where
+        is-opened : r .answer ≡ Opened
+        is-opened = ap firstAnswer (g .answers-same)
+
         few : records ≤ mostRecords
         few = omega (arith, ready .lengths .most-records, length-replicate records zeroRequest)
 
@@ -183,35 +201,35 @@ module _ (s : Session) (ws : List Request) (xs starts : List ℕ)
         same-numbers = ap (λ (n : ℕ). width * n) (up-same mostClients (setup .clients) (ready .within .most-clients))
 
     -- refused: the parts come back as they were
-    declines : (k : ℕ) → Given (record { answer = Refused k; after = inCode })
-        → Opens (record { answer = Refused k; after = inSpec })
-    unfolding recordsAfter replyBytes
+    declines : (k : ℕ) → Given (refusing k inCode) → Opens (refusing k inSpec)
+    unfolding recordsAfter
     declines k g =
         let heads : r .head ≡ s .head = ap (λ (t : State). t .head) (g .after-same) in
+        let is-refused : r .answer ≡ Refused k = ap firstAnswer (g .answers-same) in
         record {
-          bytes = rw (g .answer-same);
+          bytes = rw is-refused (sym (append-nil (answerLine (Refused k))));
           after =
               rw (
-                g .answer-same,
+                is-refused,
                 heads,
                 ap (λ (t : State). t .waitingTable) (g .after-same),
                 ap (λ (t : State). t .clientNumbers) (g .after-same),
                 take-append-drop n ws,
                 take-append-drop c xs,
               );
-          records-most = rw (g .answer-same) (facts .records);
+          records-most = rw is-refused (facts .records);
           clients-most = rw heads (facts .clients);
-          draws = rw (g .answer-same) tt;
+          draws = rw is-refused tt;
         }
 
-    both-open : Handed opening n c → Opens (openOf setup inSpec)
-    unfolding outcomeFor openOf
+    both-open : Handed opening n c → Opens (outcomeOf (opening-call setup) inSpec)
+    unfolding outcomeOf
     both-open h =
         alike (λ o q. Given o → Opens q) (openRefusals setup inCode) (openRefusals setup inSpec) inCode inSpec
         (openAccepted setup inCode) (openAccepted setup inSpec)
         (open-match setup records inCode inSpec records-lent numbers-lent (length-replicate records zeroRequest) named)
         (λ e e′. opens h (open-ready setup inSpec e′)) declines
-        (record { answer-same = h .answered .answer-same; after-same = h .answered .after-same })
+        (record { answers-same = h .answered .answers-same; after-same = h .answered .after-same })
 
     open-replied : Handed opening n c → Done opening
     unfolding reply recordsFor numbersFor
@@ -226,14 +244,13 @@ module _ (s : Session) (ws : List Request) (xs starts : List ℕ)
 
   -- ---- every frame
   handed-replied : (frame : Frame) → Handed frame (recordsFor frame s) (numbersFor frame s) → Done frame
-  unfolding recordsFor numbersFor recordsAfter
-  handed-replied (Open setup records) h = open-replied setup records h
+  handed-replied (Open setup records) h = open-replied setup records (unfold recordsFor numbersFor in h)
   handed-replied (Submit client deadline) h =
-      plain-replied (Submit client deadline) (λ a. refl) (submit-plain starts held client deadline) h
-  handed-replied Tick h = plain-replied Tick (λ a. refl) (tick-plain starts held) h
-  handed-replied (Report client) h = plain-replied (Report client) (λ a. refl) (report-plain starts held client) h
-  handed-replied Chart h = plain-replied Chart (λ a. refl) (chart-plain starts held (facts .starts-long)) h
-  handed-replied Bad h = plain-replied Bad (λ a. refl) (bad-plain starts held) h
+      plain-replied (Submit client deadline) refl (call-plain starts held (submit client deadline) refl refl) h
+  handed-replied Tick h = plain-replied Tick refl (call-plain starts held tick refl refl) h
+  handed-replied (Report client) h = plain-replied (Report client) refl (call-plain starts held (report client) refl refl) h
+  handed-replied Chart h = plain-replied Chart refl (chart-plain starts held (r .answer) (facts .starts-long)) h
+  handed-replied Bad h = plain-replied Bad refl (bad-plain starts held) h
 
 -- with the parts that came back in front of the rest of the tables
 pub replied : (frame : Frame) (s : Session) (ws : List Request) (xs starts : List ℕ)

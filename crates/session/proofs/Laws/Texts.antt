@@ -10,8 +10,8 @@ use lib.Dec.{eqb}
 use lib.ListN.{length, take, drop, length-take, length-drop}
 use lib.Seq.{take-add, take-suc, getD-take, getD-drop}
 use Rattle.spec.specs.Tables.{State}
-use Rattle.spec.specs.Frames.{lineFeed, frameOf}
-use Rattle.spec.specs.Session.{Text, inFront, read, textOf, reply, replies}
+use Rattle.spec.specs.Lines.Frames.{lineFeed, frameOf}
+use Rattle.spec.specs.Lines.Session.{Text, inFront, read, textOf, reply, replies}
 use Rattle.spec.proofs.Lines.Digits.{Clean}
 use Rattle.spec.proofs.Lines.Printed.{text-first}
 use Rattle.frame.specs.Lines.{NoFeed, Ends, slice}

@@ -14,10 +14,10 @@ use Rattle.spec.specs.declared.types.Answer.{Answer}
 use Rattle.spec.specs.declared.types.Answer.the-variants.{Opened, Kept, Dropped, Served, Idle, Reported, Charted, Refused}
 use Rattle.spec.specs.declared.types.Frame.{Frame}
 use Rattle.spec.specs.declared.types.Frame.the-variants.{Open, Submit, Tick, Report, Chart, Bad}
-use Rattle.spec.specs.Frames.{frameOf, answerLine}
 use Rattle.spec.specs.Tables.{mostRecords, mostClients, width}
-use Rattle.spec.specs.Lists.{isRefused}
-use Rattle.spec.specs.Session.{textOf}
+use Rattle.spec.specs.Calls.Readings.{isRefused, reading}
+use Rattle.spec.specs.Lines.Frames.{frameOf, answerLine, longestFrame}
+use Rattle.spec.specs.Lines.Session.{textOf, task}
 use Rattle.spec.proofs.Laws.Every.{or-none, same-test}
 use Rattle.spec.proofs.types.Answer as answers
 use Rattle.spec.proofs.types.Frame as frames
@@ -28,7 +28,7 @@ use Rattle.frame.proofs.Parts.{part-is, part-long}
 use Rattle.session.specs.declared.types.Session.{Session}
 use Rattle.session.specs.declared.types.Fed.{Fed}
 use Rattle.session.specs.declared.types.Turn.{Turn}
-use Rattle.session.specs.Standing.{upTo, recordsFor, numbersFor, recordsAfter, longestFrame, Begun}
+use Rattle.session.specs.Standing.{upTo, recordsFor, numbersFor, recordsAfter, Begun}
 use Rattle.session.specs.Feeding.{HandsBack, Whole, None, NextIf, Next, owed}
 use Rattle.session.proofs.Laws.Texts.{begun, ended, slice-goes-on, slice-ends}
 use Rattle.session.proofs.Laws.Leading.{begun-text}
@@ -160,35 +160,28 @@ pub next-as : (line : List ℕ) (behind : ℕ) (fed : Fed) (can : Bool) (turn : 
 next-as line behind fed can turn ends full e f = subst₂ (λ (x y : Bool). NextIf x y line behind fed can turn) (sym e) (sym f)
 
 -- ---- frames and answers of a variant, and of the others
-module _ (f : Frame) (other : OneOf (1 ∷ 2 ∷ 3 ∷ 4 ∷ 5 ∷ []) (tagOf frames.the-type f)) where
-  -- what is so of each frame but an open is so of one of these variants
-  not-open : (P : Frame → Type 0) → ((client deadline : ℕ) → P (Submit client deadline)) → P Tick
-      → ((client : ℕ) → P (Report client)) → P Chart → P Bad → P f
-  not-open P submit tick report chart bad = go f other
-    where
-      go : (f : Frame) → OneOf (1 ∷ 2 ∷ 3 ∷ 4 ∷ 5 ∷ []) (tagOf frames.the-type f) → P f
-      go (Open setup records) h = absurd (miss (1 ∷ 2 ∷ 3 ∷ 4 ∷ 5 ∷ []) 0 tt h)
-      go (Submit client deadline) h = submit client deadline
-      go Tick h = tick
-      go (Report client) h = report client
-      go Chart h = chart
-      go Bad h = bad
+-- only an open names lengths
+names-none : (f : Frame) → OneOf (1 ∷ 2 ∷ 3 ∷ 4 ∷ 5 ∷ []) (tagOf frames.the-type f) → task f .named ≡ []
+names-none (Open setup records) h = absurd (miss (1 ∷ 2 ∷ 3 ∷ 4 ∷ 5 ∷ []) 0 tt h)
+names-none (Submit client deadline) h = refl
+names-none Tick h = refl
+names-none (Report client) h = refl
+names-none Chart h = refl
+names-none Bad h = refl
 
-  -- it is lent what is in use
+module _ (f : Frame) (others : OneOf (1 ∷ 2 ∷ 3 ∷ 4 ∷ 5 ∷ []) (tagOf frames.the-type f)) where
+  -- any other is lent what is in use
   pub share-other : (s : Session)
       → (recordsFor f s ≡ upTo mostRecords (s .records)) × (numbersFor f s ≡ width * upTo mostClients (s .head .setup .clients))
   unfolding recordsFor numbersFor
-  share-other s =
-      not-open (λ f. (recordsFor f s ≡ upTo mostRecords (s .records)) × (numbersFor f s ≡ width * upTo mostClients (s .head .setup .clients)))
-      (λ client deadline. (refl, refl)) (refl, refl) (λ client. (refl, refl)) (refl, refl) (refl, refl)
+  share-other s = rw (names-none f others) (refl, refl)
 
   -- and as many records are in use after it
   pub after-other : (a : Answer) (before : ℕ) → recordsAfter f a before ≡ before
   unfolding recordsAfter
-  after-other a before =
-      not-open (λ f. recordsAfter f a before ≡ before) (λ client deadline. refl) refl (λ client. refl) refl refl
+  after-other a before = rw (names-none f others)
 
-pub not-refused : (a : Answer) → OneOf (0 ∷ 1 ∷ 2 ∷ 3 ∷ 4 ∷ 5 ∷ 6 ∷ []) (tagOf answers.the-type a) → isRefused a ≡ false
+pub not-refused : (a : Answer) → OneOf (0 ∷ 1 ∷ 2 ∷ 3 ∷ 4 ∷ 5 ∷ 6 ∷ []) (tagOf answers.the-type a) → reading a .refuses ≡ false
 not-refused Opened h = refl
 not-refused (Kept number place) h = refl
 not-refused (Dropped number victim client) h = refl

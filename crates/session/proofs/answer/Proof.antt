@@ -12,8 +12,8 @@ use Rattle.spec.specs.declared.types.Frame.the-variants.{Open, Submit, Tick, Re
 use Rattle.spec.proofs.types.Frame as TF
 use Rattle.spec.proofs.types.Frame.Laws as TF′
 use Rattle.table.proofs.Rows.{R}
-use Rattle.session.specs.Answers.{outcomeFor, startsFor}
-use Rattle.spec.specs.Lists.{opening as opening-call, submit as submit-call, tick as tick-call, report as report-call, chart as chart-call, outcomeOf}
+use Rattle.spec.specs.Calls.Call.{opening as opening-call, submit as submit-call, tick as tick-call, report as report-call}
+use Rattle.spec.specs.Calls.Call.{chart as chart-call, outcomeOf}
 use Rattle.session.proofs.Answering.{answers, answers-bad}
 use Rattle.spec.specs.declared.types.Head.{Head}
 use Rattle.table.proofs.Heads.{HeadT, head-vals, a-head, a-setup}
@@ -83,7 +83,6 @@ module _ {M : Type 1} (𝓤 : URA M) (H : Heap 𝓤) (A : Atoms 𝓤) (W : Given
     Known k = Triple 𝓤 (𝓣 .C (k .0)) (k .1)
 
     opens : Known opening → (setup : Setup) (records : ℕ) → Arm (Open setup records)
-    unfolding outcomeFor outcomeOf startsFor
     opens known setup records is g Q leaves bs =
         let owed = LE.owed TF.the-type TF′.the-laws (Open setup records) _ is in
         let ns : List (Param 𝓤 H A) = given W a-setup setup (owed .0) ∷ [] in
@@ -92,7 +91,6 @@ module _ {M : Type 1} (𝓤 : URA M) (H : Heap 𝓤) (A : Atoms 𝓤) (W : Given
         leaves (a-reply .val r) r (lasts ns last) (longs (Open setup records) ns last kept) own (so 𝓤 (answers (Open setup records) (opening-call setup) refl told refl)))
 
     submits : Known submitting → (client deadline : ℕ) → Arm (Submit client deadline)
-    unfolding outcomeFor outcomeOf startsFor
     submits known client deadline is g Q leaves bs =
         let owed = LE.owed TF.the-type TF′.the-laws (Submit client deadline) _ is in
         let ns : List (Param 𝓤 H A) = number W client (owed .0 .1) ∷ number W deadline (owed .1 .0 .1) ∷ [] in
@@ -101,14 +99,12 @@ module _ {M : Type 1} (𝓤 : URA M) (H : Heap 𝓤) (A : Atoms 𝓤) (W : Given
         leaves (a-reply .val r) r (lasts ns last) (longs (Submit client deadline) ns last kept) own (so 𝓤 (answers (Submit client deadline) (submit-call client deadline) refl told refl)))
 
     ticks : Known ticking → Arm Tick
-    unfolding outcomeFor outcomeOf startsFor
     ticks known is g Q leaves bs =
         drop ! $ first ! $ matches ! refl refl refl tt $ relends ! waiting refl $ relends ! clients refl $
         hands-on ! 𝓣 (0 ∷ 1 ∷ []) (lent-with []) a-reply (λ c. known) (λ c h. h) (id⊢ 𝓤 _) refl (λ c. vars ! (refl, (refl, (refl, tt)))) (λ _. refl) Q refl (λ r last. (refl, refl)) (λ r last told kept own.
         leaves (a-reply .val r) r (lasts [] last) (longs Tick [] last kept) own (so 𝓤 (answers Tick tick-call refl told refl)))
 
     reports : Known reporting → (client : ℕ) → Arm (Report client)
-    unfolding outcomeFor outcomeOf startsFor
     reports known client is g Q leaves bs =
         let owed = LE.owed TF.the-type TF′.the-laws (Report client) _ is in
         let ns : List (Param 𝓤 H A) = number W client (owed .0 .1) ∷ [] in
@@ -117,7 +113,6 @@ module _ {M : Type 1} (𝓤 : URA M) (H : Heap 𝓤) (A : Atoms 𝓤) (W : Given
         leaves (a-reply .val r) r (with-starts (starts .list)) (refl, (refl, (refl, tt))) own (so 𝓤 (answers (Report client) (report-call client) refl told refl)))
 
     charts : Known charting → Arm Chart
-    unfolding outcomeFor outcomeOf startsFor
     charts known is g Q leaves bs =
         let ns : List (Param 𝓤 H A) = mut-own W starts ∷ [] in
         drop ! $ first ! $ matches ! refl refl refl tt $ relends ! waiting refl $ relends ! clients refl $ relends ! starts refl $
@@ -125,7 +120,6 @@ module _ {M : Type 1} (𝓤 : URA M) (H : Heap 𝓤) (A : Atoms 𝓤) (W : Given
         leaves (a-reply .val r) r (with-starts (last .1 .1 .1 .0)) (refl, (refl, (kept .1 .1 .0, tt))) own (so 𝓤 (answers Chart (chart-call (starts .list)) refl (told .0) (told .1))))
 
     refuses : Known refusing → Arm Bad
-    unfolding outcomeFor startsFor
     refuses known is g Q leaves bs =
         drop ! $ first ! $ matches ! refl refl refl tt $
         hands-on ! 𝓣 [] (given W a-head head head-is ∷ []) a-reply (λ c. known) (λ c h. h) (id⊢ 𝓤 _) refl (λ c. vars ! (refl, tt)) (λ _. refl) Q refl (λ r last. (refl, refl)) (λ r last told kept own.

@@ -10,7 +10,7 @@ use lib.ListN.{length, take, drop}
 use Rattle.slots.specs.Plan.{Slot, none, at, isAt, uses, planned, size}
 use Rattle.slots.proofs.Laws.Tests.{Same, same-yes, same-no, same, le, gt, order}
 use Rattle.slots.proofs.Laws.Sums.{total, total-le, total-one}
-use Rattle.slots.proofs.Queue.{opens, Entry, Booking, serve, Joined, Swapped}
+use Rattle.slots.proofs.Queue.{opens, Entry, Booking, serve, Joined, Swapped, Taken}
 
 -- ---- the requests that a step leaves
 pub total-serve : (f : Booking → ℕ) (t : ℕ) (ws : List Entry) (bs : List Booking)
@@ -37,6 +37,10 @@ length-joined e ws vs J = omega (arith, J .sums each, length-each vs, length-eac
 
 pub length-swapped : (e victim : Entry) (ws vs : List Entry) → Swapped e victim ws vs → length vs ≡ length ws
 length-swapped e victim ws vs S = omega (arith, S .sums each, length-each vs, length-each ws)
+
+-- one less waits, so that those withdrawn and those that wait are together as many as before
+pub length-taken : (e : Entry) (ws vs : List Entry) → Taken e ws vs → suc (length vs) ≡ length ws
+length-taken e ws vs T = omega (arith, T .sums each, length-each vs, length-each ws)
 
 -- ---- the slots of a plan
 pub size-total : (P : List Slot) → size P ≡ total planned P

@@ -5,12 +5,13 @@ use mathlib.Core.Bool.{Bool, true, false}
 use mathlib.Core.List.{List, [], _∷_}
 use native.Mathlib.Omega.{arith}
 use lib.Dec.{eqb}
-use lib.ListN.{length, take, length-take}
+use lib.ListN.{length, take, drop, length-take}
 use Rattle.slots.specs.Plan.{Window, at, isAt}
 use Rattle.slots.proofs.Laws.Tests.{Same, same-yes, same-no, same, le, gt, order}
 use Rattle.slots.proofs.Laws.Sums.{one-no, one-most, All, all-each, all-imp, all-take, all-drop, total, total-split}
 use Rattle.slots.proofs.Laws.Sums.{total-zero, total-one}
-use Rattle.slots.proofs.Queue.{Entry, Booking, Queue, empty, arrival, asking, serve, ticked, Joined, Swapped}
+use Rattle.slots.proofs.Queue.{Entry, Booking, Queue, empty, arrival, asking, serve, ticked, Joined, Swapped, Taken}
+use Rattle.slots.proofs.Queue.{withdrawing, discarded}
 use Rattle.slots.proofs.Laws.Count.{total-serve, isAt-yes, isAt-no}
 use Rattle.slots.proofs.Laws.Sorted.{Sorted, sorted-low}
 use Rattle.slots.proofs.Upper.{Inv}
@@ -159,12 +160,14 @@ module _ (heads : ℕ → ℕ) where
           omega
           (arith, total-serve (sits x) t ws bs, f x, total-zero here ws (all-each (λ (w : Entry). here w ≡ 0) ws (λ w. isAt-no x t n)))
 
-  pub own-ticked : (q : Queue) → Inv heads q → Own q → Own (ticked heads q)
-  own-ticked q I O =
+  -- it asks only that all that wait are due after the clock: they are where there is room for them (none-due), and also where the
+  -- others were discarded first
+  pub own-ticked : (q : Queue) → Sorted (suc (q .clock)) (q .waiting) → Own q → Own (ticked heads q)
+  own-ticked q low O =
       record {
         served =
             all-serve (Due t R) (Served (suc t) R) t (take h ws) (q .log) (serves t R)
-            (all-take (Due t R) h ws (all-due t (suc t) R ws (omega arith) (none-due q I) (O .waits)))
+            (all-take (Due t R) h ws (all-due t (suc t) R ws (omega arith) low (O .waits)))
             (all-imp (Served t R) (Served (suc t) R) (q .log) (served-later t R) (O .served));
         waits = all-drop (Waits (suc t) R) h ws (all-imp (Waits t R) (Waits (suc t) R) ws (waits-later t R) (O .waits));
         once = λ i. omega (arith, total-serve (who i) t (take h ws) (q .log), total-split (whose i) h ws, O .once i);
@@ -182,3 +185,25 @@ module _ (heads : ℕ → ℕ) where
 
       ws : List Entry
       ws = q .waiting
+
+  -- ---- some go and none comes
+  -- how many were withdrawn does not matter to the log and those that wait, so that one law serves a withdrawal and a discard
+  pub own-fewer : {n : ℕ} (q : Queue) (vs : List Entry) → ((p : Entry → Type 0) → All p (q .waiting) → All p vs)
+      → ((f : Entry → ℕ) → total f vs ≤ total f (q .waiting)) → Own q
+      → Own (record { clock = q .clock; log = q .log; waiting = vs; asked = q .asked; withdrawn = n })
+  own-fewer q vs lifts f O =
+      record {
+        served = O .served;
+        waits = lifts (Waits (q .clock) (q .asked)) (O .waits);
+        once = λ i. omega (arith, f (whose i), O .once i);
+        spread = O .spread;
+      }
+
+  -- one is withdrawn, and nothing changes for the log and for those that still wait
+  pub own-withdrawn : (e : Entry) (q : Queue) (vs : List Entry) → Taken e (q .waiting) vs → Own q → Own (withdrawing vs q)
+  own-withdrawn e q vs T O = own-fewer q vs (T .lifts) (λ f. omega (arith, T .sums f)) O
+
+  -- the first j are discarded, and here it does not matter whether their deadlines have come
+  pub own-discarded : (j : ℕ) (q : Queue) → Own q → Own (discarded j q)
+  own-discarded j q O =
+      own-fewer q (drop j (q .waiting)) (λ p. all-drop p j (q .waiting)) (λ f. omega (arith, total-split f j (q .waiting))) O

@@ -7,10 +7,12 @@ use lib.ListN.{replicate}
 use Rattle.spec.specs.declared.types.Counts.{Counts}
 use Rattle.spec.specs.declared.types.Answer.{Answer}
 use Rattle.spec.specs.declared.types.Answer.the-variants.{Kept, Dropped, Served, Idle, Refused}
-use Rattle.spec.specs.Tables.{clockEnd, mostPeriod, State, waiting, holding, zeroRequest, zeroCounts, openHead, clientTable, numbersOf}
+use Rattle.spec.specs.Every.{gather}
+use Rattle.spec.specs.Tables.{clockEnd, mostPeriod, State, waiting, holding, zeroRequest, zeroCounts, openHead}
+use Rattle.spec.specs.Tables.{clientTable, numbersOf}
 use Rattle.spec.specs.Chart.{Segment, startsOf, segmentsOf}
-use Rattle.spec.specs.Calls.{openOf, tickOf}
-use Rattle.spec.specs.Lists.{Call, submit, tick, outcomeOf, run, history, Event}
+use Rattle.spec.specs.Calls.Call.{Call, submit, tick, outcomeOf, opening}
+use Rattle.spec.specs.Lists.{run, history, Event}
 use Rattle.spec.proofs.Acceptance.Computed.{setting, calls}
 
 -- a state to begin with, calls from the first to the last, and what they come to: the answers, or the start slots and the segments
@@ -22,7 +24,7 @@ pub data Case : Type 0 where
 -- "fresh tables": what an open of so many clients and records left
 abbrev fresh : ℕ → ℕ → State
 fresh clients records =
-    openOf (setting clients 100) (record {
+    outcomeOf (opening (setting clients 100)) (record {
       head = openHead (setting 0 0);
       waitingTable = replicate records zeroRequest;
       clientNumbers = numbersOf (replicate clients zeroCounts);
@@ -81,7 +83,7 @@ cases =
 -- a case with what the definitions give
 abbrev given : Case → Case
 given (answering start calls answers) =
-    answering start calls (reverse (map (λ (e : Event). e .answer) (history start (reverse calls))))
+    answering start calls (gather (λ (e : Event). e .answers) (reverse (history start (reverse calls))))
 given (drawing start calls starts segments) =
     let end = run start (reverse calls) in
     let slots = startsOf (end .head .setup) (waiting end) in
@@ -135,7 +137,7 @@ periodTicks =
     ∷ []
 
 abbrev countsGiven : PeriodTick → List Counts
-countsGiven t = clientTable (tickOf (ticking (t .period) (t .clock - 1)) .after)
+countsGiven t = clientTable (outcomeOf tick (ticking (t .period) (t .clock - 1)) .after)
 
 pub period-ticks : map countsGiven periodTicks ≡ map (λ (t : PeriodTick). t .counts ∷ []) periodTicks
 unfolding calls

@@ -3,15 +3,18 @@ use Prim.Native.Nat.{ℕ}
 use mathlib.Core.List.{[], _∷_}
 use Rattle.spec.specs.declared.types.Setup.{Setup}
 use Rattle.spec.specs.Every.{every, everyFrom, countIf, mapFrom}
-use Rattle.spec.specs.Tables.{setupOf, recordsOf, numbersOf, nextState}
-use Rattle.spec.specs.Order.{comesBefore, isInOrder, placeOf, putInOrder, removeAt}
-use Rattle.spec.specs.Chart.{room, startsOf, segmentsOf, dueBy, isOverfull, hasNoOverfull}
-use Rattle.spec.specs.Victim.{isCandidate, candidatesFrom, hasSmallerRatio, smallestOf, victimOf}
-use Rattle.spec.specs.Sound.{isHeadWithin, isZeroRequest, waitingOf, isBalanced, isSound}
+use Rattle.spec.specs.Tables.{setupOf, recordsOf, numbersOf, nextState, change}
 use Rattle.spec.specs.Setup.{firstMatch, setupRefusals}
-use Rattle.spec.specs.Refusals.{openRefusals, submitRefusals, tickRefusals, reportRefusals, chartRefusals}
-use Rattle.spec.specs.Calls.{openOf, openAccepted, change, kept, droppedAt, submitAccepted, submitOf, tickAccepted}
-use Rattle.spec.specs.Calls.{tickOf, reportAccepted, reportOf, chartAccepted, chartOf}
+use Rattle.spec.specs.Order.{comesBefore, isInOrder, placeOf, putInOrder, removeAt}
+use Rattle.spec.specs.Chart.{room, startsOf, segmentsOf, dueBy, isOverfull, hasNoOverfull, isCandidate, candidatesFrom}
+use Rattle.spec.specs.Chart.{hasSmallerRatio, smallestOf, victimOf}
+use Rattle.spec.specs.Sound.{isHeadWithin, isZeroRequest, waitingOf, isBalanced, isSound}
+use Rattle.spec.specs.Calls.Open.{openRefusals, openAccepted}
+use Rattle.spec.specs.Calls.Submit.{submitRefusals, kept, droppedAt, submitAccepted}
+use Rattle.spec.specs.Calls.Tick.{tickRefusals, tickAccepted}
+use Rattle.spec.specs.Calls.Report.{reportRefusals, reportAccepted}
+use Rattle.spec.specs.Calls.Chart.{chartRefusals, chartAccepted}
+use Rattle.spec.specs.Calls.Call.{outcomeOf}
 
 -- what open sets: clients and period
 abbrev pub setting : ℕ → ℕ → Setup
@@ -30,9 +33,9 @@ unfolding charts recordsOf everyFrom comesBefore isInOrder isHeadWithin isZeroRe
 refusals = tt
 
 unfoldable pub submits : Unit {0}
-unfolding victims refusals submitRefusals change numbersOf nextState kept droppedAt submitAccepted submitOf
+unfolding victims refusals submitRefusals change numbersOf nextState kept droppedAt submitAccepted outcomeOf
 submits = tt
 
 unfoldable pub calls : Unit {0}
-unfolding submits mapFrom openRefusals openAccepted openOf tickAccepted tickOf reportRefusals reportAccepted reportOf chartRefusals chartAccepted chartOf
+unfolding submits mapFrom openRefusals openAccepted outcomeOf tickAccepted reportRefusals reportAccepted chartRefusals chartAccepted
 calls = tt

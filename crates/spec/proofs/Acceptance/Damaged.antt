@@ -11,12 +11,14 @@ use Rattle.spec.specs.declared.types.Head.{Head}
 use Rattle.spec.specs.declared.types.Request.{Request}
 use Rattle.spec.specs.declared.types.Counts.{Counts}
 use Rattle.spec.specs.Every.{isWithin, every, everyFrom}
-use Rattle.spec.specs.Tables.{mostRecords, clockEnd, zeroRequest, zeroCounts, State, waiting, behind, holding, clientTable, numbersOf, width}
+use Rattle.spec.specs.Tables.{mostRecords, clockEnd, zeroRequest, zeroCounts, State, waiting, behind, holding}
+use Rattle.spec.specs.Tables.{clientTable, numbersOf, width}
+use Rattle.spec.specs.Setup.{firstMatch, setupRefusals}
 use Rattle.spec.specs.Order.{isInOrder}
 use Rattle.spec.specs.Chart.{hasNoOverfull}
 use Rattle.spec.specs.Sound.{isHeadWithin, isAhead, isGiven, isClient, isZeroRequest, isBalanced, isSound}
-use Rattle.spec.specs.Setup.{firstMatch, setupRefusals}
-use Rattle.spec.specs.Refusals.{refusal4, tickRefusals}
+use Rattle.spec.specs.Calls.Refusals.{refusal4}
+use Rattle.spec.specs.Calls.Tick.{tickRefusals}
 use Rattle.spec.proofs.Acceptance.Computed.{setting, refusals}
 
 -- ---- clauses

@@ -8,13 +8,14 @@ use Rattle.spec.specs.declared.types.Setup.{Setup}
 use Rattle.spec.specs.declared.types.Answer.{Answer}
 use Rattle.spec.specs.declared.types.Answer.the-variants.{Kept, Dropped, Served, Reported, Charted, Refused}
 use Rattle.spec.specs.Every.{exists, select}
-use Rattle.spec.specs.Calls.{chartOutput}
-use Rattle.spec.specs.Lists.{Call, opening, submit, tick, report, chart, Event, isOpened, ticks, Asked, asked, bookings, victims}
-use Rattle.spec.specs.Lists.{servedRequests, waitingRequests}
-use Rattle.spec.specs.Frames.{digitOf, characterOf, numberFrom, digits, frameWith, frameOf, field, kindOf, valuesOf, fieldDigits}
-use Rattle.spec.specs.Frames.{lineOf, segmentLines}
-use Rattle.spec.specs.Session.{textOf, atStart, blank, reply, replies, session}
-use Rattle.spec.specs.Printed.{answerWith, answersIn, callsBy, eventsFrom, eventsIn, sinceOpen, setupIn}
+use Rattle.spec.specs.Calls.Readings.{field, kindOf, valuesOf}
+use Rattle.spec.specs.Calls.Chart.{chartOutput}
+use Rattle.spec.specs.Calls.Call.{Call, opening, submit, tick, report, chart}
+use Rattle.spec.specs.Lists.{Event, isOpened, ticks, Asked, asked, bookings, victims, servedRequests, waitingRequests}
+use Rattle.spec.specs.Lines.Frames.{digitOf, characterOf, numberFrom, digits, frameWith, frameOf, fieldDigits, lineOf}
+use Rattle.spec.specs.Lines.Frames.{segmentLines}
+use Rattle.spec.specs.Lines.Session.{textOf, atStart, blank, reply, replies, session}
+use Rattle.spec.specs.Lines.Printed.{answerWith, answersIn, eventsFrom, eventsIn, sinceOpen, setupIn}
 use Rattle.spec.proofs.Acceptance.Computed.{setting, calls}
 
 -- ---- the input
@@ -62,7 +63,7 @@ shown es =
     }
 
 abbrev answered : Call → Answer → Event
-answered c a = record { call = c; answer = a }
+answered c a = record { call = c; answers = a ∷ [] }
 
 abbrev expected : Shown
 expected =
@@ -83,9 +84,9 @@ expected =
     }
 
 unfoldable lines : Unit {0}
-unfolding digits characterOf digitOf numberFrom frameWith frameOf kindOf valuesOf fieldDigits lineOf segmentLines textOf
+unfolding digits characterOf digitOf numberFrom frameWith frameOf fieldDigits lineOf segmentLines textOf
 lines = tt
 
 pub read-off : shown (eventsIn input (session input)) ≡ expected
-unfolding calls chartOutput lines atStart reply replies session answerWith answersIn callsBy eventsFrom eventsIn sinceOpen setupIn exists select ticks asked bookings victims servedRequests waitingRequests
+unfolding calls chartOutput lines atStart reply replies session answerWith answersIn eventsFrom eventsIn sinceOpen setupIn exists select ticks asked bookings victims servedRequests waitingRequests
 read-off = refl

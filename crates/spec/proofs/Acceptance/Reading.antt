@@ -9,16 +9,15 @@ use Rattle.slots.specs.Plan.{Slot, none, at}
 use Rattle.spec.specs.declared.types.Counts.{Counts}
 use Rattle.spec.specs.Every.{exists, select}
 use Rattle.spec.specs.Tables.{zeroRequest, zeroCounts, openHead, State, numbersOf}
-use Rattle.spec.specs.Calls.{openOf}
-use Rattle.spec.specs.Lists.{Call, opening, submit, tick, report, chart, outcomeOf, run, Event, history, isOpened, ticks}
-use Rattle.spec.specs.Lists.{Asked, asked, bookings, victims, servedRequests, waitingRequests, slotFor, chartBookings}
-use Rattle.spec.specs.Lists.{ownPlan, waitingBy, sinceStart, countsSince}
+use Rattle.spec.specs.Calls.Call.{Call, opening, submit, tick, report, chart, outcomeOf}
+use Rattle.spec.specs.Lists.{run, Event, history, isOpened, ticks, Asked, asked, bookings, victims, servedRequests}
+use Rattle.spec.specs.Lists.{waitingRequests, slotFor, chartBookings, ownPlan, waitingBy, sinceStart, countsSince}
 use Rattle.spec.proofs.Acceptance.Computed.{setting, calls}
 
 -- two clients, a period of two slots
 abbrev start : State
 start =
-    openOf (setting 2 2) (record {
+    outcomeOf (opening (setting 2 2)) (record {
       head = openHead (setting 0 0);
       waitingTable = replicate 8 zeroRequest;
       clientNumbers = numbersOf (replicate 2 zeroCounts);

@@ -12,8 +12,7 @@ use Rattle.spec.specs.declared.types.Answer.the-variants.{Opened, Kept, 
 use Rattle.spec.specs.Every.{select}
 use Rattle.spec.specs.Tables.{mostCounted, clockEnd, numberEnd, State, holding, numbersOf}
 use Rattle.spec.specs.Setup.{Refusal}
-use Rattle.spec.specs.Lists.{Call, opening, submit, tick, report, chart, outcomeOf}
-use Rattle.spec.proofs.Demands.Words.{refusalsOf}
+use Rattle.spec.specs.Calls.Call.{Call, opening, submit, tick, report, chart, outcomeOf, refusalsOf}
 use Rattle.spec.proofs.Acceptance.Computed.{setting, calls}
 
 -- a call on a state, the numbers of its refusals whose conditions hold, and the answer
@@ -80,13 +79,13 @@ rows =
     ∷ []
 
 -- what a row says, and what the definitions give
-abbrev said : Row → List ℕ × Answer
-said r = (r .conditions, r .answer)
+abbrev said : Row → List ℕ × List Answer
+said r = (r .conditions, r .answer ∷ [])
 
-abbrev given : Row → List ℕ × Answer
+abbrev given : Row → List ℕ × List Answer
 given r = (
   map (λ (f : Refusal). f .number) (select (λ f. f .holds) (refusalsOf (r .call) (r .state))),
-  outcomeOf (r .call) (r .state) .answer,
+  outcomeOf (r .call) (r .state) .answers,
 )
 
 pub refusals-in-order : map given rows ≡ map said rows

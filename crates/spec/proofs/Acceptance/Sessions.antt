@@ -8,13 +8,14 @@ use mathlib.Core.List.{List, [], _∷_, map}
 use Rattle.spec.specs.declared.types.Frame.{Frame}
 use Rattle.spec.specs.declared.types.Frame.the-variants.{Open, Submit, Tick, Report, Chart, Bad}
 use Rattle.spec.specs.Every.{every}
-use Rattle.spec.specs.Frames.{answerLine, digitOf, characterOf, numberFrom, digits, frameWith, frameOf, kindOf, valuesOf}
-use Rattle.spec.specs.Frames.{fieldDigits, lineOf, segmentLines}
-use Rattle.spec.specs.Session.{textOf, atStart, reply, replies, session}
+use Rattle.spec.specs.Chart.{Segment}
+use Rattle.spec.specs.Calls.Readings.{kindOf, valuesOf}
+use Rattle.spec.specs.Calls.Chart.{chartOutput}
+use Rattle.spec.specs.Lines.Frames.{answerLine, digitOf, characterOf, numberFrom, digits, frameWith, frameOf}
+use Rattle.spec.specs.Lines.Frames.{fieldDigits, lineOf, segmentLines}
+use Rattle.spec.specs.Lines.Session.{textOf, atStart, reply, replies, session}
 use Rattle.spec.specs.declared.types.Answer.{Answer}
 use Rattle.spec.specs.declared.types.Answer.the-variants.{Opened, Kept, Dropped, Served, Idle, Reported, Charted, Refused}
-use Rattle.spec.specs.Chart.{Segment}
-use Rattle.spec.specs.Calls.{chartOutput}
 use Rattle.spec.proofs.Acceptance.Computed.{setting, calls}
 
 -- an input's lines, what stands behind its last line feed, and the lines of the output
@@ -146,7 +147,7 @@ dialogues =
     ∷ []
 
 unfoldable frames : Unit {0}
-unfolding every digits characterOf digitOf numberFrom frameWith frameOf kindOf valuesOf fieldDigits lineOf segmentLines
+unfolding every digits characterOf digitOf numberFrom frameWith frameOf fieldDigits lineOf segmentLines
 frames = tt
 
 pub worked-sessions : map given dialogues ≡ map said dialogues

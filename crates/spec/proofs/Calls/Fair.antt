@@ -20,9 +20,8 @@ use Rattle.spec.specs.declared.types.Head.{Head}
 use Rattle.spec.specs.declared.types.Request.{Request}
 use Rattle.spec.specs.Tables.{zeroRequest, State, waiting, deadlinesOf}
 use Rattle.spec.specs.Order.{removeAt}
-use Rattle.spec.specs.Chart.{capacityOf, roomTo, dueBy, hasNoOverfull}
-use Rattle.spec.specs.Victim.{isCandidate}
-use Rattle.spec.specs.Calls.{newRequest, withNew, kept, droppedAt, victimPlace, submitAccepted}
+use Rattle.spec.specs.Chart.{capacityOf, roomTo, dueBy, hasNoOverfull, isCandidate}
+use Rattle.spec.specs.Calls.Submit.{newRequest, withNew, kept, droppedAt, victimPlace, submitAccepted}
 use Rattle.spec.proofs.Demands.Words.{CanFinish}
 use Rattle.spec.proofs.Laws.Room.{room-capacity}
 use Rattle.spec.proofs.Laws.Every.{is-true, is-false, value, cond-true, cond-false}

@@ -14,18 +14,21 @@ use Rattle.spec.specs.declared.types.Head.{Head}
 use Rattle.spec.specs.declared.types.Request.{Request}
 use Rattle.spec.specs.declared.types.Counts.{Counts}
 use Rattle.spec.specs.Every.{mapFrom}
-use Rattle.spec.specs.Tables.{mostRecords, mostCounted, clockEnd, numberEnd, zeroRequest, zeroCounts, State, waiting, clientTable, width}
-use Rattle.spec.specs.Tables.{nextState}
-use Rattle.spec.specs.Order.{putInOrder, removeAt}
-use Rattle.spec.specs.Chart.{dueBy, hasNoOverfull}
-use Rattle.spec.specs.Victim.{isCandidate}
+use Rattle.spec.specs.Tables.{mostRecords, mostCounted, clockEnd, numberEnd, zeroRequest, zeroCounts, State, waiting}
+use Rattle.spec.specs.Tables.{clientTable, width, nextState, change, oneMoreSubmitted, oneMoreServed, oneMoreDropped}
 use Rattle.spec.specs.Setup.{firstMatch}
-use Rattle.spec.specs.Refusals.{refusal4}
-use Rattle.spec.specs.Calls.{Outcome, change, oneMoreSubmitted, oneMoreServed, oneMoreDropped, openAccepted, newRequest}
-use Rattle.spec.specs.Calls.{countedIn, withNew, kept, requestAt, droppedAt, victimPlace, submitAccepted, isPeriodStart}
-use Rattle.spec.specs.Calls.{restarted, countsAfter, oneLater, tickAccepted, reportAccepted, chartAccepted}
-use Rattle.spec.specs.Lists.{Call, opening, submit, tick, report, chart, outcomeOf, isRefused}
-use Rattle.spec.proofs.Demands.Words.{refusalsOf}
+use Rattle.spec.specs.Order.{putInOrder, removeAt}
+use Rattle.spec.specs.Chart.{dueBy, hasNoOverfull, isCandidate}
+use Rattle.spec.specs.Calls.Readings.{isRefused}
+use Rattle.spec.specs.Calls.Refusals.{refusal4}
+use Rattle.spec.specs.Calls.Outcome.{Outcome}
+use Rattle.spec.specs.Calls.Open.{openAccepted}
+use Rattle.spec.specs.Calls.Submit.{newRequest, countedIn, withNew, kept, requestAt, droppedAt, victimPlace}
+use Rattle.spec.specs.Calls.Submit.{submitAccepted}
+use Rattle.spec.specs.Calls.Tick.{isPeriodStart, restarted, countsAfter, oneLater, tickAccepted}
+use Rattle.spec.specs.Calls.Report.{reportAccepted}
+use Rattle.spec.specs.Calls.Chart.{chartAccepted}
+use Rattle.spec.specs.Calls.Call.{Call, opening, submit, tick, report, chart, outcomeOf, acceptedOf, refusalsOf}
 use Rattle.spec.proofs.Laws.Clients.{of-yes, of-no, waitingOf-none, waitingOf-put, waitingOf-remove, Changed, changes}
 use Rattle.spec.proofs.Laws.Clients.{stays, changed, length-change}
 use Rattle.spec.proofs.Laws.Room.{capacity-one, room-back, room-step, room-split, room-next}
@@ -39,7 +42,7 @@ use Rattle.spec.proofs.Laws.Accepted.{TickReady, tick-ready, report-rea
 use Rattle.spec.proofs.Laws.Accepted.{next-behind, next-length}
 use Rattle.spec.proofs.Laws.Layout.{length-numbers, records-numbers}
 use Rattle.spec.proofs.Calls.Victim.{victim-place}
-use Rattle.spec.proofs.Calls.Refused.{outcome-decided, acceptedOf, accepted-none, accepted-same}
+use Rattle.spec.proofs.Calls.Refused.{outcome-decided, accepted-none, accepted-same}
 
 -- ---- the clauses of sound tables on requests and counts, without the one on overfull deadlines; clients have one record each
 pub record Tidy (clock last clients : ℕ) (ws : List Request) (cs : List Counts) : Type 0 where
@@ -455,5 +458,5 @@ same-lengths c s = go (outcome-decided c s)
     go (refuses n) = (refl, refl)
 
 -- "Every accepted call leaves sound tables.", as facts
-pub keeps : (c : Call) (s : State) → isRefused (outcomeOf c s .answer) ≡ false → Ready (outcomeOf c s .after)
+pub keeps : (c : Call) (s : State) → isRefused (outcomeOf c s .answers) ≡ false → Ready (outcomeOf c s .after)
 keeps c s h = rw (accepted-same c s h) (accepted-keeps c s (accepted-none c s h))

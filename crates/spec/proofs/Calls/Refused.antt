@@ -6,60 +6,95 @@ use mathlib.Core.Bool.{Bool, true, false, cond, true≢false}
 use mathlib.Core.List.{List, [], _∷_, _++_}
 use native.Mathlib.Omega.{arith}
 use lib.Dec.{eqb}
-use lib.ListN.{length, drop}
+use lib.ListN.{length, drop, length-append, length-drop}
 use Rattle.slots.proofs.Laws.Tests.{Same, same-yes, same-no, same}
 use Rattle.slots.proofs.Laws.Sums.{All}
 use Rattle.spec.specs.declared.types.Setup.{Setup}
 use Rattle.spec.specs.declared.types.Request.{Request}
-use Rattle.spec.specs.Tables.{State, waiting}
-use Rattle.spec.specs.Chart.{startsOf, hasNoOverfull}
+use Rattle.spec.specs.declared.types.Answer.{Answer}
+use Rattle.spec.specs.declared.types.Answer.the-variants.{Refused}
+use Rattle.spec.specs.Every.{firstOr}
+use Rattle.spec.specs.Tables.{State, waiting, nextState}
 use Rattle.spec.specs.Setup.{Refusal, firstMatch, setupRefusals}
-use Rattle.spec.specs.Refusals.{openRefusals, submitRefusals, tickRefusals, reportRefusals}
-use Rattle.spec.specs.Refusals.{chartRefusals}
-use Rattle.spec.specs.Calls.{Outcome, unlessRefused, openAccepted, openOf, kept, droppedAt, victimPlace, withNew}
-use Rattle.spec.specs.Calls.{submitAccepted, submitOf, tickAccepted, tickOf, reportAccepted, reportOf, chartAccepted}
-use Rattle.spec.specs.Calls.{chartOf, chartOutput}
-use Rattle.spec.specs.Lists.{Call, opening, submit, tick, report, chart, outcomeOf, isRefused}
-use Rattle.spec.proofs.Demands.Words.{refusalsOf, FirstHolds, here, further}
-use Rattle.spec.proofs.Laws.Accepted.{Decided, accepts, refuses, decided}
+use Rattle.spec.specs.Chart.{startsOf, hasNoOverfull}
+use Rattle.spec.specs.Calls.Readings.{isRefused, reading}
+use Rattle.spec.specs.Calls.Outcome.{Outcome, unlessRefused, saying}
+use Rattle.spec.specs.Calls.Open.{openRefusals, openAccepted}
+use Rattle.spec.specs.Calls.Submit.{submitRefusals, kept, droppedAt, victimPlace, withNew, submitAccepted}
+use Rattle.spec.specs.Calls.Tick.{tickRefusals, tickAccepted}
+use Rattle.spec.specs.Calls.Report.{reportRefusals, reportAccepted}
+use Rattle.spec.specs.Calls.Chart.{chartRefusals, chartAccepted, chartOutput}
+use Rattle.spec.specs.Calls.Call.{Call, opening, submit, tick, report, chart, outcomeOf, acceptedOf, refusalsOf, meaning}
+use Rattle.spec.proofs.Demands.Words.{FirstHolds, here, further}
+use Rattle.spec.proofs.Laws.Accepted.{Decided, accepts, refuses, decided, chart-ready, waiting-length}
 
 -- ---- each call is its refusals and what it does where none holds
--- what an accepted call comes to
-abbrev pub acceptedOf : Call → State → Outcome
-acceptedOf (opening setup) s = openAccepted setup s
-acceptedOf (submit client deadline) s = submitAccepted client deadline s
-acceptedOf tick s = tickAccepted (waiting s) s
-acceptedOf (report client) s = reportAccepted client s
-acceptedOf (chart output) s = chartAccepted s
-
-outcome-unless : (c : Call) (s : State) → unlessRefused (refusalsOf c s) s (acceptedOf c s) ≡ outcomeOf c s
-unfolding outcomeOf openOf submitOf tickOf reportOf chartOf
-outcome-unless (opening setup) s = refl
-outcome-unless (submit client deadline) s = refl
-outcome-unless tick s = refl
-outcome-unless (report client) s = refl
-outcome-unless (chart output) s = refl
-
 pub outcome-decided : (c : Call) (s : State) → Decided (refusalsOf c s) s (acceptedOf c s) (outcomeOf c s)
-outcome-decided c s = rw (outcome-unless c s) at (decided (refusalsOf c s) s (acceptedOf c s))
+unfolding outcomeOf
+outcome-decided c s = decided (refusalsOf c s) s (acceptedOf c s)
 
--- no answer of an accepted call is a refusal
-pub accepted-answer : (c : Call) (s : State) → isRefused (acceptedOf c s .answer) ≡ false
-unfolding openAccepted submitAccepted kept droppedAt tickAccepted reportAccepted chartAccepted
-accepted-answer (opening setup) s = refl
-accepted-answer (submit client deadline) s = go (hasNoOverfull (s .head) (withNew client deadline s))
+-- ---- what a call answers: one answer
+abbrev pub firstAnswer : List Answer → Answer
+firstAnswer answers = firstOr (Refused 0) answers
+
+pub record OneAnswer (c : Call) (s : State) (answers : List Answer) : Type 0 where
+  pub one : answers ≡ firstAnswer answers ∷ []
+  -- a call that is lent no output draws no chart
+  pub uncharted : meaning c .outputs s ≡ [] → reading (firstAnswer answers) .charted ≡ []
+
+-- what an accepted call comes to: it is not answered with a refusal, and only an open changes the setup
+pub record Accepted (c : Call) (s : State) (o : Outcome) : Type 0 where
+  pub answered : OneAnswer c s (o .answers)
+  pub unrefused : isRefused (o .answers) ≡ false
+  pub same-setup : meaning c .isOpen ≡ false → o .after .head .setup ≡ s .head .setup
+
+-- one that reads as no chart
+accepted-one : (c : Call) (s : State) (a : Answer) (t : State) → reading a .refuses ≡ false → reading a .charted ≡ []
+    → (meaning c .isOpen ≡ false → t .head .setup ≡ s .head .setup) → Accepted c s (saying a t)
+accepted-one c s a t r u h = record { answered = record { one = refl; uncharted = λ e. u }; unrefused = r; same-setup = h }
+
+pub call-accepted : (c : Call) (s : State) → Accepted c s (acceptedOf c s)
+unfolding openAccepted submitAccepted kept droppedAt tickAccepted reportAccepted chartAccepted nextState
+call-accepted (opening setup) s = accepted-one (opening setup) s _ _ refl refl (λ e. absurd (true≢false e))
+call-accepted (submit client deadline) s = go (hasNoOverfull (s .head) (withNew client deadline s))
   where
     go : (x : Bool)
-        → isRefused (cond x (kept client deadline s) (droppedAt (victimPlace client deadline s) client deadline s) .answer) ≡ false
-    go true = refl
-    go false = refl
-accepted-answer tick s = go (waiting s)
+        → Accepted (submit client deadline) s
+        (cond x (kept client deadline s) (droppedAt (victimPlace client deadline s) client deadline s))
+    go true = accepted-one (submit client deadline) s _ _ refl refl (λ e. refl)
+    go false = accepted-one (submit client deadline) s _ _ refl refl (λ e. refl)
+call-accepted tick s = go (waiting s)
   where
-    go : (ws : List Request) → isRefused (tickAccepted ws s .answer) ≡ false
-    go [] = refl
-    go (w ∷ ws) = refl
-accepted-answer (report client) s = refl
-accepted-answer (chart output) s = refl
+    go : (ws : List Request) → Accepted tick s (tickAccepted ws s)
+    go [] = accepted-one tick s _ _ refl refl (λ e. refl)
+    go (w ∷ ws) = accepted-one tick s _ _ refl refl (λ e. refl)
+call-accepted (report client) s = accepted-one (report client) s _ _ refl refl (λ e. refl)
+call-accepted (chart output) s =
+    record {
+      answered = record { one = refl; uncharted = λ e. absurd (some-none e) };
+      unrefused = refl;
+      same-setup = λ e. refl;
+    }
+  where
+    some-none : {x : List ℕ} {xs : List (List ℕ)} → x ∷ xs ≡ [] → ⊥
+    some-none e = omega (arith, ap length e)
+
+pub accepted-answer : (c : Call) (s : State) → isRefused (acceptedOf c s .answers) ≡ false
+accepted-answer c s = call-accepted c s .unrefused
+
+pub call-answers : (c : Call) (s : State) → OneAnswer c s (outcomeOf c s .answers)
+call-answers c s = go (outcome-decided c s)
+  where
+    go : {o : Outcome} → Decided (refusalsOf c s) s (acceptedOf c s) o → OneAnswer c s (o .answers)
+    go (accepts e) = call-accepted c s .answered
+    go (refuses e) = record { one = refl; uncharted = λ e. refl }
+
+pub setup-same : (c : Call) (s : State) → meaning c .isOpen ≡ false → outcomeOf c s .after .head .setup ≡ s .head .setup
+setup-same c s h = go (outcome-decided c s)
+  where
+    go : {o : Outcome} → Decided (refusalsOf c s) s (acceptedOf c s) o → o .after .head .setup ≡ s .head .setup
+    go (accepts e) = call-accepted c s .same-setup h
+    go (refuses e) = refl
 
 -- ---- the first that holds
 pub first-holds : (rs : List Refusal) → firstMatch rs ≢ 0 → FirstHolds rs (firstMatch rs)
@@ -94,20 +129,32 @@ listed (report client) s = omega arith
 listed (chart output) s = omega arith
 
 -- a call that is not refused meets none of its refusals, and comes to what an accepted call does
-pub accepted-none : (c : Call) (s : State) → isRefused (outcomeOf c s .answer) ≡ false → firstMatch (refusalsOf c s) ≡ 0
+pub accepted-none : (c : Call) (s : State) → isRefused (outcomeOf c s .answers) ≡ false → firstMatch (refusalsOf c s) ≡ 0
 accepted-none c s = go (outcome-decided c s)
   where
-    go : {o : Outcome} → Decided (refusalsOf c s) s (acceptedOf c s) o → isRefused (o .answer) ≡ false
+    go : {o : Outcome} → Decided (refusalsOf c s) s (acceptedOf c s) o → isRefused (o .answers) ≡ false
         → firstMatch (refusalsOf c s) ≡ 0
     go (accepts e) p = e
     go (refuses e) p = absurd (true≢false p)
 
-pub accepted-same : (c : Call) (s : State) → isRefused (outcomeOf c s .answer) ≡ false → outcomeOf c s ≡ acceptedOf c s
+pub none-accepted : (c : Call) (s : State) → firstMatch (refusalsOf c s) ≡ 0 → outcomeOf c s ≡ acceptedOf c s
+unfolding outcomeOf
+none-accepted c s e = rw e
+
+pub accepted-same : (c : Call) (s : State) → isRefused (outcomeOf c s .answers) ≡ false → outcomeOf c s ≡ acceptedOf c s
 accepted-same c s = go (outcome-decided c s)
   where
-    go : {o : Outcome} → Decided (refusalsOf c s) s (acceptedOf c s) o → isRefused (o .answer) ≡ false → o ≡ acceptedOf c s
+    go : {o : Outcome} → Decided (refusalsOf c s) s (acceptedOf c s) o → isRefused (o .answers) ≡ false → o ≡ acceptedOf c s
     go (accepts e) p = refl
     go (refuses e) p = absurd (true≢false p)
+
+-- what a refused call leaves of the state is what it was given
+pub left-same : (c : Call) (s : State) → cond (isRefused (outcomeOf c s .answers)) s (outcomeOf c s .after) ≡ outcomeOf c s .after
+left-same c s = go (outcome-decided c s)
+  where
+    go : {o : Outcome} → Decided (refusalsOf c s) s (acceptedOf c s) o → cond (isRefused (o .answers)) s (o .after) ≡ o .after
+    go (accepts e) = rw (accepted-answer c s)
+    go (refuses e) = refl
 
 -- ---- the output of chart
 -- "one start slot a waiting record"
@@ -131,3 +178,20 @@ output-written output s = go (eqb (firstMatch (chartRefusals output s)) 0) (same
         → Written output s (cond x (startsOf (s .head .setup) (waiting s) ++ drop (length (startsOf (s .head .setup) (waiting s))) output) output)
     go true (same-yes e) = written e
     go false (same-no e) = untouched e
+
+pub output-length : (output : List ℕ) (s : State) → length (chartOutput output s) ≡ length output
+output-length output s = go (output-written output s)
+  where
+    go : {l : List ℕ} → Written output s l → length l ≡ length output
+    go (untouched f) = refl
+    go (written e) =
+        let starts = startsOf (s .head .setup) (waiting s) in
+        let r = chart-ready output s e in
+        omega (
+          arith,
+          length-append starts (drop (length starts) output),
+          length-drop (length starts) output,
+          length-starts (s .head .setup) (waiting s),
+          waiting-length s (r .ready .shape),
+          r .long,
+        )

@@ -16,12 +16,12 @@ use Rattle.spec.specs.declared.types.Head.{Head}
 use Rattle.spec.specs.declared.types.Request.{Request}
 use Rattle.spec.specs.declared.types.Counts.{Counts}
 use Rattle.spec.specs.Every.{toNumber}
-use Rattle.spec.specs.Tables.{State, waiting, zeroRequest, zeroCounts, clientTable}
+use Rattle.spec.specs.Tables.{State, waiting, zeroRequest, zeroCounts, clientTable, change, oneMoreSubmitted}
 use Rattle.spec.specs.Order.{placeOf}
+use Rattle.spec.specs.Chart.{isCandidate, keepIf, candidatesFrom, candidates, hasSmallerRatio, countsAt, smallestOf}
+use Rattle.spec.specs.Chart.{victimOf}
 use Rattle.spec.specs.Sound.{waitingOf}
-use Rattle.spec.specs.Victim.{isCandidate, keepIf, candidatesFrom, candidates, hasSmallerRatio, countsAt, smallestOf}
-use Rattle.spec.specs.Victim.{victimOf}
-use Rattle.spec.specs.Calls.{change, oneMoreSubmitted, newRequest, countedIn, withNew, victimPlace}
+use Rattle.spec.specs.Calls.Submit.{newRequest, countedIn, withNew, victimPlace}
 use Rattle.spec.proofs.Demands.Words.{Ascending}
 use Rattle.spec.proofs.Laws.Clients.{waiting-self}
 use Rattle.spec.proofs.Laws.Every.{all-at}

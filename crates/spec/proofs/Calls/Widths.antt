@@ -11,31 +11,35 @@ use Rattle.spec.specs.declared.types.Setup.{Setup}
 use Rattle.spec.specs.declared.types.Request.{Request}
 use Rattle.spec.specs.declared.types.Answer.{Answer}
 use Rattle.spec.specs.Tables.{mostAhead, zeroRequest, State, waiting}
+use Rattle.spec.specs.Setup.{firstMatch}
 use Rattle.spec.specs.Chart.{startsOf, Segment, doTouch, joinLeft, segmentsOf, hasNoOverfull}
 use Rattle.spec.specs.Sound.{waitingOf}
-use Rattle.spec.specs.Setup.{firstMatch}
-use Rattle.spec.specs.Calls.{Outcome, openAccepted, newRequest, withNew, kept, droppedAt, victimPlace, submitAccepted}
-use Rattle.spec.specs.Calls.{tickAccepted, reportAccepted, chartAccepted}
-use Rattle.spec.specs.Lists.{Call, opening, submit, tick, report, chart, outcomeOf}
-use Rattle.spec.specs.Frames.{field, valuesOf}
-use Rattle.spec.proofs.Demands.Words.{refusalsOf, Finish, FitsField}
+use Rattle.spec.specs.Calls.Readings.{field, valuesOf}
+use Rattle.spec.specs.Calls.Outcome.{Outcome}
+use Rattle.spec.specs.Calls.Open.{openAccepted}
+use Rattle.spec.specs.Calls.Submit.{newRequest, withNew, kept, droppedAt, victimPlace, submitAccepted}
+use Rattle.spec.specs.Calls.Tick.{tickAccepted}
+use Rattle.spec.specs.Calls.Report.{reportAccepted}
+use Rattle.spec.specs.Calls.Chart.{chartAccepted}
+use Rattle.spec.specs.Calls.Call.{Call, opening, submit, tick, report, chart, outcomeOf, acceptedOf, refusalsOf}
+use Rattle.spec.proofs.Demands.Words.{Finish, FitsField}
 use Rattle.spec.proofs.Laws.Every.{all-at, count-most}
 use Rattle.spec.proofs.Laws.Order.{place-most}
 use Rattle.spec.proofs.Laws.Sound.{Ahead}
 use Rattle.spec.proofs.Laws.Accepted.{Decided, accepts, refuses, Ready, SubmitReady, submit-ready, tick-ready}
 use Rattle.spec.proofs.Laws.Accepted.{report-ready, chart-ready, waiting-length}
-use Rattle.spec.proofs.Calls.Refused.{length-starts, acceptedOf, outcome-decided, first-holds, first-listed, listed}
+use Rattle.spec.proofs.Calls.Refused.{length-starts, outcome-decided, first-holds, first-listed, listed}
 use Rattle.spec.proofs.Calls.Victim.{victim-place}
 use Rattle.spec.proofs.Calls.Latest.{ready-chart, segments-all}
 use Rattle.spec.proofs.Calls.Keeps.{tidy-put}
 
-abbrev Fit : Answer → Type 0
-Fit a = All FitsField (valuesOf a)
+abbrev Fit : List Answer → Type 0
+Fit answers = All (λ (a : Answer). All FitsField (valuesOf a)) answers
 
 -- ---- submit
 module _ (client deadline : ℕ) (s : State) (r : SubmitReady client deadline s) where
-  kept-fits : Fit (kept client deadline s .answer)
-  unfolding kept valuesOf
+  kept-fits : Fit (kept client deadline s .answers)
+  unfolding kept
   kept-fits =
       omega (
         arith,
@@ -47,8 +51,8 @@ module _ (client deadline : ℕ) (s : State) (r : SubmitReady client deadline s)
         r .ready .shape .most-records,
       )
 
-  dropped-fits : (k : ℕ) → k < length (withNew client deadline s) → Fit (droppedAt k client deadline s .answer)
-  unfolding droppedAt valuesOf
+  dropped-fits : (k : ℕ) → k < length (withNew client deadline s) → Fit (droppedAt k client deadline s .answers)
+  unfolding droppedAt
   dropped-fits k h =
       let t = tidy-put client deadline s r in
       omega (
@@ -61,32 +65,32 @@ module _ (client deadline : ℕ) (s : State) (r : SubmitReady client deadline s)
         all-at (λ (w : Request). w .client < s .head .setup .clients) (withNew client deadline s) k zeroRequest h (t .owned),
       )
 
-  submit-fits : Fit (submitAccepted client deadline s .answer)
+  submit-fits : Fit (submitAccepted client deadline s .answers)
   unfolding submitAccepted
   submit-fits =
       go (hasNoOverfull (s .head) (withNew client deadline s)) kept-fits
       (dropped-fits (victimPlace client deadline s) (victim-place client deadline s r .0))
     where
-      go : (x : Bool) → Fit (kept client deadline s .answer)
-          → Fit (droppedAt (victimPlace client deadline s) client deadline s .answer)
-          → Fit (cond x (kept client deadline s) (droppedAt (victimPlace client deadline s) client deadline s) .answer)
+      go : (x : Bool) → Fit (kept client deadline s .answers)
+          → Fit (droppedAt (victimPlace client deadline s) client deadline s .answers)
+          → Fit (cond x (kept client deadline s) (droppedAt (victimPlace client deadline s) client deadline s) .answers)
       go true a b = a
       go false a b = b
 
 -- ---- tick
-tick-fits : (s : State) → Ready s → Fit (tickAccepted (waiting s) s .answer)
-unfolding tickAccepted valuesOf
+tick-fits : (s : State) → Ready s → Fit (tickAccepted (waiting s) s .answers)
+unfolding tickAccepted
 tick-fits s r = go (waiting s) (r .sound .given) (r .sound .owned)
   where
     go : (ws : List Request) → All (λ (w : Request). (1 ≤ w .number) × (w .number ≤ s .head .last)) ws
-        → All (λ (w : Request). w .client < s .head .setup .clients) ws → Fit (tickAccepted ws s .answer)
+        → All (λ (w : Request). w .client < s .head .setup .clients) ws → Fit (tickAccepted ws s .answers)
     go [] g o = omega (arith, r .sound .headed .clock)
     go (w ∷ ws) g o =
         omega (arith, r .sound .headed .clock, r .sound .headed .last, r .sound .headed .setup .most-clients, g .0, o .0)
 
 -- ---- report
-report-fits : (client : ℕ) (s : State) → Ready s → client < s .head .setup .clients → Fit (reportAccepted client s .answer)
-unfolding reportAccepted valuesOf
+report-fits : (client : ℕ) (s : State) → Ready s → client < s .head .setup .clients → Fit (reportAccepted client s .answers)
+unfolding reportAccepted
 report-fits client s r h =
     omega (
       arith,
@@ -102,9 +106,9 @@ report-fits client s r h =
     waits-most = unfold waitingOf in count-most (λ w. eqb (w .client) client) (waiting s)
 
 -- ---- every call, refused ones too
-accepted-fits : (c : Call) (s : State) → firstMatch (refusalsOf c s) ≡ 0 → Fit (acceptedOf c s .answer)
-unfolding openAccepted chartAccepted valuesOf
-accepted-fits (opening setup) s e = tt
+accepted-fits : (c : Call) (s : State) → firstMatch (refusalsOf c s) ≡ 0 → Fit (acceptedOf c s .answers)
+unfolding openAccepted chartAccepted
+accepted-fits (opening setup) s e = (tt, tt)
 accepted-fits (submit client deadline) s e = submit-fits client deadline s (submit-ready client deadline s e)
 accepted-fits tick s e = tick-fits s (tick-ready s e .ready)
 accepted-fits (report client) s e =
@@ -112,11 +116,10 @@ accepted-fits (report client) s e =
 accepted-fits (chart output) s e =
     let r = chart-ready output s e .ready in omega (arith, r .shape .waits, r .shape .most-records)
 
-pub call-fits : (c : Call) (s : State) → Fit (outcomeOf c s .answer)
-unfolding valuesOf
+pub call-fits : (c : Call) (s : State) → Fit (outcomeOf c s .answers)
 call-fits c s = go (outcome-decided c s)
   where
-    go : {o : Outcome} → Decided (refusalsOf c s) s (acceptedOf c s) o → Fit (o .answer)
+    go : {o : Outcome} → Decided (refusalsOf c s) s (acceptedOf c s) o → Fit (o .answers)
     go (accepts e) = accepted-fits c s e
     go (refuses n) = omega (arith, first-listed (first-holds (refusalsOf c s) n) (listed c s))
 
@@ -139,7 +142,7 @@ join-length setup s (g ∷ gs) = go (doTouch setup (suc s) (g .left))
     go true = omega arith
     go false = omega arith
 
-segments-length : (setup : Setup) (starts : List ℕ) → length (segmentsOf setup starts) ≤ length starts
+pub segments-length : (setup : Setup) (starts : List ℕ) → length (segmentsOf setup starts) ≤ length starts
 unfolding segmentsOf
 segments-length setup [] = omega arith
 segments-length setup (s ∷ starts) = omega (arith, join-length setup s (segmentsOf setup starts), segments-length setup starts)

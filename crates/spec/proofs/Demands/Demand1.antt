@@ -5,7 +5,7 @@ use Prim.Native.Nat.{ℕ, _*_, _/_, _%_, _≤_, _<_}
 use mathlib.Core.Path.{_≡_, refl, sym, ap, _∙_}
 use mathlib.Core.Logic.{_↔_}
 use mathlib.Core.Bool.{true, false, true≢false}
-use mathlib.Core.List.{List, _++_}
+use mathlib.Core.List.{List, [], _∷_, _++_}
 use native.Mathlib.Omega.{arith}
 use native.Mathlib.Nat.{div-add-mod', mul-mod-left}
 use borrow.Author.Tests.{eqb-true, eq-eqb}
@@ -14,22 +14,26 @@ use lib.Seq.{take-append-seam, drop-append-seam}
 use Rattle.slots.specs.Plan.{CanAllFinish}
 use Rattle.slots.proofs.Laws.Sums.{All}
 use Rattle.spec.specs.declared.types.Setup.{Setup}
+use Rattle.spec.specs.declared.types.Answer.{Answer}
 use Rattle.spec.specs.declared.types.Answer.the-variants.{Charted, Refused}
 use Rattle.spec.specs.Every.{exists}
 use Rattle.spec.specs.Tables.{zeroCounts, State, waiting, deadlinesOf, clientTable}
+use Rattle.spec.specs.Setup.{firstMatch}
 use Rattle.spec.specs.Chart.{Segment, capacityOf, startsOf, segmentsOf}
 use Rattle.spec.specs.Sound.{isSound}
-use Rattle.spec.specs.Setup.{firstMatch}
-use Rattle.spec.specs.Refusals.{refusal4, chartRefusals}
-use Rattle.spec.specs.Calls.{Outcome, openOf, isPeriodStart, reportOf, reportAnswer, chartAccepted, chartOf, chartOutput}
-use Rattle.spec.specs.Frames.{field, valuesOf}
-use Rattle.spec.specs.Lists.{Call, chart, outcomeOf, run, Event, history, isRefused, WithRefused, isOpened, waitingBy}
-use Rattle.spec.specs.Lists.{countsSince}
-use Rattle.spec.proofs.Demands.Words.{FitsField, refusalsOf, FirstHolds, Ascending, Pairs, Finish, ChartFits}
+use Rattle.spec.specs.Calls.Readings.{field, valuesOf, isRefused}
+use Rattle.spec.specs.Calls.Refusals.{refusal4}
+use Rattle.spec.specs.Calls.Outcome.{Outcome}
+use Rattle.spec.specs.Calls.Tick.{isPeriodStart}
+use Rattle.spec.specs.Calls.Report.{reportAnswer}
+use Rattle.spec.specs.Calls.Chart.{chartRefusals, chartAccepted, chartOutput}
+use Rattle.spec.specs.Calls.Call.{Call, chart, outcomeOf, opening, report, acceptedOf, refusalsOf}
+use Rattle.spec.specs.Lists.{run, Event, history, WithRefused, isOpened, waitingBy, countsSince}
+use Rattle.spec.proofs.Demands.Words.{FitsField, FirstHolds, Ascending, Pairs, Finish, ChartFits}
 use Rattle.spec.proofs.Demands.Words.{LongestRuns}
 use Rattle.spec.proofs.Laws.Sound.{sound-test}
 use Rattle.spec.proofs.Laws.Accepted.{Decided, accepts, refuses, decided, ChartReady, chart-ready, waiting-length}
-use Rattle.spec.proofs.Calls.Refused.{accepted-same, acceptedOf, outcome-decided, accepted-answer, accepted-none}
+use Rattle.spec.proofs.Calls.Refused.{accepted-same, outcome-decided, accepted-answer, accepted-none}
 use Rattle.spec.proofs.Calls.Refused.{first-holds, first-match, first-listed, listed, length-starts, Written, untouched}
 use Rattle.spec.proofs.Calls.Refused.{written, output-written}
 use Rattle.spec.proofs.Calls.Keeps.{same-lengths, keeps, shaped-test}
@@ -41,42 +45,42 @@ use Rattle.spec.proofs.Lists.Passing.{WithPassing, refused-pass, none-o
 
 -- ---- refused calls
 -- "Each is given whenever its condition holds and no earlier one does, and only then."
-pub refused-exactly : (c : Call) (s : State) (n : ℕ) → (outcomeOf c s .answer ≡ Refused n) ↔ FirstHolds (refusalsOf c s) n
+pub refused-exactly : (c : Call) (s : State) (n : ℕ) → (outcomeOf c s .answers ≡ Refused n ∷ []) ↔ FirstHolds (refusalsOf c s) n
 refused-exactly c s n = (to (outcome-decided c s), (λ f. from f (outcome-decided c s)))
   where
-    to : {o : Outcome} → Decided (refusalsOf c s) s (acceptedOf c s) o → o .answer ≡ Refused n → FirstHolds (refusalsOf c s) n
+    to : {o : Outcome} → Decided (refusalsOf c s) s (acceptedOf c s) o → o .answers ≡ Refused n ∷ [] → FirstHolds (refusalsOf c s) n
     to (accepts e) p = absurd (true≢false (sym (ap isRefused p) ∙ accepted-answer c s))
     to (refuses e) p =
         let q : firstMatch (refusalsOf c s) ≡ n = cc in
         rw q at (first-holds (refusalsOf c s) e)
 
-    from : {o : Outcome} → FirstHolds (refusalsOf c s) n → Decided (refusalsOf c s) s (acceptedOf c s) o → o .answer ≡ Refused n
+    from : {o : Outcome} → FirstHolds (refusalsOf c s) n → Decided (refusalsOf c s) s (acceptedOf c s) o → o .answers ≡ Refused n ∷ []
     from f (accepts e) = absurd (omega (arith, first-listed f (listed c s), first-match f, e))
-    from f (refuses e) = ap Refused (first-match f)
+    from f (refuses e) = ap (λ (k : ℕ). Refused k ∷ []) (first-match f)
 
 -- "head, tables and output stay unchanged.": head and tables
-pub refused-same : (c : Call) (s : State) → isRefused (outcomeOf c s .answer) ≡ true → outcomeOf c s .after ≡ s
+pub refused-same : (c : Call) (s : State) → isRefused (outcomeOf c s .answers) ≡ true → outcomeOf c s .after ≡ s
 refused-same c s = go (outcome-decided c s)
   where
-    go : {o : Outcome} → Decided (refusalsOf c s) s (acceptedOf c s) o → isRefused (o .answer) ≡ true → o .after ≡ s
+    go : {o : Outcome} → Decided (refusalsOf c s) s (acceptedOf c s) o → isRefused (o .answers) ≡ true → o .after ≡ s
     go (accepts e) p = absurd (true≢false (sym p ∙ accepted-answer c s))
     go (refuses e) p = refl
 
 -- "head, tables and output stay unchanged.": the output
-pub chart-refused-same : (output : List ℕ) (s : State) → isRefused (chartOf output s .answer) ≡ true
+pub chart-refused-same : (output : List ℕ) (s : State) → isRefused (outcomeOf (chart output) s .answers) ≡ true
     → chartOutput output s ≡ output
-unfolding chartOf
+unfolding outcomeOf
 chart-refused-same output s = go (decided (chartRefusals output s) s (chartAccepted s)) (output-written output s)
   where
     go : {o : Outcome} {l : List ℕ} → Decided (chartRefusals output s) s (chartAccepted s) o → Written output s l
-        → isRefused (o .answer) ≡ true → l ≡ output
+        → isRefused (o .answers) ≡ true → l ≡ output
     go (accepts e) w p = absurd (true≢false (sym p ∙ accepted-answer (chart output) s))
     go (refuses e) (untouched f) p = refl
     go (refuses e) (written f) p = absurd (e f)
 
 -- ---- accepted calls
 -- "Every accepted call leaves sound tables." They keep their right lengths too: refusals 4 and 5 do not hold of them
-pub leaves-sound : (c : Call) (s : State) → isRefused (outcomeOf c s .answer) ≡ false
+pub leaves-sound : (c : Call) (s : State) → isRefused (outcomeOf c s .answers) ≡ false
     → (isSound (outcomeOf c s .after) ≡ true) × (refusal4 (outcomeOf c s .after) .holds ≡ false)
 leaves-sound c s h =
     let r = keeps c s h in
@@ -94,18 +98,18 @@ pub record CountsGiven (period : ℕ) (es : List Event) (s : State) : Type 0 whe
   -- each client's counts are what the calls and answers since the last period start say
   pub counts : (c : ℕ) → c < s .head .setup .clients → getD (clientTable s) c zeroCounts ≡ countsSince period c es
   -- "Report gives a client's three counts and its waiting count."
-  pub reports : (c : ℕ) → isRefused (reportOf c s .answer) ≡ false
-      → reportOf c s .answer ≡ reportAnswer c (countsSince period c es) (waitingBy c es)
+  pub reports : (c : ℕ) → isRefused (outcomeOf (report c) s .answers) ≡ false
+      → outcomeOf (report c) s .answers ≡ reportAnswer c (countsSince period c es) (waitingBy c es) ∷ []
 
 -- of a list whose calls are all lent the queue's tables
-counts-calls : (setup : Setup) (s : State) (cs : List Call) → isRefused (openOf setup s .answer) ≡ false
-    → exists isOpened (history (openOf setup s .after) cs) ≡ false
-    → CountsGiven (setup .period) (history (openOf setup s .after) cs) (run (openOf setup s .after) cs)
+counts-calls : (setup : Setup) (s : State) (cs : List Call) → isRefused (outcomeOf (opening setup) s .answers) ≡ false
+    → exists isOpened (history (outcomeOf (opening setup) s .after) cs) ≡ false
+    → CountsGiven (setup .period) (history (outcomeOf (opening setup) s .after) cs) (run (outcomeOf (opening setup) s .after) cs)
 counts-calls setup s cs a h =
     let C = counted setup s cs a h in
     let T = traced setup s cs a h in
-    let es = history (openOf setup s .after) cs in
-    let t = run (openOf setup s .after) cs in
+    let es = history (outcomeOf (opening setup) s .after) cs in
+    let t = run (outcomeOf (opening setup) s .after) cs in
     record {
       counts = λ c l. C .counts-are c (omega (arith, T .ready .shape .clients));
       reports = λ c e. reported-counts (setup .period) c es t T C e;
@@ -122,19 +126,19 @@ counts-same period s w C =
 
 -- a step for `Sessions`, and no statement of the demand
 pub counts-passing : (setup : Setup) (s : State) (cs : List Call) (es : List Event)
-    → isRefused (openOf setup s .answer) ≡ false
-    → WithPassing (history (openOf setup s .after) cs) es
+    → isRefused (outcomeOf (opening setup) s .answers) ≡ false
+    → WithPassing (history (outcomeOf (opening setup) s .after) cs) es
     → exists isOpened es ≡ false
-    → CountsGiven (setup .period) es (run (openOf setup s .after) cs)
+    → CountsGiven (setup .period) es (run (outcomeOf (opening setup) s .after) cs)
 counts-passing setup s cs es a w h =
-    counts-same (setup .period) (run (openOf setup s .after) cs) w (counts-calls setup s cs a (none-opened w h))
+    counts-same (setup .period) (run (outcomeOf (opening setup) s .after) cs) w (counts-calls setup s cs a (none-opened w h))
 
 -- the list is one of demand 3: from an accepted open on, with no other accepted open in it, and with refused calls of every kind
 pub counts-given : (setup : Setup) (s : State) (cs : List Call) (es : List Event)
-    → isRefused (openOf setup s .answer) ≡ false
-    → WithRefused (history (openOf setup s .after) cs) es
+    → isRefused (outcomeOf (opening setup) s .answers) ≡ false
+    → WithRefused (history (outcomeOf (opening setup) s .after) cs) es
     → exists isOpened es ≡ false
-    → CountsGiven (setup .period) es (run (openOf setup s .after) cs)
+    → CountsGiven (setup .period) es (run (outcomeOf (opening setup) s .after) cs)
 counts-given setup s cs es a w h = counts-passing setup s cs es a (refused-pass w) h
 
 -- "If it is now a multiple of the period": where a period starts, which the call and the counts since the last start ask alike. It is
@@ -156,14 +160,14 @@ period-starts period clock = (multiple, starts)
 -- "Chart writes one start slot a waiting record, in chart order, into a lent output table and answers their count; entries beyond are
 -- untouched.": l is the output after the call
 pub record Charts (output : List ℕ) (s : State) (l : List ℕ) : Type 0 where
-  pub answer : chartOf output s .answer ≡ Charted (length (startsOf (s .head .setup) (waiting s)))
+  pub answer : outcomeOf (chart output) s .answers ≡ Charted (length (startsOf (s .head .setup) (waiting s))) ∷ []
   pub one-each : length (startsOf (s .head .setup) (waiting s)) ≡ length (waiting s)
   pub same-length : length l ≡ length output
   pub starts : take (length (startsOf (s .head .setup) (waiting s))) l ≡ startsOf (s .head .setup) (waiting s)
   pub beyond : drop (length (startsOf (s .head .setup) (waiting s))) l ≡ drop (length (startsOf (s .head .setup) (waiting s))) output
 
 -- an output whose front is the start slots, and the rest as it was, is such a one
-written-charts : (output : List ℕ) (s : State) → chartOf output s .answer ≡ Charted (length (startsOf (s .head .setup) (waiting s)))
+written-charts : (output : List ℕ) (s : State) → outcomeOf (chart output) s .answers ≡ Charted (length (startsOf (s .head .setup) (waiting s))) ∷ []
     → length (startsOf (s .head .setup) (waiting s)) ≤ length output
     → Charts output s (startsOf (s .head .setup) (waiting s) ++ drop (length (startsOf (s .head .setup) (waiting s))) output)
 written-charts output s a h =
@@ -177,7 +181,7 @@ written-charts output s a h =
       beyond = drop-append-seam starts rest;
     }
 
-pub chart-written : (output : List ℕ) (s : State) → isRefused (chartOf output s .answer) ≡ false
+pub chart-written : (output : List ℕ) (s : State) → isRefused (outcomeOf (chart output) s .answers) ≡ false
     → Charts output s (chartOutput output s)
 unfolding outcomeOf chartAccepted
 chart-written output s p = go (output-written output s)
@@ -191,8 +195,8 @@ chart-written output s p = go (output-written output s)
     count : length (startsOf (s .head .setup) (waiting s)) ≡ s .head .waiting
     count = length-starts (s .head .setup) (waiting s) ∙ waiting-length s (r .ready .shape)
 
-    answer : chartOf output s .answer ≡ Charted (length (startsOf (s .head .setup) (waiting s)))
-    answer = ap (λ (o : Outcome). o .answer) (accepted-same (chart output) s p) ∙ ap Charted (sym count)
+    answer : outcomeOf (chart output) s .answers ≡ Charted (length (startsOf (s .head .setup) (waiting s))) ∷ []
+    answer = ap (λ (o : Outcome). o .answers) (accepted-same (chart output) s p) ∙ ap (λ (n : ℕ). Charted n ∷ []) (sym count)
 
     go : {l : List ℕ} → Written output s l → Charts output s l
     go (untouched f) = absurd (f none)
@@ -212,7 +216,7 @@ pub record Latest (s : State) : Type 0 where
   -- "Segments are the longest runs of touching intervals": these are the runs of the start slots, and no other list is
   pub segments : (gs : List Segment) → LongestRuns (startsOf (s .head .setup) (waiting s)) gs ↔ (gs ≡ segmentsOf (s .head .setup) (startsOf (s .head .setup) (waiting s)))
 
-pub chart-latest : (output : List ℕ) (s : State) → isRefused (chartOf output s .answer) ≡ false → Latest s
+pub chart-latest : (output : List ℕ) (s : State) → isRefused (outcomeOf (chart output) s .answers) ≡ false → Latest s
 unfolding outcomeOf
 chart-latest output s e =
     let r = chart-ready output s (accepted-none (chart output) s e) .ready in
@@ -227,11 +231,11 @@ chart-latest output s e =
 
 -- ---- lines
 -- "Numbers are big-endian; widths in bytes in brackets.": no value is too large for its field, so that no answer is cut
-pub values-fit : (c : Call) (s : State) → All FitsField (valuesOf (outcomeOf c s .answer))
+pub values-fit : (c : Call) (s : State) → All (λ (a : Answer). All FitsField (valuesOf a)) (outcomeOf c s .answers)
 values-fit c s = call-fits c s
 
 -- nor any segment's ends, nor their count
-pub segments-fit : (output : List ℕ) (s : State) → isRefused (chartOf output s .answer) ≡ false
+pub segments-fit : (output : List ℕ) (s : State) → isRefused (outcomeOf (chart output) s .answers) ≡ false
     → All (λ (g : Segment). FitsField (field 8 (g .left)) × FitsField (field 8 (g .right))) (segmentsOf (s .head .setup) (startsOf (s .head .setup) (waiting s)))
     × FitsField (field 2 (length (segmentsOf (s .head .setup) (startsOf (s .head .setup) (waiting s)))))
 unfolding outcomeOf

@@ -15,11 +15,13 @@ use Rattle.spec.specs.declared.types.Counts.{Counts}
 use Rattle.spec.specs.declared.types.Answer.the-variants.{Kept, Dropped, Served, Idle}
 use Rattle.spec.specs.Tables.{zeroRequest, State, waiting}
 use Rattle.spec.specs.Order.{isInOrder, placeOf, removeAt}
-use Rattle.spec.specs.Chart.{isOverfull, Search, nothing, found, firstOverfull}
-use Rattle.spec.specs.Victim.{hasSmallerRatio, countsAt}
-use Rattle.spec.specs.Calls.{Outcome, kept, droppedAt, requestAt, newRequest, countedIn, withNew, victimPlace}
-use Rattle.spec.specs.Calls.{submitAccepted, submitOf, tickAccepted, tickOf}
-use Rattle.spec.specs.Lists.{submit, tick, outcomeOf, isRefused}
+use Rattle.spec.specs.Chart.{isOverfull, Search, nothing, found, firstOverfull, hasSmallerRatio, countsAt}
+use Rattle.spec.specs.Calls.Readings.{isRefused}
+use Rattle.spec.specs.Calls.Outcome.{Outcome}
+use Rattle.spec.specs.Calls.Submit.{kept, droppedAt, requestAt, newRequest, countedIn, withNew, victimPlace}
+use Rattle.spec.specs.Calls.Submit.{submitAccepted}
+use Rattle.spec.specs.Calls.Tick.{tickAccepted}
+use Rattle.spec.specs.Calls.Call.{submit, tick, outcomeOf}
 use Rattle.spec.proofs.Demands.Words.{CanFinish}
 use Rattle.spec.proofs.Laws.Order.{getD-put, remove-put, order-test, InOrder, first-earliest}
 use Rattle.spec.proofs.Laws.Feasible.{overfull-test, roomy-test, Verdict, fine, over, verdict}
@@ -45,15 +47,15 @@ countsOf j client deadline s = countsAt (countedIn client s) (withNew client dea
 
 -- kept: all wait, and the answer names the new number and its place
 pub record Keeps (client deadline : ℕ) (s : State) (o : Outcome) : Type 0 where
-  pub answer : o .answer ≡ Kept (suc (s .head .last)) (placeOf (newRequest client deadline s) (waiting s))
+  pub answer : o .answers ≡ Kept (suc (s .head .last)) (placeOf (newRequest client deadline s) (waiting s)) ∷ []
   pub waits : waiting (o .after) ≡ withNew client deadline s
   pub whole : o ≡ kept client deadline s
 
 -- dropped: all but the one at k wait, and the answer names it
 pub record Drops (k client deadline : ℕ) (s : State) (o : Outcome) : Type 0 where
   pub answer :
-      o .answer
-      ≡ Dropped (suc (s .head .last)) (requestAt k client deadline s .number) (requestAt k client deadline s .client)
+      o .answers
+      ≡ Dropped (suc (s .head .last)) (requestAt k client deadline s .number) (requestAt k client deadline s .client) ∷ []
   pub waits : waiting (o .after) ≡ removeAt k (withNew client deadline s)
   pub whole : o ≡ droppedAt k client deadline s
 
@@ -63,11 +65,11 @@ pub record FairSubmit (client deadline : ℕ) (s : State) : Type 0 where
   pub others : removeAt (placeOf (newRequest client deadline s) (waiting s)) (withNew client deadline s) ≡ waiting s
   pub ordered : isInOrder (withNew client deadline s) ≡ true
   -- "If every request can still finish, the answer is kept, with number and place (from 0)."
-  pub keeps : AllFinish client deadline s → Keeps client deadline s (submitOf client deadline s)
+  pub keeps : AllFinish client deadline s → Keeps client deadline s (outcomeOf (submit client deadline) s)
   -- "Otherwise one record is taken out, its client's dropped rises by 1, and the answer names the new number, the victim's number
   -- and the victim's client."
   pub drops : (AllFinish client deadline s → ⊥)
-      → Drops (victimPlace client deadline s) client deadline s (submitOf client deadline s)
+      → Drops (victimPlace client deadline s) client deadline s (outcomeOf (submit client deadline) s)
   -- it is one of the waiting requests or the new one
   pub place : victimPlace client deadline s < length (withNew client deadline s)
   -- and the others can finish
@@ -82,8 +84,8 @@ pub record FairSubmit (client deadline : ℕ) (s : State) : Type 0 where
       → hasSmallerRatio (countsOf (victimPlace client deadline s) client deadline s) (countsOf j client deadline s) ≡ false
       → j ≤ victimPlace client deadline s
 
-accepted-submit : (client deadline : ℕ) (s : State) → isRefused (submitOf client deadline s .answer) ≡ false
-    → SubmitReady client deadline s × (submitOf client deadline s ≡ submitAccepted client deadline s)
+accepted-submit : (client deadline : ℕ) (s : State) → isRefused (outcomeOf (submit client deadline) s .answers) ≡ false
+    → SubmitReady client deadline s × (outcomeOf (submit client deadline) s ≡ submitAccepted client deadline s)
 unfolding outcomeOf
 accepted-submit client deadline s e = (
   submit-ready client deadline s (accepted-none (submit client deadline) s e),
@@ -94,7 +96,7 @@ keeps-of : (client deadline : ℕ) (s : State) (o : Outcome) → o ≡ kept clie
 unfolding kept
 keeps-of client deadline s o e =
     record {
-      answer = ap (λ (r : Outcome). r .answer) e;
+      answer = ap (λ (r : Outcome). r .answers) e;
       waits = ap (λ (r : Outcome). waiting (r .after)) e ∙ kept-waiting client deadline s;
       whole = e;
     }
@@ -103,12 +105,12 @@ drops-of : (k client deadline : ℕ) (s : State) (o : Outcome) → o ≡ dropped
 unfolding droppedAt
 drops-of k client deadline s o e =
     record {
-      answer = ap (λ (r : Outcome). r .answer) e;
+      answer = ap (λ (r : Outcome). r .answers) e;
       waits = ap (λ (r : Outcome). waiting (r .after)) e ∙ dropped-waiting k client deadline s;
       whole = e;
     }
 
-pub fair-submit : (client deadline : ℕ) (s : State) → isRefused (submitOf client deadline s .answer) ≡ false
+pub fair-submit : (client deadline : ℕ) (s : State) → isRefused (outcomeOf (submit client deadline) s .answers) ≡ false
     → FairSubmit client deadline s
 fair-submit client deadline s e =
     let p = accepted-submit client deadline s e in
@@ -119,9 +121,9 @@ fair-submit client deadline s e =
       placed = getD-put new zeroRequest (waiting s);
       others = remove-put new (waiting s);
       ordered = order-test (withNew client deadline s) (new-ordered client deadline s r);
-      keeps = λ f. keeps-of client deadline s (submitOf client deadline s) (p .1 ∙ finish-kept client deadline s r f);
+      keeps = λ f. keeps-of client deadline s (outcomeOf (submit client deadline) s) (p .1 ∙ finish-kept client deadline s r f);
       drops =
-          λ f. drops-of (victimPlace client deadline s) client deadline s (submitOf client deadline s)
+          λ f. drops-of (victimPlace client deadline s) client deadline s (outcomeOf (submit client deadline) s)
           (p .1 ∙ unfinished-dropped client deadline s r f);
       place = victim-place client deadline s r .0;
       helps = victim-helps client deadline s r;
@@ -146,7 +148,7 @@ abbrev pub Searched : ℕ → ℕ → State → Search → Type 0
 Searched client deadline s nothing = AllFinish client deadline s
 Searched client deadline s (found D) = (AllFinish client deadline s → ⊥) × Candidates client deadline D s
 
-pub searched : (client deadline : ℕ) (s : State) → isRefused (submitOf client deadline s .answer) ≡ false
+pub searched : (client deadline : ℕ) (s : State) → isRefused (outcomeOf (submit client deadline) s .answers) ≡ false
     → Searched client deadline s (firstOverfull (s .head) (withNew client deadline s))
 searched client deadline s e = go (verdict (s .head) (withNew client deadline s) (new-ordered client deadline s r))
   where
@@ -168,20 +170,20 @@ searched client deadline s e = go (verdict (s .head) (withNew client deadline s)
 -- "Tick serves the first waiting record in the slot that starts at the clock, takes it out, ..; with none waiting it answers idle.":
 -- the one served has the earliest deadline of all that wait
 abbrev pub Serves : State → List Request → Type 0
-Serves s [] = tickOf s .answer ≡ Idle (s .head .clock)
+Serves s [] = outcomeOf tick s .answers ≡ Idle (s .head .clock) ∷ []
 Serves s (w ∷ ws) =
-    (tickOf s .answer ≡ Served (s .head .clock) (w .number) (w .client))
-    × (waiting (tickOf s .after) ≡ ws)
+    (outcomeOf tick s .answers ≡ Served (s .head .clock) (w .number) (w .client) ∷ [])
+    × (waiting (outcomeOf tick s .after) ≡ ws)
     × All (λ (v : Request). w .deadline ≤ v .deadline) ws
 
-pub earliest-served : (s : State) → isRefused (tickOf s .answer) ≡ false → Serves s (waiting s)
+pub earliest-served : (s : State) → isRefused (outcomeOf tick s .answers) ≡ false → Serves s (waiting s)
 unfolding outcomeOf
 earliest-served s e = go (waiting s) (accepted-same tick s e) (tick-ready s (accepted-none tick s e) .ready .sound .ordered)
   where
-    go : (ws : List Request) → tickOf s ≡ tickAccepted ws s → InOrder ws → Serves s ws
-    go [] same o = ap (λ (r : Outcome). r .answer) same ∙ unfold tickAccepted in refl
+    go : (ws : List Request) → outcomeOf tick s ≡ tickAccepted ws s → InOrder ws → Serves s ws
+    go [] same o = ap (λ (r : Outcome). r .answers) same ∙ unfold tickAccepted in refl
     go (w ∷ ws) same o = (
-      ap (λ (r : Outcome). r .answer) same ∙ unfold tickAccepted in refl,
+      ap (λ (r : Outcome). r .answers) same ∙ unfold tickAccepted in refl,
       ap (λ (r : Outcome). waiting (r .after)) same ∙ ticked-waiting (w ∷ ws) s,
       first-earliest w ws (o .0),
     )

@@ -17,9 +17,11 @@ use Rattle.spec.specs.declared.types.Request.{Request}
 use Rattle.spec.specs.Every.{exists}
 use Rattle.spec.specs.Tables.{State, waiting}
 use Rattle.spec.specs.Chart.{capacityOf}
-use Rattle.spec.specs.Calls.{Outcome, openOf}
-use Rattle.spec.specs.Lists.{asked, Call, run, Event, history, isRefused, WithRefused, isOpened, ticks, Booking, bookings}
-use Rattle.spec.specs.Lists.{servedRequests, waitingRequests, windows, slotFor, ownBookings, ownPlan}
+use Rattle.spec.specs.Calls.Readings.{isRefused, Booking}
+use Rattle.spec.specs.Calls.Outcome.{Outcome}
+use Rattle.spec.specs.Calls.Call.{Call, opening, outcomeOf}
+use Rattle.spec.specs.Lists.{asked, run, Event, history, WithRefused, isOpened, ticks, bookings, servedRequests}
+use Rattle.spec.specs.Lists.{waitingRequests, windows, slotFor, ownBookings, ownPlan}
 use Rattle.spec.proofs.Demands.Words.{Numbered}
 use Rattle.spec.proofs.Laws.Room.{capacity-one}
 use Rattle.spec.proofs.Laws.Accepted.{waiting-length}
@@ -75,14 +77,14 @@ largest-of es s T B =
     }
 
 -- of a list whose calls are all lent the queue's tables
-largest-calls : (setup : Setup) (s : State) (cs : List Call) → isRefused (openOf setup s .answer) ≡ false
-    → exists isOpened (history (openOf setup s .after) cs) ≡ false
-    → Largest (history (openOf setup s .after) cs) (run (openOf setup s .after) cs)
+largest-calls : (setup : Setup) (s : State) (cs : List Call) → isRefused (outcomeOf (opening setup) s .answers) ≡ false
+    → exists isOpened (history (outcomeOf (opening setup) s .after) cs) ≡ false
+    → Largest (history (outcomeOf (opening setup) s .after) cs) (run (outcomeOf (opening setup) s .after) cs)
 largest-calls setup s cs a h =
-    let b = along Follows follows-step (openOf setup s .after) cs h
+    let b = along Follows follows-step (outcomeOf (opening setup) s .after) cs h
     (accepted-open (λ (o : Outcome). Traced [] (o .after)) setup s a (traced-open setup s))
     (accepted-open (λ (o : Outcome). Follows [] (o .after)) setup s a (λ r. follows-open setup s)) in
-    largest-of (history (openOf setup s .after) cs) (run (openOf setup s .after) cs) (b .0) (b .1)
+    largest-of (history (outcomeOf (opening setup) s .after) cs) (run (outcomeOf (opening setup) s .after) cs) (b .0) (b .1)
 
 -- nothing of it depends on events that ask for nothing, serve nothing and drop nothing
 largest-same : {es fs : List Event} (s : State) → WithPassing es fs → Largest es s → Largest fs s
@@ -102,19 +104,19 @@ largest-same s w L =
 
 -- a step for `Sessions`, and no statement of the demand
 pub largest-passing : (setup : Setup) (s : State) (cs : List Call) (es : List Event)
-    → isRefused (openOf setup s .answer) ≡ false
-    → WithPassing (history (openOf setup s .after) cs) es
+    → isRefused (outcomeOf (opening setup) s .answers) ≡ false
+    → WithPassing (history (outcomeOf (opening setup) s .after) cs) es
     → exists isOpened es ≡ false
-    → Largest es (run (openOf setup s .after) cs)
+    → Largest es (run (outcomeOf (opening setup) s .after) cs)
 largest-passing setup s cs es a w h =
-    largest-same (run (openOf setup s .after) cs) w (largest-calls setup s cs a (none-opened w h))
+    largest-same (run (outcomeOf (opening setup) s .after) cs) w (largest-calls setup s cs a (none-opened w h))
 
 -- "The list starts from the head and tables that an accepted open left, whatever its arguments and whatever lengths of table it took."
 -- Arguments in the list are free, and it may be empty. Refused calls of every kind are in it, whether they were lent the queue's tables
 -- or others. "A later accepted open begins another list", so no open in it is accepted
 pub largest-plan : (setup : Setup) (s : State) (cs : List Call) (es : List Event)
-    → isRefused (openOf setup s .answer) ≡ false
-    → WithRefused (history (openOf setup s .after) cs) es
+    → isRefused (outcomeOf (opening setup) s .answers) ≡ false
+    → WithRefused (history (outcomeOf (opening setup) s .after) cs) es
     → exists isOpened es ≡ false
-    → Largest es (run (openOf setup s .after) cs)
+    → Largest es (run (outcomeOf (opening setup) s .after) cs)
 largest-plan setup s cs es a w h = largest-passing setup s cs es a (refused-pass w) h

@@ -8,10 +8,11 @@ use lib.ListN.{length}
 use Rattle.spec.specs.declared.types.Setup.{Setup}
 use Rattle.spec.specs.Every.{exists}
 use Rattle.spec.specs.Tables.{State}
-use Rattle.spec.specs.Calls.{openOf}
-use Rattle.spec.specs.Lists.{Call, run, Event, history, isRefused, isOpened}
-use Rattle.spec.specs.Session.{textOf, session, sessionState}
-use Rattle.spec.specs.Printed.{answersIn, eventsIn, sinceOpen, setupIn, unended}
+use Rattle.spec.specs.Calls.Readings.{isRefused}
+use Rattle.spec.specs.Calls.Call.{Call, opening, outcomeOf}
+use Rattle.spec.specs.Lists.{run, Event, history, isOpened}
+use Rattle.spec.specs.Lines.Session.{textOf, session, sessionState}
+use Rattle.spec.specs.Lines.Printed.{answersIn, eventsIn, sinceOpen, setupIn, unended}
 use Rattle.spec.proofs.Demands.Words.{FromOpen}
 use Rattle.spec.proofs.Demands.Demand1.{CountsGiven, counts-passing}
 use Rattle.spec.proofs.Demands.Demand3.{Largest, largest-passing}
@@ -40,9 +41,9 @@ module _ (input : List ℕ) (opened : exists isOpened (eventsIn input (session i
 
   -- what holds of every list from an accepted open on holds of the session's
   of-session : (Φ : State → Type 0)
-      → ((before : State) (cs : List Call) → isRefused (openOf setup before .answer) ≡ false
-      → WithPassing (history (openOf setup before .after) cs) list → exists isOpened list ≡ false
-      → Φ (run (openOf setup before .after) cs))
+      → ((before : State) (cs : List Call) → isRefused (outcomeOf (opening setup) before .answers) ≡ false
+      → WithPassing (history (outcomeOf (opening setup) before .after) cs) list → exists isOpened list ≡ false
+      → Φ (run (outcomeOf (opening setup) before .after) cs))
       → Φ (sessionState input)
   of-session Φ f =
       let F = session-list in

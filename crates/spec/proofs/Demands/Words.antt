@@ -10,25 +10,21 @@ use Rattle.slots.proofs.Laws.Sums.{All}
 use Rattle.spec.specs.declared.types.Setup.{Setup}
 use Rattle.spec.specs.declared.types.Head.{Head}
 use Rattle.spec.specs.declared.types.Request.{Request}
-use Rattle.spec.specs.Tables.{State, deadlinesOf}
-use Rattle.spec.specs.Chart.{capacityOf, Segment}
-use Rattle.spec.specs.Setup.{Refusal}
-use Rattle.spec.specs.Refusals.{openRefusals, submitRefusals, tickRefusals, reportRefusals, chartRefusals}
-use Rattle.spec.specs.Frames.{Field}
-use Rattle.spec.specs.Calls.{openOf}
 use Rattle.spec.specs.Every.{exists}
-use Rattle.spec.specs.Lists.{Asked, Call, opening, submit, tick, report, chart, run, Event, history, isRefused, isOpened}
-use Rattle.spec.specs.Printed.{AsPrinted}
+use Rattle.spec.specs.Tables.{State, deadlinesOf}
+use Rattle.spec.specs.Setup.{Refusal}
+use Rattle.spec.specs.Chart.{capacityOf, Segment}
+use Rattle.spec.specs.Calls.Readings.{Field, isRefused}
+use Rattle.spec.specs.Calls.Open.{openRefusals}
+use Rattle.spec.specs.Calls.Submit.{submitRefusals}
+use Rattle.spec.specs.Calls.Tick.{tickRefusals}
+use Rattle.spec.specs.Calls.Report.{reportRefusals}
+use Rattle.spec.specs.Calls.Chart.{chartRefusals}
+use Rattle.spec.specs.Calls.Call.{Call, opening, submit, tick, report, chart, outcomeOf}
+use Rattle.spec.specs.Lists.{Asked, run, Event, history, isOpened}
+use Rattle.spec.specs.Lines.Printed.{AsPrinted}
 
 -- ---- refusals
--- the call's refusals, in the paper's order
-abbrev pub refusalsOf : Call → State → List Refusal
-refusalsOf (opening setup) s = openRefusals setup s
-refusalsOf (submit client deadline) s = submitRefusals client deadline s
-refusalsOf tick s = tickRefusals s
-refusalsOf (report client) s = reportRefusals client s
-refusalsOf (chart output) s = chartRefusals output s
-
 -- "first match wins": n is the number of one whose condition holds, and no earlier condition does
 pub data FirstHolds : List Refusal → ℕ → Type 0 where
   here : {r : Refusal} {rs : List Refusal} → r .holds ≡ true → FirstHolds (r ∷ rs) (r .number)
@@ -100,10 +96,10 @@ Numbered (a ∷ rs) = (a .request .number ≡ suc (length rs)) × Numbered rs
 pub record FromOpen (setup : Setup) (es : List Event) (s : State) : Type 0 where
   pub before : State
   pub calls : List Call
-  pub accepted : isRefused (openOf setup before .answer) ≡ false
-  pub printed : AsPrinted (history (openOf setup before .after) calls) es
+  pub accepted : isRefused (outcomeOf (opening setup) before .answers) ≡ false
+  pub printed : AsPrinted (history (outcomeOf (opening setup) before .after) calls) es
   pub none-opened : exists isOpened es ≡ false
-  pub state : run (openOf setup before .after) calls ≡ s
+  pub state : run (outcomeOf (opening setup) before .after) calls ≡ s
 
 -- ---- lines
 -- a value has no more bytes than its field

@@ -14,17 +14,21 @@ use Rattle.spec.specs.declared.types.Setup.{Setup}
 use Rattle.spec.specs.declared.types.Counts.{Counts}
 use Rattle.spec.specs.declared.types.Request.{Request}
 use Rattle.spec.specs.declared.types.Answer.the-variants.{Refused}
-use Rattle.spec.specs.Order.{removeAt}
 use Rattle.spec.specs.Every.{isWithin}
-use Rattle.spec.specs.Tables.{mostRecords, mostCounted, clockEnd, numberEnd, mostAhead, clientTable, width}
-use Rattle.spec.specs.Tables.{zeroRequest, zeroCounts, State, waiting, behind, holding, nextState}
-use Rattle.spec.specs.Sound.{isClient, isSound}
+use Rattle.spec.specs.Tables.{mostRecords, mostCounted, clockEnd, numberEnd, mostAhead, clientTable, width, zeroRequest}
+use Rattle.spec.specs.Tables.{zeroCounts, State, waiting, behind, holding, nextState, change, oneMoreDropped}
+use Rattle.spec.specs.Tables.{oneMoreServed}
 use Rattle.spec.specs.Setup.{Refusal, firstMatch}
-use Rattle.spec.specs.Refusals.{isMisshapen, refusal4Open, refusal4, refusal5}
-use Rattle.spec.specs.Refusals.{refusal6, refusal7, refusal8, refusal9, refusal10, refusal11, refusal12, openRefusals}
-use Rattle.spec.specs.Refusals.{submitRefusals, tickRefusals, reportRefusals, chartRefusals}
-use Rattle.spec.specs.Calls.{kept, droppedAt, tickAccepted, withNew, countedIn, requestAt, change, oneMoreDropped}
-use Rattle.spec.specs.Calls.{oneMoreServed, countsAfter, Outcome, unlessRefused}
+use Rattle.spec.specs.Order.{removeAt}
+use Rattle.spec.specs.Sound.{isClient, isSound}
+use Rattle.spec.specs.Calls.Refusals.{isMisshapen, refusal4Open, refusal4, refusal5, refusal6, refusal7, refusal8}
+use Rattle.spec.specs.Calls.Refusals.{refusal9, refusal10, refusal11, refusal12}
+use Rattle.spec.specs.Calls.Outcome.{Outcome, refusing, unlessRefused}
+use Rattle.spec.specs.Calls.Open.{openRefusals}
+use Rattle.spec.specs.Calls.Submit.{submitRefusals, kept, droppedAt, withNew, countedIn, requestAt}
+use Rattle.spec.specs.Calls.Tick.{tickRefusals, tickAccepted, countsAfter}
+use Rattle.spec.specs.Calls.Report.{reportRefusals}
+use Rattle.spec.specs.Calls.Chart.{chartRefusals}
 use Rattle.spec.proofs.Laws.Every.{or-none}
 use Rattle.spec.proofs.Laws.Layout.{whole-records}
 use Rattle.spec.proofs.Laws.Sound.{within-refused, none-match, SetupWithin, setup-none, Shaped, Sound, sound-facts}
@@ -32,13 +36,13 @@ use Rattle.spec.proofs.Laws.Sound.{within-refused, none-match, SetupWit
 -- ---- accepted, or refused with the first number that matches
 pub data Decided (rs : List Refusal) (s : State) (o : Outcome) : Outcome → Type 0 where
   accepts : firstMatch rs ≡ 0 → Decided rs s o o
-  refuses : firstMatch rs ≢ 0 → Decided rs s o (record { answer = Refused (firstMatch rs); after = s })
+  refuses : firstMatch rs ≢ 0 → Decided rs s o (refusing (firstMatch rs) s)
 
 pub decided : (rs : List Refusal) (s : State) (o : Outcome) → Decided rs s o (unlessRefused rs s o)
 decided rs s o = go (eqb (firstMatch rs) 0) (same (firstMatch rs) 0)
   where
     go : (x : Bool) → Same (firstMatch rs) 0 x
-        → Decided rs s o (cond x o (record { answer = Refused (firstMatch rs); after = s }))
+        → Decided rs s o (cond x o (refusing (firstMatch rs) s))
     go true (same-yes e) = accepts e
     go false (same-no e) = refuses e
 

@@ -14,10 +14,9 @@ use Rattle.slots.proofs.Laws.Sums.{All, all-imp}
 use Rattle.spec.specs.declared.types.Request.{Request}
 use Rattle.spec.specs.declared.types.Counts.{Counts}
 use Rattle.spec.specs.Every.{toNumber, countIf}
-use Rattle.spec.specs.Tables.{zeroCounts}
+use Rattle.spec.specs.Tables.{zeroCounts, change}
 use Rattle.spec.specs.Order.{putInOrder, removeAt}
 use Rattle.spec.specs.Sound.{waitingOf}
-use Rattle.spec.specs.Calls.{change}
 use Rattle.spec.proofs.Laws.Every.{number-yes, number-no}
 use Rattle.spec.proofs.Laws.Order.{count-put, count-remove}
 

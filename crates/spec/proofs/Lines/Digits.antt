@@ -10,7 +10,8 @@ use lib.Dec.{ltb, eqb}
 use lib.ListN.{length, take, drop, length-append}
 use lib.Seq.{take-at, drop-at, drop-drop}
 use Rattle.slots.proofs.Laws.Sums.{All, all-append}
-use Rattle.spec.specs.Frames.{lineFeed, digitOf, characterOf, numberFrom, fieldAt, digits, Field, fieldDigits}
+use Rattle.spec.specs.Calls.Readings.{Field}
+use Rattle.spec.specs.Lines.Frames.{lineFeed, digitOf, characterOf, numberFrom, fieldAt, digits, fieldDigits}
 use Rattle.spec.proofs.Demands.Words.{FitsField}
 
 -- ---- no line feed

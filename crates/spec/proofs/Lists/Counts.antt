@@ -15,14 +15,18 @@ use Rattle.spec.specs.declared.types.Counts.{Counts}
 use Rattle.spec.specs.declared.types.Answer.{Answer}
 use Rattle.spec.specs.declared.types.Answer.the-variants.{Served, Idle}
 use Rattle.spec.specs.Every.{toNumber, exists, countIf, mapFrom}
-use Rattle.spec.specs.Tables.{zeroCounts, State, waiting, nextState, clientTable}
+use Rattle.spec.specs.Tables.{zeroCounts, State, waiting, nextState, clientTable, change, oneMoreSubmitted}
+use Rattle.spec.specs.Tables.{oneMoreServed, oneMoreDropped}
 use Rattle.spec.specs.Sound.{waitingOf}
-use Rattle.spec.specs.Calls.{countedIn, Outcome, openOf, openAccepted, change, oneMoreSubmitted, oneMoreServed, oneMoreDropped}
-use Rattle.spec.specs.Calls.{isPeriodStart, restarted, oneLater, kept, droppedAt, tickAccepted, reportAccepted, reportOf}
-use Rattle.spec.specs.Calls.{reportAnswer, victimPlace, requestAt}
-use Rattle.spec.specs.Lists.{Call, submit, tick, report, outcomeOf, run, history, Event, isRefused, isOpened, isTick}
-use Rattle.spec.specs.Lists.{ticks, Asked, Victim, waitingRequests, waitingBy, submitters, servedClients, victimClients}
-use Rattle.spec.specs.Lists.{startsPeriod, sinceStart, countsSince}
+use Rattle.spec.specs.Calls.Readings.{isRefused, Victim}
+use Rattle.spec.specs.Calls.Outcome.{Outcome}
+use Rattle.spec.specs.Calls.Open.{openAccepted}
+use Rattle.spec.specs.Calls.Submit.{countedIn, kept, droppedAt, victimPlace, requestAt}
+use Rattle.spec.specs.Calls.Tick.{isPeriodStart, restarted, oneLater, tickAccepted}
+use Rattle.spec.specs.Calls.Report.{reportAccepted, reportAnswer}
+use Rattle.spec.specs.Calls.Call.{Call, submit, tick, report, outcomeOf, opening}
+use Rattle.spec.specs.Lists.{run, history, Event, isOpened, isTick, ticks, Asked, waitingRequests, waitingBy, submitters}
+use Rattle.spec.specs.Lists.{servedClients, victimClients, startsPeriod, sinceStart, countsSince}
 use Rattle.spec.proofs.Laws.Layout.{records-numbers}
 use Rattle.spec.proofs.Laws.Clients.{length-change, getD-change, counts-path}
 use Rattle.spec.proofs.Laws.Every.{count-total, length-mapFrom, getD-mapFrom}
@@ -155,7 +159,7 @@ module _ (period : ℕ) (es : List Event) (s : State) (C : Counted period es s) 
       }
     where
       e : Event
-      e = event (submit client deadline) (kept client deadline s .answer)
+      e = event (submit client deadline) (kept client deadline s .answers)
 
       table : (c : ℕ) → c < length (clientTable s)
           → getD (change oneMoreSubmitted client (clientTable s)) c zeroCounts ≡ countsSince period c (e ∷ es)
@@ -182,7 +186,7 @@ module _ (period : ℕ) (es : List Event) (s : State) (C : Counted period es s) 
       }
     where
       e : Event
-      e = event (submit client deadline) (droppedAt k client deadline s .answer)
+      e = event (submit client deadline) (droppedAt k client deadline s .answers)
 
       v : Request
       v = requestAt k client deadline s
@@ -204,7 +208,7 @@ module _ (period : ℕ) (es : List Event) (s : State) (C : Counted period es s) 
 
   -- ---- tick
   -- the state one slot later, where cs counts what the tick served
-  module _ (ws : List Request) (cs : List Counts) (a : Answer) (accepted : isRefused a ≡ false)
+  module _ (ws : List Request) (cs : List Counts) (a : List Answer) (accepted : isRefused a ≡ false)
       (clock-is : s .head .clock ≡ ticks es) where
     abbrev begins : Bool
     begins = isPeriodStart (s .head .setup .period) (suc (s .head .clock))
@@ -244,18 +248,18 @@ module _ (period : ℕ) (es : List Event) (s : State) (C : Counted period es s) 
       → Then (Counted period) tick (tickAccepted ws s) es
   unfolding tickAccepted
   counted-tick [] k T =
-      counted-later [] (clientTable s) (Idle (s .head .clock)) refl k T
+      counted-later [] (clientTable s) (Idle (s .head .clock) ∷ []) refl k T
       (λ c h. C .counts-are c h ∙ sym (rw (named-none c) (adding-none (countsSince period c es))))
   counted-tick (w ∷ ws) k T =
-      counted-later ws (change oneMoreServed (w .client) (clientTable s)) answer refl k T
+      counted-later ws (change oneMoreServed (w .client) (clientTable s)) answers refl k T
       (λ c h. table c (omega (arith, length-change oneMoreServed (w .client) (clientTable s))))
     where
-      answer : Answer
-      answer = Served (s .head .clock) (w .number) (w .client)
+      answers : List Answer
+      answers = Served (s .head .clock) (w .number) (w .client) ∷ []
 
       table : (c : ℕ) → c < length (clientTable s)
           → getD (change oneMoreServed (w .client) (clientTable s)) c zeroCounts
-          ≡ addedBy c (event tick answer) (countsSince period c es)
+          ≡ addedBy c (event tick answers) (countsSince period c es)
       table c h =
           getD-change oneMoreServed (w .client) (clientTable s) c h
           ∙ one-served (eqb c (w .client)) (getD (clientTable s) c zeroCounts)
@@ -267,7 +271,7 @@ module _ (period : ℕ) (es : List Event) (s : State) (C : Counted period es s) 
   counted-step e t (submits client deadline r) T U = go (submitted-cases client deadline s)
     where
       go : {o : Outcome} → Submitted client deadline s o
-          → Counted period (event (submit client deadline) (o .answer) ∷ es) (o .after)
+          → Counted period (event (submit client deadline) (o .answers) ∷ es) (o .after)
       go (keeps h) = counted-kept client deadline
       go (drops h) = counted-dropped (victimPlace client deadline s) client deadline
   counted-step e t (serves r) T U = counted-tick (waiting s) (T .clock) U
@@ -287,23 +291,23 @@ counted-open setup s =
     }
 
 -- after any list of calls from an accepted open on, with no other accepted open in it
-pub counted : (setup : Setup) (s : State) (cs : List Call) → isRefused (openOf setup s .answer) ≡ false
-    → exists isOpened (history (openOf setup s .after) cs) ≡ false
-    → Counted (setup .period) (history (openOf setup s .after) cs) (run (openOf setup s .after) cs)
+pub counted : (setup : Setup) (s : State) (cs : List Call) → isRefused (outcomeOf (opening setup) s .answers) ≡ false
+    → exists isOpened (history (outcomeOf (opening setup) s .after) cs) ≡ false
+    → Counted (setup .period) (history (outcomeOf (opening setup) s .after) cs) (run (outcomeOf (opening setup) s .after) cs)
 counted setup s cs a h =
     along (Counted (setup .period))
-    (λ s e t es k T C. counted-step (setup .period) es s C e t k T (traced-step s e t es k T)) (openOf setup s .after) cs h
+    (λ s e t es k T C. counted-step (setup .period) es s C e t k T (traced-step s e t es k T)) (outcomeOf (opening setup) s .after) cs h
     (accepted-open (λ (o : Outcome). Traced [] (o .after)) setup s a (traced-open setup s))
     (accepted-open (λ (o : Outcome). Counted (setup .period) [] (o .after)) setup s a (λ r. counted-open setup s)) .1
 
 -- an accepted report says so
 pub reported-counts : (period client : ℕ) (es : List Event) (s : State) → Traced es s → Counted period es s
-    → isRefused (reportOf client s .answer) ≡ false
-    → reportOf client s .answer ≡ reportAnswer client (countsSince period client es) (waitingBy client es)
+    → isRefused (outcomeOf (report client) s .answers) ≡ false
+    → outcomeOf (report client) s .answers ≡ reportAnswer client (countsSince period client es) (waitingBy client es) ∷ []
 unfolding reportAccepted outcomeOf
 reported-counts period client es s T C a =
-    ap (λ (o : Outcome). o .answer) (accepted-same (report client) s a)
-    ∙ (λ i. reportAnswer client (C .counts-are client inside i) (sym (waits-counted es s client T) i))
+    ap (λ (o : Outcome). o .answers) (accepted-same (report client) s a)
+    ∙ (λ i. reportAnswer client (C .counts-are client inside i) (sym (waits-counted es s client T) i) ∷ [])
   where
     R : ReportReady client s
     R = report-ready client s (accepted-none (report client) s a)

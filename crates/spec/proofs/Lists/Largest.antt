@@ -21,14 +21,18 @@ use Rattle.slots.proofs.Single.{end, slots, booked, bookings-booked}
 use Rattle.spec.specs.declared.types.Setup.{Setup}
 use Rattle.spec.specs.declared.types.Request.{Request}
 use Rattle.spec.specs.Every.{countIf}
-use Rattle.spec.specs.Tables.{zeroRequest, State, waiting, nextState, clientTable}
+use Rattle.spec.specs.Tables.{zeroRequest, State, waiting, nextState, clientTable, change, oneMoreDropped, oneMoreServed}
 use Rattle.spec.specs.Order.{removeAt}
-use Rattle.spec.specs.Chart.{capacityOf, roomTo, endOf, startsOf, dueBy, hasNoOverfull, Search}
-use Rattle.spec.specs.Victim.{isCandidate}
-use Rattle.spec.specs.Calls.{change, oneMoreDropped, oneMoreServed, countsAfter, countedIn, Outcome, openAccepted}
-use Rattle.spec.specs.Calls.{submitAccepted, kept, droppedAt, withNew, newRequest, requestAt, victimPlace, tickAccepted}
-use Rattle.spec.specs.Lists.{submit, tick, Event, ticks, Asked, asked, Booking, bookings, servedRequests, waitingRequests}
-use Rattle.spec.specs.Lists.{windowOf, windows, chartBookings, slotFor, ownBookings, ownPlan}
+use Rattle.spec.specs.Chart.{capacityOf, roomTo, endOf, startsOf, dueBy, hasNoOverfull, Search, isCandidate}
+use Rattle.spec.specs.Calls.Readings.{Booking}
+use Rattle.spec.specs.Calls.Outcome.{Outcome}
+use Rattle.spec.specs.Calls.Open.{openAccepted}
+use Rattle.spec.specs.Calls.Submit.{countedIn, submitAccepted, kept, droppedAt, withNew, newRequest, requestAt}
+use Rattle.spec.specs.Calls.Submit.{victimPlace}
+use Rattle.spec.specs.Calls.Tick.{countsAfter, tickAccepted}
+use Rattle.spec.specs.Calls.Call.{submit, tick}
+use Rattle.spec.specs.Lists.{Event, ticks, Asked, asked, bookings, servedRequests, waitingRequests, windowOf, windows}
+use Rattle.spec.specs.Lists.{chartBookings, slotFor, ownBookings, ownPlan}
 use Rattle.spec.proofs.Demands.Words.{Numbered}
 use Rattle.spec.proofs.Laws.Room.{capacity-one, room-capacity, capacity-next}
 use Rattle.spec.proofs.Laws.Entries.{entryOf, upto-entries, sorted-entries}
@@ -46,9 +50,16 @@ use Rattle.spec.proofs.Lists.Trace.{same-bookings, Step, submits, serve
 abbrev pub bookedOf : Booking → Booked
 bookedOf b = record { number = b .number; slot = b .slot }
 
+-- no call withdraws a request yet, so that none is withdrawn
 abbrev pub queueOf : List Event → State → Queue
 queueOf es s =
-    record { clock = ticks es; log = map bookedOf (bookings es); waiting = map entryOf (waiting s); asked = windows es }
+    record {
+      clock = ticks es;
+      log = map bookedOf (bookings es);
+      waiting = map entryOf (waiting s);
+      asked = windows es;
+      withdrawn = 0;
+    }
 
 all-unmap : {A B : Type 0} (p : B → Type 0) (g : A → B) (xs : List A) → All p (map g xs) → All (λ (x : A). p (g x)) xs
 all-unmap p g [] a = tt
@@ -106,7 +117,7 @@ module _ (client deadline : ℕ) (s : State) (es : List Event) (r : SubmitReady 
 
   -- ---- it is kept
   kept-queue : asking deadline (map entryOf together) q
-      ≡ queueOf (event (submit client deadline) (kept client deadline s .answer) ∷ es) (kept client deadline s .after)
+      ≡ queueOf (event (submit client deadline) (kept client deadline s .answers) ∷ es) (kept client deadline s .after)
   unfolding kept ticks countIf asked bookings
   kept-queue =
       λ i.
@@ -115,6 +126,7 @@ module _ (client deadline : ℕ) (s : State) (es : List Event) (r : SubmitReady 
         log = q .log;
         waiting = map entryOf (sym (kept-waiting client deadline s) i);
         asked = record { release = ticks es; deadline = deadline } ∷ windows es;
+        withdrawn = 0;
       }
 
   kept-heads : heads ≡ capacityOf (kept client deadline s .after .head .setup)
@@ -140,7 +152,7 @@ module _ (client deadline : ℕ) (s : State) (es : List Event) (r : SubmitReady 
     victim = requestAt k client deadline s
 
     dropped-queue : asking deadline (map entryOf others) q
-        ≡ queueOf (event (submit client deadline) (droppedAt k client deadline s .answer) ∷ es)
+        ≡ queueOf (event (submit client deadline) (droppedAt k client deadline s .answers) ∷ es)
         (droppedAt k client deadline s .after)
     unfolding droppedAt ticks countIf asked bookings
     dropped-queue =
@@ -150,6 +162,7 @@ module _ (client deadline : ℕ) (s : State) (es : List Event) (r : SubmitReady 
           log = q .log;
           waiting = map entryOf (sym (dropped-waiting k client deadline s) i);
           asked = record { release = ticks es; deadline = deadline } ∷ windows es;
+          withdrawn = 0;
         }
 
     dropped-heads : heads ≡ capacityOf (droppedAt k client deadline s .after .head .setup)
@@ -226,7 +239,7 @@ module _ (s : State) (es : List Event) (T : Traced es s) where
   one = capacity-one (s .head .setup) (ticks es)
 
   tick-queue : (ws : List Request) → waiting s ≡ ws
-      → tickedQueue serving (queueOf es s) ≡ queueOf (event tick (tickAccepted ws s .answer) ∷ es) (tickAccepted ws s .after)
+      → tickedQueue serving (queueOf es s) ≡ queueOf (event tick (tickAccepted ws s .answers) ∷ es) (tickAccepted ws s .after)
   unfolding tickAccepted nextState ticks countIf asked bookings
   tick-queue [] e =
       λ i.
@@ -235,6 +248,7 @@ module _ (s : State) (es : List Event) (T : Traced es s) where
         log = serve (ticks es) (take (one i) (map entryOf (e i))) (map bookedOf (bookings es));
         waiting = drop (one i) (map entryOf (e i));
         asked = windows es;
+        withdrawn = 0;
       }
   tick-queue (w ∷ ws) e =
       λ i.
@@ -243,6 +257,7 @@ module _ (s : State) (es : List Event) (T : Traced es s) where
         log = serve (sym (T .clock) i) (take (one i) (map entryOf (e i))) (map bookedOf (bookings es));
         waiting = rest i;
         asked = windows es;
+        withdrawn = 0;
       }
     where
       rest : drop (serving (ticks es)) (map entryOf (waiting s)) ≡ map entryOf (waiting (tickAccepted (w ∷ ws) s .after))

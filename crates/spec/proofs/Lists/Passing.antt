@@ -11,68 +11,66 @@ use Rattle.spec.specs.declared.types.Answer.the-variants.{Opened, Kept, 
 use Rattle.spec.specs.Every.{exists, countIf, select}
 use Rattle.spec.specs.Tables.{State, waiting}
 use Rattle.spec.specs.Chart.{startsOf}
-use Rattle.spec.specs.Lists.{Call, Event, isRefused, WithRefused, empty, own, refused, isOpened, ticks, Asked, asked}
-use Rattle.spec.specs.Lists.{Booking, bookings, Victim, victims, servedRequests, waitingRequests, ownPlan, slotFor}
-use Rattle.spec.specs.Lists.{chartBookings, submitters, servedClients, victimClients, waitingBy, sinceStart, countsSince}
+use Rattle.spec.specs.Calls.Readings.{isRefused, Booking, Victim}
+use Rattle.spec.specs.Calls.Call.{Call}
+use Rattle.spec.specs.Lists.{Event, WithRefused, isOpened, ticks, Asked, asked, bookings, victims, servedRequests}
+use Rattle.spec.specs.Lists.{waitingRequests, ownPlan, slotFor, chartBookings, submitters, servedClients, victimClients}
+use Rattle.spec.specs.Lists.{waitingBy, sinceStart, countsSince, refusedEvent, empty, own, refused, Among, other}
+use Rattle.spec.specs.Lists.{RefusedCall}
 use Rattle.spec.proofs.Laws.Every.{or-none}
 use Rattle.spec.proofs.Lists.Trace.{event, Passing, refused-passing}
 use Rattle.spec.proofs.Lists.Trace.{same-ticks as same-ticks-one, same-asked as same-asked-one}
 use Rattle.spec.proofs.Lists.Trace.{same-bookings as same-bookings-one, same-victims as same-victims-one}
 
--- the second list is the first with such events among its own
-pub data WithPassing : List Event → List Event → Type 0 where
-  nothing : WithPassing [] []
-  also : {es fs : List Event} (e : Event) → WithPassing es fs → WithPassing (e ∷ es) (e ∷ fs)
-  passing : {es fs : List Event} (e : Event) → Passing e → WithPassing es fs → WithPassing es (e ∷ fs)
+abbrev pub WithPassing : List Event → List Event → Type 0
+WithPassing es fs = Among Passing es fs
 
--- refused calls are such events
-pub refused-event : (c : Call) (a : Answer) → isRefused a ≡ true → Passing (event c a)
-refused-event c Opened r = absurd (true≢false (sym r))
-refused-event c (Kept number place) r = absurd (true≢false (sym r))
-refused-event c (Dropped number victim client) r = absurd (true≢false (sym r))
-refused-event c (Served slot number client) r = absurd (true≢false (sym r))
-refused-event c (Idle slot) r = absurd (true≢false (sym r))
-refused-event c (Reported client submitted served dropped waiting) r = absurd (true≢false (sym r))
-refused-event c (Charted count) r = absurd (true≢false (sym r))
-refused-event c (Refused number) r = refused-passing c number
+-- where each of the other events is such an event
+pub among-pass : {Other : Event → Type 0} → ((e : Event) → Other e → Passing e) → {es fs : List Event} → Among Other es fs
+    → WithPassing es fs
+among-pass f empty = empty
+among-pass f (own e w) = own e (among-pass f w)
+among-pass f (other e o w) = other e (f e o) (among-pass f w)
+
+-- refused calls are
+refused-event : (e : Event) → RefusedCall e → Passing e
+refused-event e (refused c number) = refused-passing c number
 
 pub refused-pass : {es fs : List Event} → WithRefused es fs → WithPassing es fs
-refused-pass empty = nothing
-refused-pass (own e w) = also e (refused-pass w)
-refused-pass (refused e r w) = passing e (refused-event (e .call) (e .answer) r) (refused-pass w)
+refused-pass w = among-pass refused-event w
 
 -- no open is accepted in the first list where none is in the second
 pub none-opened : {es fs : List Event} → WithPassing es fs → exists isOpened fs ≡ false → exists isOpened es ≡ false
 unfolding exists
-none-opened nothing h = refl
-none-opened (also {es} {fs} e w) h =
+none-opened empty h = refl
+none-opened (own {es} {fs} e w) h =
     let n = or-none (isOpened e) (exists isOpened fs) h in rw (n .0) (none-opened w (n .1))
-none-opened (passing {es} {fs} e p w) h = none-opened w (or-none (isOpened e) (exists isOpened fs) h .1)
+none-opened (other {es} {fs} e p w) h = none-opened w (or-none (isOpened e) (exists isOpened fs) h .1)
 
 -- ---- the same is read off both
 pub same-ticks : {es fs : List Event} → WithPassing es fs → ticks fs ≡ ticks es
 unfolding ticks countIf
-same-ticks nothing = refl
-same-ticks (also e w) = rw (same-ticks w)
-same-ticks (passing {es} {fs} e p w) = same-ticks-one e fs p ∙ same-ticks w
+same-ticks empty = refl
+same-ticks (own e w) = rw (same-ticks w)
+same-ticks (other {es} {fs} e p w) = same-ticks-one e fs p ∙ same-ticks w
 
 pub same-asked : {es fs : List Event} → WithPassing es fs → asked fs ≡ asked es
 unfolding asked
-same-asked nothing = refl
-same-asked (also e w) = rw (same-ticks w, same-asked w)
-same-asked (passing {es} {fs} e p w) = same-asked-one e fs p ∙ same-asked w
+same-asked empty = refl
+same-asked (own e w) = rw (same-ticks w, same-asked w)
+same-asked (other {es} {fs} e p w) = same-asked-one e fs p ∙ same-asked w
 
 pub same-bookings : {es fs : List Event} → WithPassing es fs → bookings fs ≡ bookings es
 unfolding bookings
-same-bookings nothing = refl
-same-bookings (also e w) = rw (same-bookings w)
-same-bookings (passing {es} {fs} e p w) = same-bookings-one e fs p ∙ same-bookings w
+same-bookings empty = refl
+same-bookings (own e w) = rw (same-bookings w)
+same-bookings (other {es} {fs} e p w) = same-bookings-one e fs p ∙ same-bookings w
 
 pub same-victims : {es fs : List Event} → WithPassing es fs → victims fs ≡ victims es
 unfolding victims
-same-victims nothing = refl
-same-victims (also e w) = rw (same-victims w)
-same-victims (passing {es} {fs} e p w) = same-victims-one e fs p ∙ same-victims w
+same-victims empty = refl
+same-victims (own e w) = rw (same-victims w)
+same-victims (other {es} {fs} e p w) = same-victims-one e fs p ∙ same-victims w
 
 module _ {es fs : List Event} (w : WithPassing es fs) where
   pub same-served : servedRequests fs ≡ servedRequests es
@@ -110,10 +108,10 @@ module _ (atStart : List Event → ℕ) (names : Event → List ℕ) (period cli
   same-since : {es fs : List Event} → WithPassing es fs
       → sinceStart atStart names period client fs ≡ sinceStart atStart names period client es
   unfolding sinceStart countIf
-  same-since nothing = refl
-  same-since (also {es} {fs} e w) =
-      rw (same-ticks (also e w), start-same (e ∷ es) (e ∷ fs) (also e w), same-since w)
-  same-since (passing {es} {fs} e p w) = rw (p .no-tick, none-named e p) (omega (arith, same-since w))
+  same-since empty = refl
+  same-since (own {es} {fs} e w) =
+      rw (same-ticks (own e w), start-same (e ∷ es) (e ∷ fs) (own e w), same-since w)
+  same-since (other {es} {fs} e p w) = rw (p .no-tick, none-named e p) (omega (arith, same-since w))
 
 pub same-counts : {es fs : List Event} → WithPassing es fs → (period client : ℕ)
     → countsSince period client fs ≡ countsSince period client es

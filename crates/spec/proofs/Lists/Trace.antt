@@ -3,7 +3,7 @@
 -- Assumes nothing.
 use Prim.Native.Nat.{ℕ, suc, _+_, _≤_, _<_}
 use mathlib.Core.Path.{_≡_, refl, sym, ap, _∙_, subst}
-use mathlib.Core.Bool.{or-assoc, or-comm, Bool, true, false, not, cond, _||_, true≢false}
+use mathlib.Core.Bool.{and-false, or-assoc, or-comm, Bool, true, false, not, cond, _||_, true≢false}
 use mathlib.Core.List.{List, [], _∷_, _++_, map}
 use native.Mathlib.Omega.{arith}
 use borrow.Author.Tests.{eqb-true, eq-eqb, ne-eqb}
@@ -18,22 +18,27 @@ use Rattle.spec.specs.declared.types.Answer.{Answer}
 use Rattle.spec.specs.declared.types.Answer.the-variants.{Refused}
 use Rattle.spec.specs.Every.{exists, countIf, select}
 use Rattle.spec.specs.Tables.{zeroRequest, State, waiting, nextState}
+use Rattle.spec.specs.Setup.{firstMatch}
 use Rattle.spec.specs.Order.{removeAt}
 use Rattle.spec.specs.Chart.{hasNoOverfull}
-use Rattle.spec.specs.Setup.{firstMatch}
-use Rattle.spec.specs.Calls.{Outcome, openAccepted, openOf, submitAccepted, kept, droppedAt, withNew, newRequest}
-use Rattle.spec.specs.Calls.{requestAt, victimPlace, tickAccepted, reportAccepted, chartAccepted}
-use Rattle.spec.specs.Lists.{Call, opening, submit, tick, report, chart, outcomeOf, run, Event, history, isRefused}
-use Rattle.spec.specs.Lists.{isOpened, isTick, ticks, Asked, askedBy, asked, Booking, servedIn, bookings, Victim}
-use Rattle.spec.specs.Lists.{victimBy, victims, servedRequests, waitingRequests}
-use Rattle.spec.proofs.Demands.Words.{refusalsOf, Numbered}
+use Rattle.spec.specs.Calls.Readings.{isRefused, Booking, Victim, victimsBy}
+use Rattle.spec.specs.Calls.Outcome.{Outcome}
+use Rattle.spec.specs.Calls.Open.{openAccepted}
+use Rattle.spec.specs.Calls.Submit.{submitAccepted, kept, droppedAt, withNew, newRequest, requestAt, victimPlace}
+use Rattle.spec.specs.Calls.Tick.{tickAccepted}
+use Rattle.spec.specs.Calls.Report.{reportAccepted}
+use Rattle.spec.specs.Calls.Chart.{chartAccepted}
+use Rattle.spec.specs.Calls.Call.{Call, opening, submit, tick, report, chart, outcomeOf, acceptedOf, refusalsOf, meaning}
+use Rattle.spec.specs.Lists.{run, Event, history, isOpened, isTick, ticks, Asked, askedBy, asked, servedIn, bookings}
+use Rattle.spec.specs.Lists.{victims, servedRequests, waitingRequests, refusedEvent}
+use Rattle.spec.proofs.Demands.Words.{Numbered}
 use Rattle.spec.proofs.Laws.Every.{total-same, total-add, total-select, exists-none, or-none, all-at, Value, is-true}
 use Rattle.spec.proofs.Laws.Every.{is-false, value, cond-true, cond-false, total-remove}
 use Rattle.spec.proofs.Laws.Order.{total-put, all-put}
 use Rattle.spec.proofs.Laws.Sound.{Given}
 use Rattle.spec.proofs.Laws.Accepted.{kept-waiting, dropped-waiting, ticked-waiting, Ready, OpenReady, SubmitReady}
 use Rattle.spec.proofs.Laws.Accepted.{TickReady, open-ready, submit-ready, tick-ready, Decided, accepts, refuses}
-use Rattle.spec.proofs.Calls.Refused.{acceptedOf, outcome-decided, accepted-none, accepted-same}
+use Rattle.spec.proofs.Calls.Refused.{outcome-decided, accepted-none, accepted-same}
 use Rattle.spec.proofs.Calls.Keeps.{open-keeps, submit-keeps, tick-keeps}
 use Rattle.spec.proofs.Calls.Victim.{victim-place}
 
@@ -291,12 +296,12 @@ module _ (es : List Event) (s : State) (T : Traced es s) (n : ℕ) (h : length (
           (λ v g. ne-eqb (v .number) n (omega arith)) (T .victims-given))
 
 -- ---- one call more
-abbrev pub event : Call → Answer → Event
-event c a = record { call = c; answer = a }
+abbrev pub event : Call → List Answer → Event
+event c answers = record { call = c; answers = answers }
 
 -- p holds of the list with the call and its answer, and of the state after it
 abbrev pub Then : (List Event → State → Type 0) → Call → Outcome → List Event → Type 0
-Then p c o es = p (event c (o .answer) ∷ es) (o .after)
+Then p c o es = p (event c (o .answers) ∷ es) (o .after)
 
 -- ---- open
 pub traced-open : (setup : Setup) (s : State) → OpenReady setup s → Traced [] (openAccepted setup s .after)
@@ -379,7 +384,7 @@ module _ (client deadline : ℕ) (s : State) (es : List Event) (T : Traced es s)
       }
     where
       now : List Event
-      now = event (submit client deadline) (kept client deadline s .answer) ∷ es
+      now = event (submit client deadline) (kept client deadline s .answers) ∷ es
 
   -- the record at the place k is dropped
   module _ (k : ℕ) (h : k < length (withNew client deadline s)) where
@@ -411,7 +416,7 @@ module _ (client deadline : ℕ) (s : State) (es : List Event) (T : Traced es s)
         }
       where
         now : List Event
-        now = event (submit client deadline) (droppedAt k client deadline s .answer) ∷ es
+        now = event (submit client deadline) (droppedAt k client deadline s .answers) ∷ es
 
         named-now : (n : ℕ) → isNamed now n ≡ eqb (requestAt k client deadline s .number) n || isNamed es n
         named-now n = or-assoc (eqb (requestAt k client deadline s .number) n) (isVictimNumber es n) (isServedNumber es n)
@@ -443,7 +448,7 @@ module _ (s : State) (es : List Event) (T : Traced es s) where
       }
     where
       now : List Event
-      now = event tick (tickAccepted [] s .answer) ∷ es
+      now = event tick (tickAccepted [] s .answers) ∷ es
   traced-ticked (w ∷ ws) e r =
       record {
         ready = r;
@@ -464,7 +469,7 @@ module _ (s : State) (es : List Event) (T : Traced es s) where
       }
     where
       now : List Event
-      now = event tick (tickAccepted (w ∷ ws) s .answer) ∷ es
+      now = event tick (tickAccepted (w ∷ ws) s .answers) ∷ es
 
       old : (f : Request → ℕ) → total (failing (isNamed es) f) (asked es) ≡ total f (w ∷ ws)
       old f = sym (waiting-total f es) ∙ T .sums f ∙ ap (total f) e
@@ -488,18 +493,16 @@ traced-tick s es r T = traced-ticked s es T (waiting s) refl (tick-keeps s r)
 -- ---- events that leave the state: refused calls, reports and charts
 pub record Passing (e : Event) : Type 0 where
   pub no-tick : isTick e ≡ false
-  pub none-asked : (clock : ℕ) → askedBy (e .call) (e .answer) clock ≡ []
+  pub none-asked : (clock : ℕ) → askedBy e clock ≡ []
   pub none-served : servedIn e ≡ []
-  pub none-dropped : victimBy (e .answer) ≡ []
+  pub none-dropped : victimsBy (e .answers) ≡ []
 
-pub refused-passing : (c : Call) (n : ℕ) → Passing (event c (Refused n))
-refused-passing (opening setup) n =
-    record { no-tick = refl; none-asked = λ t. refl; none-served = refl; none-dropped = refl }
-refused-passing (submit client deadline) n =
-    record { no-tick = refl; none-asked = λ t. refl; none-served = refl; none-dropped = refl }
-refused-passing tick n = record { no-tick = refl; none-asked = λ t. refl; none-served = refl; none-dropped = refl }
-refused-passing (report client) n = record { no-tick = refl; none-asked = λ t. refl; none-served = refl; none-dropped = refl }
-refused-passing (chart output) n = record { no-tick = refl; none-asked = λ t. refl; none-served = refl; none-dropped = refl }
+pub refused-passing : (c : Call) (n : ℕ) → Passing (refusedEvent c n)
+refused-passing c n =
+    record { no-tick = no-tick; none-asked = λ t. refl; none-served = rw no-tick; none-dropped = refl }
+  where
+    no-tick : isTick (refusedEvent c n) ≡ false
+    no-tick = and-false (meaning c .isTick)
 
 module _ (e : Event) (es : List Event) (p : Passing e) where
   pub same-ticks : ticks (e ∷ es) ≡ ticks es
@@ -544,33 +547,34 @@ module _ (e : Event) (es : List Event) (p : Passing e) where
 pub data Step (s : State) : Event → State → Type 0 where
   submits :
       (client deadline : ℕ) → SubmitReady client deadline s
-      → Step s (event (submit client deadline) (submitAccepted client deadline s .answer)) (submitAccepted client deadline s .after)
-  serves : TickReady s → Step s (event tick (tickAccepted (waiting s) s .answer)) (tickAccepted (waiting s) s .after)
+      → Step s (event (submit client deadline) (submitAccepted client deadline s .answers)) (submitAccepted client deadline s .after)
+  serves : TickReady s → Step s (event tick (tickAccepted (waiting s) s .answers)) (tickAccepted (waiting s) s .after)
   passes : (e : Event) → Passing e → Step s e s
 
 abbrev pub eventOf : Call → State → Event
-eventOf c s = event c (outcomeOf c s .answer)
+eventOf c s = event c (outcomeOf c s .answers)
 
-accepted-step : (c : Call) (s : State) → firstMatch (refusalsOf c s) ≡ 0 → isOpened (event c (acceptedOf c s .answer)) ≡ false
-    → Step s (event c (acceptedOf c s .answer)) (acceptedOf c s .after)
+accepted-step : (c : Call) (s : State) → firstMatch (refusalsOf c s) ≡ 0 → isOpened (event c (acceptedOf c s .answers)) ≡ false
+    → Step s (event c (acceptedOf c s .answers)) (acceptedOf c s .after)
 unfolding openAccepted reportAccepted chartAccepted
 accepted-step (opening setup) s e h = absurd (true≢false h)
 accepted-step (submit client deadline) s e h = submits client deadline (submit-ready client deadline s e)
 accepted-step tick s e h = serves (tick-ready s e)
 accepted-step (report client) s e h =
-    passes (event (report client) (reportAccepted client s .answer))
+    passes (event (report client) (reportAccepted client s .answers))
     (record { no-tick = refl; none-asked = λ t. refl; none-served = refl; none-dropped = refl })
 accepted-step (chart output) s e h =
-    passes (event (chart output) (chartAccepted s .answer))
+    passes (event (chart output) (chartAccepted s .answers))
     (record { no-tick = refl; none-asked = λ t. refl; none-served = refl; none-dropped = refl })
 
 pub step : (c : Call) (s : State) → isOpened (eventOf c s) ≡ false → Step s (eventOf c s) (outcomeOf c s .after)
 step c s = go (outcome-decided c s)
   where
-    go : {o : Outcome} → Decided (refusalsOf c s) s (acceptedOf c s) o → isOpened (event c (o .answer)) ≡ false
-        → Step s (event c (o .answer)) (o .after)
+    go : {o : Outcome} → Decided (refusalsOf c s) s (acceptedOf c s) o → isOpened (event c (o .answers)) ≡ false
+        → Step s (event c (o .answers)) (o .after)
     go (accepts e) h = accepted-step c s e h
-    go (refuses n) h = passes (event c (Refused (firstMatch (refusalsOf c s)))) (refused-passing c (firstMatch (refusalsOf c s)))
+    go (refuses n) h =
+        passes (refusedEvent c (firstMatch (refusalsOf c s))) (refused-passing c (firstMatch (refusalsOf c s)))
 
 pub traced-step : (s : State) (e : Event) (t : State) (es : List Event) → Step s e t → Traced es s → Traced (e ∷ es) t
 traced-step s e t es (submits client deadline r) T = traced-submit client deadline s es r T
@@ -602,16 +606,16 @@ module _ (P : List Event → State → Type 0)
 
 -- ---- from an accepted open on
 -- what holds of the outcome where open is accepted
-pub accepted-open : (P : Outcome → Type 0) (setup : Setup) (s : State) → isRefused (openOf setup s .answer) ≡ false
-    → (OpenReady setup s → P (openAccepted setup s)) → P (openOf setup s)
+pub accepted-open : (P : Outcome → Type 0) (setup : Setup) (s : State) → isRefused (outcomeOf (opening setup) s .answers) ≡ false
+    → (OpenReady setup s → P (openAccepted setup s)) → P (outcomeOf (opening setup) s)
 unfolding outcomeOf
 accepted-open P setup s a f =
     subst P (sym (accepted-same (opening setup) s a))
     (f (open-ready setup s (accepted-none (opening setup) s a)))
 
-pub traced : (setup : Setup) (s : State) (cs : List Call) → isRefused (openOf setup s .answer) ≡ false
-    → exists isOpened (history (openOf setup s .after) cs) ≡ false
-    → Traced (history (openOf setup s .after) cs) (run (openOf setup s .after) cs)
+pub traced : (setup : Setup) (s : State) (cs : List Call) → isRefused (outcomeOf (opening setup) s .answers) ≡ false
+    → exists isOpened (history (outcomeOf (opening setup) s .after) cs) ≡ false
+    → Traced (history (outcomeOf (opening setup) s .after) cs) (run (outcomeOf (opening setup) s .after) cs)
 traced setup s cs a h =
-    along (λ (es : List Event) (t : State). Unit {0}) (λ s e t es k T p. tt) (openOf setup s .after) cs h
+    along (λ (es : List Event) (t : State). Unit {0}) (λ s e t es k T p. tt) (outcomeOf (opening setup) s .after) cs h
     (accepted-open (λ (o : Outcome). Traced [] (o .after)) setup s a (traced-open setup s)) tt .0

@@ -4,9 +4,9 @@ use Rattle.walk.proofs.Prelude.{_∙_, ap, refl, [], _∷_, URA, w64, vint, SPr
 use Rattle.walk.proofs.Prelude.{drop, so, vars, relends, gives, passed-on, made, of-number, calls-for, given, mut-own}
 use Rattle.queue.proofs.Values.{a-reply}
 use Rattle.spec.specs.declared.types.Head.{Head}
-use Rattle.spec.specs.Calls.{chartOutput}
-use Rattle.spec.specs.Lists as lists
 use Rattle.spec.specs.Tables.{stateOf}
+use Rattle.spec.specs.Calls.Chart.{chartOutput}
+use Rattle.spec.specs.Calls.Call as calls
 use Rattle.table.proofs.Rows.{R}
 use Rattle.table.proofs.Heads.{the-head, a-head}
 use Rattle.walk.proofs.Prelude.{lent, shown, shown-one, lent-one}
@@ -35,7 +35,7 @@ module _ {M : Type 1} (𝓤 : URA M) (H : Heap 𝓤) (A : Atoms 𝓤) (W : Given
       -- numbers::write_values(values, reply)
       calls-for ! 𝓣 (4 ∷ []) (mut-one W values ∷ given W a-reply reply reply-is ∷ []) (of-number w64) (λ c. known-write-values) (λ c h. h) (id⊢ 𝓤 _) refl (λ c. vars ! (refl, (refl, tt))) (λ _. refl) (λ r last₃ told kept₃ r-is. gives ! refl refl $
       leaves (vint w64 r) r (last₂ .1 .1 .1 .0, (last₃ .0, tt)) (kept₂ .1 .1 .0, tt) (made W (of-number w64) r r-is)
-      (so 𝓤 (exports-read (lists.chart (output .list)) (head .held) (values .held) is-head (gave .0) told (chart-stays (output .list)), gave .1 ∙ ap (λ (x : Head). chartOutput (output .list) (stateOf x (waiting .list) (clients .list))) is-head)))))
+      (so 𝓤 (exports-read (calls.chart (output .list)) (head .held) (values .held) is-head (gave .0) told (chart-stays (output .list)), gave .1 ∙ ap (λ (x : Head). chartOutput (output .list) (stateOf x (waiting .list) (clients .list))) is-head)))))
 
 pub welsbell-chart-spec : {M : Type 1} → f.Statement.statement M
 unfolding f.Code.routine

@@ -3,7 +3,7 @@
 use Rattle.walk.proofs.Prelude.{refl, [], _∷_, URA, w64, vint, SProp, Memory, Routine, Heap, Tables, Atoms, Fun, Given, _$_, !, u32, tripleOf, id⊢}
 use Rattle.walk.proofs.Prelude.{drop, so, vars, relends, gives, made, of-number, of-nothing, calls-for, given, mut-own}
 use Rattle.queue.proofs.Values.{a-reply}
-use Rattle.spec.specs.Lists as lists
+use Rattle.spec.specs.Calls.Call as calls
 use Rattle.spec.specs.Tables.{setupOf}
 use Rattle.table.proofs.Rows.{R}
 use Rattle.table.proofs.Heads.{the-head, a-head, a-setup}
@@ -38,7 +38,7 @@ module _ {M : Type 1} (𝓤 : URA M) (H : Heap 𝓤) (A : Atoms 𝓤) (W : Given
       -- numbers::write_values(values, reply)
       calls-for ! 𝓣 (4 ∷ []) (mut-one W values ∷ given W a-reply reply reply-is ∷ []) (of-number w64) (λ c. known-write-values) (λ c h. h) (id⊢ 𝓤 _) refl (λ c. vars ! (refl, (refl, tt))) (λ _. refl) (λ r last₅ told kept₅ r-is. gives ! refl refl $
       leaves (vint w64 r) r (last₄ .0, (last₃ .1 .0, (last₃ .1 .1 .0, (last₅ .0, tt)))) (kept₃ .0, (kept₃ .1 .0, tt))
-      (made W (of-number w64) r r-is) (so 𝓤 (exports-given (lists.opening (setupOf (setup .held))) (head .held) (values .held) is-head (rw is-setup at gave) told (last₄ .0) headed)))))))
+      (made W (of-number w64) r r-is) (so 𝓤 (exports-given (calls.opening (setupOf (setup .held))) (head .held) (values .held) is-head (rw is-setup at gave) told (last₄ .0) headed)))))))
 
 pub welsbell-open-spec : {M : Type 1} → f.Statement.statement M
 unfolding f.Code.routine

@@ -3,7 +3,7 @@
 use Rattle.walk.proofs.Prelude.{refl, [], _∷_, URA, w64, vint, SProp, Memory, Routine, Heap, Tables, Atoms, Fun, Given, _$_, !, u32, tripleOf, id⊢}
 use Rattle.walk.proofs.Prelude.{drop, number, so, vars, gives, passed-on, made, of-number, calls-for, given}
 use Rattle.queue.proofs.Values.{a-reply}
-use Rattle.spec.specs.Lists as lists
+use Rattle.spec.specs.Calls.Call as calls
 use Rattle.table.proofs.Rows.{R}
 use Rattle.table.proofs.Heads.{the-head, a-head}
 use Rattle.walk.proofs.Prelude.{taken, shown, shown-one, lent-one}
@@ -30,7 +30,7 @@ module _ {M : Type 1} (𝓤 : URA M) (H : Heap 𝓤) (A : Atoms 𝓤) (W : Given
       relends-one ! values refl $
       -- numbers::write_values(values, reply)
       calls-for ! 𝓣 (3 ∷ []) (mut-one W values ∷ given W a-reply reply reply-is ∷ []) (of-number w64) (λ c. known-write-values) (λ c h. h) (id⊢ 𝓤 _) refl (λ c. vars ! (refl, (refl, tt))) (λ _. refl) (λ r last₃ told kept₃ r-is. gives ! refl refl $
-      leaves (vint w64 r) r (last₃ .0, tt) tt (made W (of-number w64) r r-is) (so 𝓤 (exports-read (lists.report client) (head .held) (values .held) is-head gave told (report-stays client))))))
+      leaves (vint w64 r) r (last₃ .0, tt) tt (made W (of-number w64) r r-is) (so 𝓤 (exports-read (calls.report client) (head .held) (values .held) is-head gave told (report-stays client))))))
 
 pub welsbell-report-spec : {M : Type 1} → f.Statement.statement M
 unfolding f.Code.routine

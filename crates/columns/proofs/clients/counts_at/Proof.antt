@@ -3,8 +3,7 @@ use mathlib.Core.Path.{sym}
 use native.Mathlib.Omega.{arith}
 use borrow.Author.Needs.{needs}
 use lib.ListN.{List·getD-eq-default}
-use Rattle.spec.specs.Tables.{zeroCounts}
-use Rattle.spec.specs.Tables.{recordsOf}
+use Rattle.spec.specs.Tables.{zeroCounts, recordsOf}
 use Rattle.spec.proofs.Laws.Layout.{length-records}
 use Rattle.columns.proofs.clients.counts_at.Statement.{statement}
 use Rattle.columns.proofs.clients.counts_at.Tie as tie

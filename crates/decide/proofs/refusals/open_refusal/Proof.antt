@@ -10,7 +10,8 @@ use lib.ListN.{length, length-replicate}
 use Rattle.spec.specs.Every.{isWithin}
 use Rattle.spec.specs.Tables.{mostRecords, zeroRequest, width, State}
 use Rattle.spec.specs.Setup.{firstMatch, setupRefusals}
-use Rattle.spec.specs.Refusals.{openRefusals, refusal4Open}
+use Rattle.spec.specs.Calls.Refusals.{refusal4Open}
+use Rattle.spec.specs.Calls.Open.{openRefusals}
 use Rattle.spec.proofs.Laws.Sound.{setup-none, setup-passes}
 use Rattle.decide.specs.Matches.{openTold, openMatch}
 use Rattle.decide.proofs.Matching.{match-here, match-only, match-first}

@@ -11,7 +11,7 @@ use Rattle.spec.specs.declared.types.Head.{Head}
 use Rattle.spec.specs.declared.types.Counts.{Counts}
 use Rattle.spec.specs.Tables.{mostAhead, numberEnd, zeroRequest, State}
 use Rattle.spec.specs.Setup.{firstMatch}
-use Rattle.spec.specs.Refusals.{refusal9, refusal10}
+use Rattle.spec.specs.Calls.Refusals.{refusal9, refusal10}
 use Rattle.decide.specs.Matches.{told, submitMatch}
 use Rattle.decide.proofs.Matching.{tables-match, match-here, match-next, match-only, early7, late7, own6, own7, own8}
 use Rattle.decide.proofs.Matching.{after8}

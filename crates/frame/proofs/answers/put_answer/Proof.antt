@@ -1,6 +1,6 @@
 -- `frame::answers::put_answer` meets its contract. Assumes nothing.
 use borrow.Author.Needs.{needs}
-use Rattle.spec.specs.Frames.{kindOf, valuesOf}
+use Rattle.spec.specs.Calls.Readings.{kindOf, valuesOf}
 use Rattle.frame.proofs.Written.{put-ends}
 use Rattle.frame.proofs.answers.put_answer.Statement.{statement}
 use Rattle.frame.proofs.answers.put_answer.Tie as tie
@@ -57,7 +57,6 @@ same-length : tie.Need-same-length
 same-length c = search needs
 
 returns : tie.Need-returns
-unfolding kindOf valuesOf
 returns c =
     let told = c .before .before .before .before .enum-told .given .1 in
     put-ends _ _ _ _ _ _ (search needs) (search needs) (search needs) (rw told (c .before .before .put-kind .ensures .1))
@@ -66,7 +65,6 @@ same-length-2 : tie.Need-same-length-2
 same-length-2 c = search needs
 
 returns-2 : tie.Need-returns-2
-unfolding kindOf valuesOf
 returns-2 c =
     let told = c .before .before .before .before .before .answer .given .1 in
     put-ends _ _ _ _ _ _ (search needs) (search needs) (search needs) (rw told (c .before .before .put-pair .ensures .1))
@@ -75,7 +73,6 @@ same-length-3 : tie.Need-same-length-3
 same-length-3 c = search needs
 
 returns-3 : tie.Need-returns-3
-unfolding kindOf valuesOf
 returns-3 c =
     let told = c .before .before .before .before .before .answer2 .given .1 in
     put-ends _ _ _ _ _ _ (search needs) (search needs) (search needs) (rw told (c .before .before .put-triple .ensures .1))
@@ -84,7 +81,6 @@ same-length-4 : tie.Need-same-length-4
 same-length-4 c = search needs
 
 returns-4 : tie.Need-returns-4
-unfolding kindOf valuesOf
 returns-4 c =
     let told = c .before .before .before .before .before .answer3 .given .1 in
     put-ends _ _ _ _ _ _ (search needs) (search needs) (search needs) (rw told (c .before .before .put-triple2 .ensures .1))
@@ -93,7 +89,6 @@ same-length-5 : tie.Need-same-length-5
 same-length-5 c = search needs
 
 returns-5 : tie.Need-returns-5
-unfolding kindOf valuesOf
 returns-5 c =
     let told = c .before .before .before .before .before .answer4 .given .1 in
     put-ends _ _ _ _ _ _ (search needs) (search needs) (search needs) (rw told (c .before .before .put-value .ensures .1))
@@ -102,7 +97,6 @@ same-length-6 : tie.Need-same-length-6
 same-length-6 c = search needs
 
 returns-6 : tie.Need-returns-6
-unfolding kindOf valuesOf
 returns-6 c =
     let told = c .before .before .before .before .before .answer5 .given .1 in
     put-ends _ _ _ _ _ _ (search needs) (search needs) (search needs) (rw told (c .before .before .put-report .ensures .1))
@@ -111,7 +105,6 @@ same-length-7 : tie.Need-same-length-7
 same-length-7 c = search needs
 
 returns-7 : tie.Need-returns-7
-unfolding kindOf valuesOf
 returns-7 c =
     let told = c .before .before .before .before .before .answer6 .given .1 in
     put-ends _ _ _ _ _ _ (search needs) (search needs) (search needs) (rw told (c .before .before .put-value2 .ensures .1))
@@ -120,7 +113,6 @@ same-length-8 : tie.Need-same-length-8
 same-length-8 c = search needs
 
 returns-8 : tie.Need-returns-8
-unfolding kindOf valuesOf
 returns-8 c =
     let told = c .before .before .before .before .before .answer7 .given .1 in
     put-ends _ _ _ _ _ _ (search needs) (search needs) (search needs) (rw told (c .before .before .put-value3 .ensures .1))

@@ -3,7 +3,8 @@ use mathlib.Core.List.{[], _∷_}
 use borrow.Author.Needs.{needs}
 use lib.ListN.{length, take}
 use Rattle.spec.specs.Chart.{segmentsOf}
-use Rattle.spec.specs.Frames.{field, lineOf, segmentLines}
+use Rattle.spec.specs.Calls.Readings.{field}
+use Rattle.spec.specs.Lines.Frames.{lineOf, segmentLines}
 use Rattle.frame.proofs.Written.{joined}
 use Rattle.frame.proofs.answers.put_chart.Statement.{statement}
 use Rattle.frame.proofs.answers.put_chart.Tie as tie

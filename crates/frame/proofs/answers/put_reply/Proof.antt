@@ -1,7 +1,6 @@
 -- `frame::answers::put_reply` meets its contract. Assumes nothing.
 use native.Mathlib.Omega.{arith}
 use borrow.Author.Needs.{needs}
-use Rattle.frame.specs.Written.{replyBytes}
 use Rattle.frame.proofs.Written.{put-ends, line-alone}
 use Rattle.frame.proofs.answers.put_reply.Statement.{statement}
 use Rattle.frame.proofs.answers.put_reply.Tie as tie
@@ -22,7 +21,6 @@ same-length : tie.Need-same-length
 same-length c = search needs
 
 returns : tie.Need-returns
-unfolding replyBytes
 returns c =
     let arm = c .before .before .before .before .before in
     let told = arm .answer .given .1 in

@@ -7,7 +7,8 @@ use native.Mathlib.Omega.{arith}
 use borrow.Author.Needs.{needs}
 use lib.ListN.{length, take, drop}
 use Rattle.spec.specs.Chart.{segmentsOf}
-use Rattle.spec.specs.Frames.{segmentLines}
+use Rattle.spec.specs.Lines.Frames.{segmentLines}
+use Rattle.frame.specs.Written.{segmentLength}
 use Rattle.frame.proofs.Written.{segment-put, segments-end}
 use Rattle.frame.proofs.answers.put_segments.Statement.{statement}
 use Rattle.frame.proofs.answers.put_segments.Tie as tie
@@ -17,7 +18,7 @@ Inv-loop setup out₀ at starts n end₀ count₀ i₀ out end count i =
     (i ≤ n)
     × (length out ≡ length out₀)
     × (at ≤ end)
-    × (end ≤ at + 35 * i)
+    × (end ≤ at + segmentLength * i)
     × (count ≤ i)
     × (count + length (segmentsOf setup (drop i (take n starts))) ≡ length (segmentsOf setup (take n starts)))
     × (take end out ++ segmentLines (segmentsOf setup (drop i (take n starts)))

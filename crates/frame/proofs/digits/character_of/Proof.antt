@@ -5,7 +5,7 @@ use mathlib.Core.Path.{_≡_, refl}
 use borrow.Author.Needs.{needs}
 use borrow.Author.Tests.{ltb-true, ltb-false}
 use lib.Dec.{ltb}
-use Rattle.spec.specs.Frames.{characterOf}
+use Rattle.spec.specs.Lines.Frames.{characterOf}
 use Rattle.frame.proofs.digits.character_of.Statement.{statement}
 use Rattle.frame.proofs.digits.character_of.Tie as tie
 

@@ -9,10 +9,10 @@ use borrow.Author.Needs.{needs}
 use borrow.Author.Tests.{not-true, not-false}
 use lib.ListN.{length}
 use Rattle.spec.specs.Every.{every}
-use Rattle.spec.specs.Frames.{isDigit, fieldAt, frameOf}
+use Rattle.spec.specs.Lines.Frames.{isDigit, fieldAt, frameOf}
 use Rattle.frame.specs.declared.frames.Kind.{Kind}
 use Rattle.frame.specs.Digits.{digitTable}
-use Rattle.frame.specs.Kinds.{kindOf}
+use Rattle.frame.specs.Kinds.{kindBy}
 use Rattle.frame.proofs.Framing.{lengthOf, frameAs, kind-length, frame-digits, frame-other, frame-length}
 use Rattle.frame.proofs.frames.frame_of.Statement.{statement}
 use Rattle.frame.proofs.frames.frame_of.Tie as tie
@@ -54,7 +54,7 @@ kind-of-requires c κs = search needs
 
 -- .. and at a kind, which gives the length and the frame
 module _ (c : tie.After-kind-of) {x : Kind} (e : c .kind-of .result ≡ x) where
-  is-kind : kindOf (fieldAt 0 1 (line (c .before .before))) (length (line (c .before .before))) ≡ x
+  is-kind : kindBy (fieldAt 0 1 (line (c .before .before))) (length (line (c .before .before))) ≡ x
   is-kind = rw (← c .before .field-at .ensures) (sym (c .kind-of .ensures) ∙ e)
 
   can-read-at : {end width : ℕ} → end ≤ lengthOf x (length (line (c .before .before))) → width ≤ 8

@@ -7,7 +7,7 @@ use native.Mathlib.Nat.{eq-or-lt-of-le}
 use native.Mathlib.Omega.{arith}
 use lib.ListN.{length, getD}
 use borrow.Author.Needs.{needs}
-use Rattle.spec.specs.Frames.{lineFeed}
+use Rattle.spec.specs.Lines.Frames.{lineFeed}
 use Rattle.frame.specs.Lines.{NoFeed}
 use Rattle.frame.proofs.lines.behind.Statement.{statement}
 use Rattle.frame.proofs.lines.behind.Tie as tie

@@ -1,7 +1,7 @@
 -- `search::victim::has_smaller_ratio` meets its contract. Assumes nothing.
 use native.Mathlib.Omega.{arith}
 use borrow.Author.Needs.{needs}
-use Rattle.spec.specs.Victim.{hasSmallerRatio}
+use Rattle.spec.specs.Chart.{hasSmallerRatio}
 use Rattle.search.proofs.Counted.{product-fits}
 use Rattle.search.proofs.victim.has_smaller_ratio.Statement.{statement}
 use Rattle.search.proofs.victim.has_smaller_ratio.Tie as tie

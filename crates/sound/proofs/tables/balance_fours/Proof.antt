@@ -6,8 +6,8 @@ use native.Mathlib.Omega.{arith}
 use borrow.Author.Tests.{leb-true, leb-false}
 use denote.Ref.{now}
 use lib.Dec.{leb}
-use Rattle.spec.specs.Tables.{recordsOf}
 use Rattle.spec.specs.Every.{everyFrom}
+use Rattle.spec.specs.Tables.{recordsOf}
 use Rattle.spec.proofs.Laws.Every.{and-left, and-right}
 use Rattle.columns.proofs.Laws.{rest-none}
 use Rattle.sound.specs.Checks.{talliedOf, doesBalance, areBalancedFrom}

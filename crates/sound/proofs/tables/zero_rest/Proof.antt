@@ -5,8 +5,8 @@ use lib.ListN.{drop as dropN}
 use Rattle.walk.proofs.Prelude.{refl, Bool, true, _&&_, ℕ, _+_, _-_, lt-of-le-of-lt, arith, add-one-le, add-one-dec, List, [], _∷_, length, getD, take-all, URA, w64, vbool, vint, SProp, id⊢, emp, Memory, Routine, Heap, Tables, Atoms, Fun, Given, _$_, !, of-opd, bool, tripleOf}
 use Rattle.walk.proofs.Prelude.{shown, taken, so, Shape, Walk, drop, var, vars, field-var, gives, tests, fit, of-flag, iterates, proved, sets, copies, computes, adds-last, calls-giving, made, of-number}
 use Rattle.spec.specs.declared.types.Request.{Request}
-use Rattle.spec.specs.Tables.{zeroRequest}
 use Rattle.spec.specs.Every.{every}
+use Rattle.spec.specs.Tables.{zeroRequest}
 use Rattle.spec.specs.Sound.{isZeroRequest}
 use Rattle.table.proofs.Rows.{R, request}
 use Rattle.table.proofs.get as get

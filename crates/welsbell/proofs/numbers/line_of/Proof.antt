@@ -1,7 +1,7 @@
 -- `welsbell::numbers::line_of` meets its contract. Assumes nothing.
 use mathlib.Core.Path.{refl}
 use borrow.Author.Needs.{needs}
-use Rattle.spec.specs.Frames.{kindOf, valuesOf}
+use Rattle.spec.specs.Calls.Readings.{kindOf, valuesOf}
 use Rattle.welsbell.specs.Numbers.{valueNumbers}
 use Rattle.welsbell.proofs.numbers.line_of.Statement.{statement}
 use Rattle.welsbell.proofs.numbers.line_of.Tie as tie
@@ -55,35 +55,35 @@ new-requires-8 : tie.Need-new-requires-8
 new-requires-8 c κs = search needs
 
 returns : tie.Need-returns
-unfolding kindOf valuesOf valueNumbers
+unfolding valueNumbers
 returns c = rw (c .new .ensures, c .before .enum-told .given .1) (refl, refl, search needs)
 
 returns-2 : tie.Need-returns-2
-unfolding kindOf valuesOf valueNumbers
+unfolding valueNumbers
 returns-2 c = rw (c .new2 .ensures, c .before .before .answer .given .1) (refl, refl, search needs)
 
 returns-3 : tie.Need-returns-3
-unfolding kindOf valuesOf valueNumbers
+unfolding valueNumbers
 returns-3 c = rw (c .new3 .ensures, c .before .before .answer2 .given .1) (refl, refl, search needs)
 
 returns-4 : tie.Need-returns-4
-unfolding kindOf valuesOf valueNumbers
+unfolding valueNumbers
 returns-4 c = rw (c .new4 .ensures, c .before .before .answer3 .given .1) (refl, refl, search needs)
 
 returns-5 : tie.Need-returns-5
-unfolding kindOf valuesOf valueNumbers
+unfolding valueNumbers
 returns-5 c = rw (c .new5 .ensures, c .before .before .answer4 .given .1) (refl, refl, search needs)
 
 returns-6 : tie.Need-returns-6
-unfolding kindOf valuesOf valueNumbers
+unfolding valueNumbers
 returns-6 c = rw (c .new6 .ensures, c .before .before .answer5 .given .1) (refl, refl, search needs)
 
 returns-7 : tie.Need-returns-7
-unfolding kindOf valuesOf valueNumbers
+unfolding valueNumbers
 returns-7 c = rw (c .new7 .ensures, c .before .before .answer6 .given .1) (refl, refl, search needs)
 
 returns-8 : tie.Need-returns-8
-unfolding kindOf valuesOf valueNumbers
+unfolding valueNumbers
 returns-8 c = rw (c .new8 .ensures, c .before .before .answer7 .given .1) (refl, refl, search needs)
 
 pub line-of-spec : {M : Type 1} → statement M

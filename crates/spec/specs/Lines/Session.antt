@@ -3,16 +3,16 @@ use Prim.Native.Nat.{ℕ}
 use mathlib.Core.Bool.{cond}
 use mathlib.Core.List.{List, [], _∷_, _++_}
 use lib.Dec.{eqb}
-use lib.ListN.{length, take, replicate}
-use Rattle.spec.specs.declared.types.Answer.{Answer}
+use lib.ListN.{replicate}
 use Rattle.spec.specs.declared.types.Answer.the-variants.{Refused}
 use Rattle.spec.specs.declared.types.Frame.{Frame}
 use Rattle.spec.specs.declared.types.Frame.the-variants.{Open, Submit, Tick, Report, Chart, Bad}
+use Rattle.spec.specs.Every.{gather, firstOr}
 use Rattle.spec.specs.Tables.{mostRecords, zeroSetup, zeroRequest, zeroCounts, openHead, State, numbersOf}
-use Rattle.spec.specs.Chart.{Segment, segmentsOf}
-use Rattle.spec.specs.Calls.{Outcome, openOf, submitOf, tickOf, reportOf, chartOf, chartOutput}
-use Rattle.spec.specs.Lists.{isRefused}
-use Rattle.spec.specs.Frames.{lineFeed, frameOf, field, kindOf, lineOf, answerLine, segmentLines}
+use Rattle.spec.specs.Calls.Readings.{isRefused}
+use Rattle.spec.specs.Calls.Outcome.{Outcome, refusing}
+use Rattle.spec.specs.Calls.Call.{Call, opening, submit, tick, report, chart, meaning, outcomeOf}
+use Rattle.spec.specs.Lines.Frames.{lineFeed, frameOf, answerLine, answerLines}
 
 -- ---- lines
 -- the lines that a line feed ends, in order, and the characters behind the last line feed
@@ -32,7 +32,40 @@ unfoldable pub textOf : List ℕ → Text
 textOf [] = record { lines = []; rest = [] }
 textOf (b ∷ bs) = read b (textOf bs)
 
--- ---- one frame
+-- ---- what a line asks for
+-- lengths of tables: waiting records, and clients
+pub record Lengths : Type 0 where
+  pub records : ℕ
+  pub clients : ℕ
+
+-- the call that a line asks for, where a chart's output is the one given, none where it is no frame; and the lengths that an open names
+pub record Task : Type 0 where
+  pub calls : List ℕ → List Call
+  pub named : List Lengths
+
+abbrev pub taskBy : (List ℕ → List Call) → Task
+taskBy calls = record { calls = calls; named = [] }
+
+abbrev pub task : Frame → Task
+task (Open setup records) =
+    record { calls = λ output. opening setup ∷ []; named = record { records = records; clients = setup .clients } ∷ [] }
+task (Submit client deadline) = taskBy (λ output. submit client deadline ∷ [])
+task Tick = taskBy (λ output. tick ∷ [])
+task (Report client) = taskBy (λ output. report client ∷ [])
+task Chart = taskBy (λ output. chart output ∷ [])
+task Bad = taskBy (λ output. [])
+
+-- what the call gives; "refusal 1" where there is none
+abbrev pub outcomeBy : List Call → State → Outcome
+outcomeBy [] s = refusing 1 s
+outcomeBy (c ∷ cs) s = outcomeOf c s
+
+-- the output after it, which only a chart changes
+abbrev pub outputBy : List Call → List ℕ → State → List ℕ
+outputBy [] output s = output
+outputBy (c ∷ cs) output s = firstOr output (meaning c .outputs s)
+
+-- ---- one line
 -- "Before an accepted open the two tables have no records"
 unfoldable pub atStart : State
 atStart =
@@ -44,12 +77,13 @@ atStart =
 
 -- "lends the first part that open names, and of 256 client records as many as open names clients; an open naming more waiting
 -- records gets refusal 4 in its place": open gets tables of these lengths; what they held does not matter to it
-abbrev pub lent : ℕ → ℕ → State → State
-lent clients records s =
+abbrev pub lent : List Lengths → State → State
+lent [] s = s
+lent (l ∷ ls) s =
     record {
       head = s .head;
-      waitingTable = replicate records zeroRequest;
-      clientNumbers = numbersOf (replicate clients zeroCounts);
+      waitingTable = replicate (l .records) zeroRequest;
+      clientNumbers = numbersOf (replicate (l .clients) zeroCounts);
     }
 
 -- the bytes that a line is answered, and the state after it
@@ -57,33 +91,23 @@ pub record Reply : Type 0 where
   pub bytes : List ℕ
   pub after : State
 
-abbrev pub replyOf : Outcome → Reply
-replyOf o = record { bytes = answerLine (o .answer); after = o .after }
-
--- "An accepted open starts a new session."; a refused one leaves the session as it was
-abbrev pub openReply : State → Outcome → Reply
-openReply s o = record { bytes = answerLine (o .answer); after = cond (isRefused (o .answer)) s (o .after) }
-
--- "87 segment, .. one line each from the left, then 88, segment count (2)"; a refused chart has its refusal alone
-abbrev pub chartBytes : List Segment → Answer → List ℕ
-chartBytes gs a =
-    cond (isRefused a) (answerLine a) (segmentLines gs ++ lineOf (kindOf a) (field 2 (length gs) ∷ []))
+-- "An accepted open starts a new session."; a refused call leaves the session as it was
+abbrev pub replyOf : State → Outcome → List ℕ → Reply
+replyOf s o output =
+    record {
+      bytes = gather (answerLines (o .after .head .setup) output) (o .answers);
+      after = cond (isRefused (o .answers)) s (o .after);
+    }
 
 -- the chart's output table in a session: as long as a waiting table can be
 abbrev pub blank : List ℕ
 blank = replicate mostRecords 0
 
 unfoldable pub reply : Frame → State → Reply
-reply (Open setup records) s = openReply s (openOf setup (lent (setup .clients) records s))
-reply (Submit client deadline) s = replyOf (submitOf client deadline s)
-reply Tick s = replyOf (tickOf s)
-reply (Report client) s = replyOf (reportOf client s)
-reply Chart s =
-    record {
-      bytes = chartBytes (segmentsOf (s .head .setup) (take (s .head .waiting) (chartOutput blank s))) (chartOf blank s .answer);
-      after = s;
-    }
-reply Bad s = record { bytes = answerLine (Refused 1); after = s }
+reply frame s =
+    let calls = task frame .calls blank in
+    let t = lent (task frame .named) s in
+    replyOf s (outcomeBy calls t) (outputBy calls blank t)
 
 -- ---- the whole session
 -- each line's answer in turn

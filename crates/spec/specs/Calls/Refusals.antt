@@ -1,14 +1,13 @@
--- The refusals from 4 on, and each call's list of refusals: document 01, "Refusals, first match wins". Those of a setup, 2 and 3, stand
--- in `Setup`. Assumes nothing.
+-- The refusals from 4 on: document 01, "Refusals, first match wins". Those of a setup, 2 and 3, stand in `Setup`, and each call's own
+-- list of refusals in its file. Assumes nothing.
 use Prim.Native.Nat.{ℕ, _*_}
 use mathlib.Core.Bool.{Bool, not, _||_}
-use mathlib.Core.List.{List, [], _∷_, _++_}
+use mathlib.Core.List.{List}
 use lib.Dec.{ltb, eqb}
 use lib.ListN.{length, getD}
-use Rattle.spec.specs.declared.types.Setup.{Setup}
 use Rattle.spec.specs.Every.{isWithin}
 use Rattle.spec.specs.Tables.{mostRecords, mostCounted, clockEnd, numberEnd, zeroCounts, State, clientTable, width}
-use Rattle.spec.specs.Setup.{Refusal, setupRefusals}
+use Rattle.spec.specs.Setup.{Refusal}
 use Rattle.spec.specs.Sound.{isAhead, isClient, isSound}
 
 -- "4. All calls: the waiting table has no records or more than 2,048, or the client table's length differs from the number of
@@ -56,27 +55,3 @@ refusal11 s = record { number = 11; holds = eqb (s .head .clock) clockEnd }
 -- "12. Chart: the output is shorter than the waiting count."
 abbrev pub refusal12 : List ℕ → State → Refusal
 refusal12 output s = record { number = 12; holds = ltb (length output) (s .head .waiting) }
-
--- each call's list, in the paper's order
-unfoldable pub openRefusals : Setup → State → List Refusal
-openRefusals setup s = setupRefusals setup ++ (refusal4Open (setup .clients) s ∷ [])
-
-unfoldable pub submitRefusals : ℕ → ℕ → State → List Refusal
-submitRefusals client deadline s =
-    refusal4 s
-    ∷ refusal5 s
-    ∷ refusal6 client s
-    ∷ refusal7 deadline s
-    ∷ refusal8 client s
-    ∷ refusal9 s
-    ∷ refusal10 s
-    ∷ []
-
-unfoldable pub tickRefusals : State → List Refusal
-tickRefusals s = refusal4 s ∷ refusal5 s ∷ refusal11 s ∷ []
-
-unfoldable pub reportRefusals : ℕ → State → List Refusal
-reportRefusals client s = refusal4 s ∷ refusal5 s ∷ refusal6 client s ∷ []
-
-unfoldable pub chartRefusals : List ℕ → State → List Refusal
-chartRefusals output s = refusal4 s ∷ refusal5 s ∷ refusal12 output s ∷ []

@@ -1,0 +1,4 @@
+-- Document 01, "Session lines".
+pub mod Frames
+pub mod Session
+pub mod Printed
