@@ -20,8 +20,8 @@ use Rattle.spec.specs.Calls.Chart.{chartRefusals, chartOutput}
 use Rattle.spec.specs.Calls.Call.{outcomeOf, submit, tick}
 use Rattle.spec.proofs.Laws.Accepted.{chart-ready, waiting-length}
 use Rattle.spec.proofs.Calls.Refused.{Written, untouched, written, output-written, length-starts}
-use Rattle.columns.specs.Charted.{startSlots}
-use Rattle.columns.proofs.Drawing.{starts-column}
+use Rattle.chart.specs.Charted.{startSlots}
+use Rattle.chart.proofs.Drawing.{starts-column}
 use Rattle.decide.specs.declared.types.Decision.{Decision}
 use Rattle.decide.specs.declared.types.Decision.the-variants.{Refuse, Keep, Drop, Serve, Idle}
 use Rattle.decide.specs.Decisions.{unless, submitChoice, submitDecision, tickChoice, tickDecision}

@@ -15,7 +15,7 @@ use Rattle.spec.specs.Setup.{Refusal, firstMatch}
 use Rattle.spec.specs.Calls.Submit.{submitRefusals}
 use Rattle.spec.specs.Calls.Tick.{tickRefusals}
 use Rattle.spec.proofs.Laws.Accepted.{SubmitReady, waiting-length, tick-ready}
-use Rattle.columns.specs.Widths.{largest32}
+use Rattle.table.specs.Widths.{largest32}
 use Rattle.decide.specs.declared.types.Decision.the-variants.{Refuse, Serve, Idle}
 use Rattle.decide.specs.Decisions.{submitChoice, submitDecision, tickChoice, tickDecision, tickBy}
 

@@ -15,7 +15,7 @@ use Rattle.spec.specs.Order.{placeOf}
 use Rattle.spec.specs.Chart.{dueBy, hasNoOverfull}
 use Rattle.spec.specs.Calls.Submit.{submitRefusals, newRequest, withNew, victimPlace}
 use Rattle.spec.specs.Calls.Tick.{tickRefusals}
-use Rattle.search.specs.Scans.{overfullFrom, latestOf, putAt, smallestRatioPlace}
+use Rattle.chart.specs.Scans.{overfullFrom, latestOf, putAt, smallestRatioPlace}
 use Rattle.decide.specs.declared.types.Decision.{Decision}
 use Rattle.decide.specs.declared.types.Decision.the-variants.{Refuse, Keep, Drop, Serve, Idle}
 

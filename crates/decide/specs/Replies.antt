@@ -15,9 +15,9 @@ use Rattle.spec.specs.declared.types.Answer.the-variants.{Opened, Kept, Dropped
 use Rattle.spec.specs.Tables.{zeroRequest, openHead}
 use Rattle.spec.specs.Order.{insertAt, removeAt}
 use Rattle.spec.specs.Calls.Outcome.{Outcome}
-use Rattle.columns.specs.Widths.{largest64}
-use Rattle.columns.specs.declared.clients.Count.the-variants as count
-use Rattle.columns.specs.Clients.{changedAt, oneMoreUnlessFull, waitingCount, restartedNumbers}
+use Rattle.table.specs.Widths.{largest64}
+use Rattle.table.specs.declared.clients.Count.the-variants as count
+use Rattle.table.specs.Clients.{changedAt, oneMoreUnlessFull, waitingCount, restartedNumbers}
 use Rattle.table.specs.Records.{areIn, inserted}
 use Rattle.decide.specs.declared.types.Decision.{Decision}
 use Rattle.decide.specs.declared.types.Decision.the-variants.{Refuse, Keep, Drop, Serve, Idle}

@@ -1,13 +1,13 @@
 // What a submit and a tick have to do, from the refusal that was found, from what the searches found, and the head.
 use crate::types::Decision;
-use search::victim;
+use chart::victim;
 use spec::types::Head;
 ghost use mathlib.Core.Path.{_≡_};
 ghost use Prim.Native.Nat.{_≤_, _<_};
 ghost use lib.ListN.{length, getD};
 ghost use Rattle.spec.specs.Tables.{zeroCounts, recordsOf};
-ghost use Rattle.columns.specs.Widths.{largest32};
-ghost use Rattle.search.specs.Scans.{countsWith};
+ghost use Rattle.table.specs.Widths.{largest32};
+ghost use Rattle.chart.specs.Scans.{countsWith};
 ghost use Rattle.decide.specs.declared.types.Decision.the-variants.{Refuse};
 ghost use Rattle.decide.specs.Decisions.{choiceBy, tickBy};
 

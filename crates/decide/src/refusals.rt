@@ -1,10 +1,10 @@
 // The refusals, first match wins: each function gives the number of the first that matches, or 0. `tables` is what the tables
 // call for, 4 or 5 or 0, however it was found: refusals 4 and 5 stand first in every list but open's.
-use columns::clients;
 use sound::record;
 use spec::bounds;
 use spec::types::Head;
 use spec::types::Setup;
+use table::clients;
 ghost use mathlib.Core.Path.{_≡_};
 ghost use Rattle.decide.specs.Matches.{openMatch, submitMatch, tickMatch, reportMatch, chartMatch};
 

@@ -3,18 +3,18 @@
 use crate::edits;
 use crate::types::Decision;
 use crate::types::Reply;
-use columns::clients;
-use columns::clients::Count;
-use columns::period;
 use spec::types::Answer;
 use spec::types::Head;
 use spec::types::Request;
 use spec::types::Setup;
+use table::clients;
+use table::clients::Count;
+use table::period;
 ghost use mathlib.Core.Path.{_≡_};
 ghost use Prim.Native.Nat.{_-_};
 ghost use lib.ListN.{getD};
 ghost use Rattle.spec.specs.Tables.{zeroCounts, recordsOf};
-ghost use Rattle.columns.specs.Clients.{restartedNumbers};
+ghost use Rattle.table.specs.Clients.{restartedNumbers};
 ghost use Rattle.decide.specs.Replies.{raised, refusedWith, numberedHead, keptWith, droppedWith, laterHead, openReply};
 ghost use Rattle.decide.specs.Replies.{openNumbers, submitReply, submitNumbers, tickReply, tickNumbers, reportReply, chartReply};
 

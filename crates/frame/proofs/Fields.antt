@@ -12,7 +12,7 @@ use lib.Seq.{drop-cons, append-snoc, take-add, drop-at, length-take-le, take-set
 use Rattle.spec.specs.Every.{every}
 use Rattle.spec.specs.Lines.Frames.{digitOf, isDigit, characterOf, numberFrom, fieldAt, digits}
 use Rattle.spec.proofs.Laws.Every.{all-at, every-facts}
-use Rattle.columns.proofs.Laws.{rest-cons, rest-none}
+use Rattle.table.proofs.Rest.{rest-cons, rest-none}
 use Rattle.frame.specs.Digits.{valuesFrom, digitTable}
 
 -- ---- the table

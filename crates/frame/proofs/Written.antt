@@ -13,9 +13,9 @@ use Rattle.spec.specs.declared.types.Answer.the-variants.{Opened, Kept, Dropped
 use Rattle.spec.specs.Chart.{Segment, segmentsOf}
 use Rattle.spec.specs.Calls.Readings.{Field, field}
 use Rattle.spec.specs.Lines.Frames.{lineFeed, digits, fieldDigits, lineOf, answerLine, segmentLines, answerLines}
-use Rattle.columns.specs.Charted.{segment}
+use Rattle.chart.specs.Charted.{segment}
 use Rattle.spec.proofs.types.Answer.{the-type}
-use Rattle.columns.proofs.Laws.{rest-none}
+use Rattle.table.proofs.Rest.{rest-none}
 
 -- ---- lines
 -- a part behind a part

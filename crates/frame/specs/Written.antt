@@ -9,7 +9,7 @@ use Rattle.spec.specs.Tables.{mostRecords}
 use Rattle.spec.specs.Calls.Readings.{reading, valuesOf}
 use Rattle.spec.specs.Lines.Frames.{lineLength, segmentFields, countFields}
 use Rattle.spec.specs.Lines.Printed.{shown}
-use Rattle.columns.specs.Widths.{largest64}
+use Rattle.table.specs.Widths.{largest64}
 
 -- a segment's line, and their count's
 abbrev pub segmentLength : ℕ

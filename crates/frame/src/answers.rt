@@ -1,7 +1,7 @@
 // The lines that answer a frame, appended to an output: each function writes behind the first `at` characters and hands back where
 // its line ends.
 use crate::digits;
-use columns::chart;
+use chart::segments;
 use spec::bounds::MOST_RECORDS;
 use spec::types::Answer;
 use spec::types::Setup;
@@ -12,7 +12,7 @@ ghost use lib.ListN.{length, getD, take};
 ghost use Rattle.spec.specs.Chart.{segmentsOf};
 ghost use Rattle.spec.specs.Calls.Readings.{field, valuesOf};
 ghost use Rattle.spec.specs.Lines.Frames.{lineFeed, lineOf, answerLine, segmentLines, lineLength, answerLines, chartLines};
-ghost use Rattle.columns.specs.Widths.{largest64};
+ghost use Rattle.table.specs.Widths.{largest64};
 ghost use Rattle.spec.specs.declared.types.Answer.the-variants.{Reported};
 ghost use Rattle.frame.specs.Written.{segmentLength, countLength, longestLine, mostBytes, CanDraw};
 
@@ -149,7 +149,7 @@ fn put_segments(setup: Setup, out: &mut [u8], at: usize, starts: &[u64], n: usiz
     let mut count: u64 = 0;
     let mut i = 0;
     while i < n {
-        let run = chart::segment_at(setup, starts, n, i);
+        let run = segments::segment_at(setup, starts, n, i);
         end = put_pair(out, end, 0x87, run.left, 8, run.right);
         count += 1;
         i = run.next;

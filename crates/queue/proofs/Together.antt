@@ -24,8 +24,8 @@ use Rattle.spec.specs.Calls.Call.{Call, opening, submit, tick, report, chart, o
 use Rattle.spec.proofs.Laws.Accepted.{Decided as Settled, accepts, refuses as declines, decided as settled}
 use Rattle.spec.proofs.Laws.Accepted.{ChartReady, chart-ready}
 use Rattle.spec.proofs.Calls.Refused.{Written, untouched, written, output-written}
-use Rattle.columns.specs.Widths.{largest64}
-use Rattle.columns.specs.Charted.{startSlots}
+use Rattle.table.specs.Widths.{largest64}
+use Rattle.chart.specs.Charted.{startSlots}
 use Rattle.table.specs.Records.{removed, removedOut}
 use Rattle.sound.specs.Checks.{tablesRefusal}
 use Rattle.decide.specs.declared.types.Reply.{Reply}

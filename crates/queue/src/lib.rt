@@ -1,19 +1,21 @@
 // The recorder's read queue: five calls over the head, by value, and lent tables. Nothing is asked of the caller: where tables
 // or arguments are not as they should be the call is refused by its number, and head, tables and output stay as they were.
-use columns::chart;
-use columns::rows;
+use chart::overfull;
+use chart::room;
+use chart::starts;
+use chart::victim;
 use decide::calls;
 use decide::edits;
 use decide::refusals;
 use decide::replies;
 use decide::types::Decision;
 use decide::types::Reply;
-use search::records;
 use sound::check;
 use spec::bounds::MOST_CLIENTS;
 use spec::types::Head;
 use spec::types::Request;
 use spec::types::Setup;
+use table::waiting;
 ghost use mathlib.Core.Path.{_≡_};
 ghost use Rattle.spec.specs.Tables.{stateOf};
 ghost use Rattle.spec.specs.Setup.{firstMatch};
@@ -32,7 +34,7 @@ pub fn open(head: Head, waiting: &mut [Request], clients: &mut [u32], setup: Set
 {
     let refusal = refusals::open_refusal(setup, waiting.len(), clients.len());
     let cleared = edits::unless_refused(refusal, waiting.len() as u64);
-    table::clear(waiting, cleared);
+    waiting::clear(waiting, cleared);
     replies::open_reply(head, clients, refusal, setup)
 }
 
@@ -52,14 +54,14 @@ fn accepted_decision(
 {
     let mut latest = [0u16; MOST_CLIENTS];
     let n = head.waiting as usize;
-    let place = records::due_by(waiting, n, deadline);
-    let found = records::first_overfull(head, waiting, n, place, deadline);
-    let due = records::due_by(waiting, n, found);
-    let last = records::candidates(n, due, found);
-    let before = rows::smaller(place, last);
-    records::mark(waiting, &mut latest, 0, before, 1);
-    records::note(&mut latest, client, place + 1);
-    records::mark(waiting, &mut latest, place, last, 2);
+    let place = overfull::due_by(waiting, n, deadline);
+    let found = overfull::first_overfull(head, waiting, n, place, deadline);
+    let due = overfull::due_by(waiting, n, found);
+    let last = victim::candidates(n, due, found);
+    let before = room::smaller(place, last);
+    victim::note_last_of_each(waiting, &mut latest, 0, before, 1);
+    victim::note(&mut latest, client, place + 1);
+    victim::note_last_of_each(waiting, &mut latest, place, last, 2);
     calls::submit_choice(head, &latest, clients, client, place, found)
 }
 
@@ -94,7 +96,7 @@ fn drop_at(waiting: &mut [Request], place: usize, victim: usize, new: Request) -
     }
     let out = edits::place_without(victim, place);
     let at = edits::place_without(place, victim);
-    table::replace(waiting, out, at, new)
+    waiting::replace(waiting, out, at, new)
 }
 
 // What a submit does to the waiting table: `new` is put in, or put in for another, or nothing changes. The record that went out is
@@ -110,7 +112,7 @@ fn put_in(waiting: &mut [Request], decision: Decision, head: Head, new: Request)
             return new;
         }
         Decision::Keep { place } => {
-            table::insert(waiting, head.waiting as usize, place, new);
+            waiting::insert(waiting, head.waiting as usize, place, new);
             return new;
         }
         Decision::Drop { place, victim } => {
@@ -153,7 +155,7 @@ pub fn tick(head: Head, waiting: &mut [Request], clients: &mut [u32]) -> Reply
     let refusal = refusals::tick_refusal(tables, head);
     let decision = calls::tick_decision(refusal, head);
     let n = edits::serving(decision, head);
-    let gone = table::remove(waiting, n, 0);
+    let gone = waiting::remove(waiting, n, 0);
     replies::tick_reply(head, clients, decision, gone)
 }
 
@@ -179,7 +181,7 @@ pub fn chart(head: Head, waiting: &[Request], clients: &[u32], output: &mut [u64
     let tables = check::tables_refusal(waiting, clients, head);
     let refusal = refusals::chart_refusal(tables, head, output.len());
     let n = edits::unless_refused(refusal, head.waiting);
-    table::deadlines(waiting, output, n);
-    chart::write_starts(head.setup, output, n);
+    waiting::deadlines(waiting, output, n);
+    starts::write_starts(head.setup, output, n);
     replies::chart_reply(head, refusal)
 }

@@ -8,7 +8,7 @@ use borrow.Author.Tests.{eqb-true, eqb-false}
 use lib.Dec.{eqb}
 use lib.ListN.{length, take, drop, length-append, length-take, length-drop}
 use lib.Seq.{length-take-le, take-length, take-append-le, drop-append-le, take-add, drop-drop, drop-at}
-use Rattle.columns.specs.Widths.{largest64}
+use Rattle.table.specs.Widths.{largest64}
 use Rattle.session.specs.declared.types.Fed.{Fed}
 use Rattle.frame.specs.Lines.{NoFeed}
 use Rattle.frame.specs.Written.{mostBytes}

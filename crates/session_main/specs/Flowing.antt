@@ -20,7 +20,7 @@ use lib.ListN.{length, take, drop}
 use Rattle.libc.specs.Io.{Moved}
 use Rattle.session.specs.declared.types.Fed.{Fed}
 use Rattle.spec.specs.Lines.Session.{session as sessionOf}
-use Rattle.columns.specs.Widths.{largest64}
+use Rattle.table.specs.Widths.{largest64}
 use Rattle.frame.specs.Written.{mostBytes}
 use Rattle.session.specs.Standing.{Reserved, fitsIn}
 use Rattle.session.specs.Feeding.{owed}

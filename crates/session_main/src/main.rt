@@ -3,12 +3,12 @@
 mod flow;
 mod system;
 
-use columns::clients::WIDTH;
 use flow::Flow;
 use frame::answers::MOST_BYTES;
 use spec::bounds::MOST_CLIENTS;
 use spec::bounds::MOST_RECORDS;
 use spec::types::Request;
+use table::clients::WIDTH;
 ghost use Rattle.session.specs.Standing.{reservedOf};
 ghost use Rattle.session_main.specs.Flowing.{Suffices, Served};
 

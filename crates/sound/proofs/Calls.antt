@@ -1,5 +1,5 @@
 -- The passes over the records in a walk.
---     reads            `table::get` on the function's first slice, at i: the record is in a local
+--     reads            `table::waiting::get` on the function's first slice, at i: the record is in a local
 --     Turn             where a turn of a loop stands: how far the pass has come (`Reached`), and that the record before is in hand
 -- Assumes `Given`, and that the callee meets its contract.
 use mathlib.Core.Path.{_≡_, subst}
@@ -26,7 +26,7 @@ use Rattle.spec.specs.declared.types.Head.{Head}
 use Rattle.spec.specs.declared.types.Request.{Request}
 use Rattle.spec.specs.Tables.{zeroRequest}
 use Rattle.table.proofs.Rows.{R, mach, vals, a-request}
-use Rattle.table.proofs.get as get
+use Rattle.table.proofs.waiting.get as get
 use Rattle.walk.proofs.Prelude.{so, vars, passed-on, Param, number, calls-giving}
 use Rattle.walk.proofs.Enter.{Slice}
 use Rattle.walk.proofs.Locals.{held, Vars}

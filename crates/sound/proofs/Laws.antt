@@ -29,7 +29,7 @@ use Rattle.spec.proofs.Laws.Order.{Compared, compared, before as ordered, after
 use Rattle.spec.proofs.Laws.Room.{room-back}
 use Rattle.spec.proofs.Laws.Layout.{whole-records}
 use Rattle.spec.proofs.Laws.Sound.{within-test, Shaped}
-use Rattle.columns.proofs.Laws.{rest-none, records-rest}
+use Rattle.table.proofs.Rest.{rest-none, records-rest}
 use Rattle.table.proofs.Laws.{not-not}
 use Rattle.sound.specs.Checks.{hasShape, isNext, doesBalance, balancesAt, areBalancedFrom, tallySize, talliedOf, Tallied}
 use Rattle.sound.proofs.Tally.{tally-zero}

@@ -13,7 +13,7 @@ use Rattle.spec.specs.declared.types.Request.{Request}
 use Rattle.spec.specs.Tables.{mostClients}
 use Rattle.spec.proofs.Laws.Every.{number-most}
 use Rattle.spec.proofs.Laws.Clients.{of, of-yes, of-no}
-use Rattle.columns.specs.Widths.{largest16}
+use Rattle.table.specs.Widths.{largest16}
 use Rattle.sound.specs.Checks.{parts, tallySize, tallyPlace, sumBelow, talliedOf, oneMore, Countable}
 
 -- ---- f of each number below n, added up

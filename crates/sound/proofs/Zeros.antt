@@ -13,7 +13,7 @@ use Rattle.spec.specs.declared.types.Request.{Request}
 use Rattle.spec.specs.Every.{every}
 use Rattle.spec.specs.Tables.{zeroRequest}
 use Rattle.spec.specs.Sound.{isZeroRequest}
-use Rattle.columns.proofs.Laws.{rest-cons, rest-none}
+use Rattle.table.proofs.Rest.{rest-cons, rest-none}
 use Rattle.sound.proofs.Laws.{verdict-end, every-turn}
 
 -- the record of a table at an index, the four from it on, and those from one index to another

@@ -16,7 +16,7 @@ use Rattle.spec.specs.Order.{comesBefore}
 use Rattle.spec.specs.Chart.{roomTo}
 use Rattle.spec.specs.Sound.{isGiven, isClient, isHeadWithin, waitingOf}
 use Rattle.spec.specs.Calls.Refusals.{refusal4, refusal5}
-use Rattle.columns.specs.Widths.{largest16}
+use Rattle.table.specs.Widths.{largest16}
 
 -- where refusal 4 does not hold: a waiting table of so many records and a client table of so many numbers fit the head
 unfoldable pub hasShape : Head → ℕ → ℕ → Bool

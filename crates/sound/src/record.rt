@@ -1,10 +1,11 @@
 // The tests of one record, of one client's counts, and of the head.
-use columns::clients;
+use chart::room;
 use spec::bounds;
 use spec::types::Counts;
 use spec::types::Head;
 use spec::types::Request;
 use spec::types::Setup;
+use table::clients;
 ghost use Prim.Native.Nat.{_+_, _*_, _≤_, _<_};
 ghost use mathlib.Core.Path.{_≡_};
 ghost use mathlib.Core.Bool.{_&&_};
@@ -41,7 +42,7 @@ pub(crate) fn is_next(head: Head, i: u64, before: Request, w: Request) -> bool
     if head.setup.clients <= w.client {
         return false;
     }
-    if !columns::rows::has_room(head, i, w.deadline) {
+    if !room::has_room(head, i, w.deadline) {
         return false;
     }
     comes_before(before, w)

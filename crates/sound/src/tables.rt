@@ -3,6 +3,7 @@ use crate::record;
 use spec::bounds::MOST_CLIENTS;
 use spec::types::Head;
 use spec::types::Request;
+use table::waiting;
 ghost use Prim.Native.Nat.{_+_, _-_, _*_, _/_, _%_, _≤_};
 ghost use mathlib.Core.Path.{_≡_};
 ghost use mathlib.Core.Bool.{true, _&&_};
@@ -43,13 +44,13 @@ fn four(t: &[Request], tally: &mut [u16], head: Head, i: usize, before: Request)
     requires { ⌜ Bounded head (i + 4) × (i + 4 ≤ length (now t)) × (before ≡ recordBefore (now t) i) × Countable 4 (now tally) ⌝ }
     ensures { λ r. ⌜ (r, now (tally .exit)) ≡ turns head (now (t .entry)) i 4 (true, now (tally .entry)) ⌝ }
 {
-    let a = table::get(t, i);
+    let a = waiting::get(t, i);
     let p = step(true, tally, head, i, before, a);
-    let b = table::get(t, i + 1);
+    let b = waiting::get(t, i + 1);
     let q = step(p, tally, head, i + 1, a, b);
-    let c = table::get(t, i + 2);
+    let c = waiting::get(t, i + 2);
     let r = step(q, tally, head, i + 2, b, c);
-    let d = table::get(t, i + 3);
+    let d = waiting::get(t, i + 3);
     step(r, tally, head, i + 3, c, d)
 }
 
@@ -67,7 +68,7 @@ fn fours(t: &[Request], tally: &mut [u16], head: Head, n: usize) -> bool
     let mut i = 0;
     while (i < n) & passed {
         passed = four(t, tally, head, i, before);
-        before = table::get(t, i + 3);
+        before = waiting::get(t, i + 3);
         i += 4;
     }
     passed
@@ -85,7 +86,7 @@ fn previous(t: &[Request], i: usize) -> Request
             client: 0,
         };
     }
-    table::get(t, i - 1)
+    waiting::get(t, i - 1)
 }
 
 // The turns of the records from one index on, one at a time, if all before it passed, until one does not pass; and whether the
@@ -99,7 +100,7 @@ fn rest(t: &[Request], tally: &mut [u16], head: Head, from: usize, n: usize, ok:
     let mut passed = ok;
     let mut i = from;
     while (i < n) & passed {
-        let w = table::get(t, i);
+        let w = waiting::get(t, i);
         passed = step(true, tally, head, i, before, w);
         before = w;
         i += 1;
@@ -127,10 +128,10 @@ fn zero_fours(t: &[Request], from: usize, to: usize) -> bool
     let mut zero = true;
     let mut i = from;
     while (i < to) & zero {
-        let a = table::get(t, i);
-        let b = table::get(t, i + 1);
-        let c = table::get(t, i + 2);
-        let d = table::get(t, i + 3);
+        let a = waiting::get(t, i);
+        let b = waiting::get(t, i + 1);
+        let c = waiting::get(t, i + 2);
+        let d = waiting::get(t, i + 3);
         zero = record::are_zero_four(a, b, c, d);
         i += 4;
     }
@@ -145,7 +146,7 @@ fn zero_rest(t: &[Request], from: usize, ok: bool) -> bool
     let mut zero = ok;
     let mut i = from;
     while (i < n) & zero {
-        let w = table::get(t, i);
+        let w = waiting::get(t, i);
         zero = record::is_zero(w);
         i += 1;
     }

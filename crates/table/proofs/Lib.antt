@@ -1,4 +1,6 @@
+pub mod Changed
 pub mod Ends
 pub mod Heads
 pub mod Laws
 pub mod Rows
+pub mod Rest

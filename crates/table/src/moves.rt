@@ -31,8 +31,8 @@ pub(crate) fn shift(t: &mut [Request], from: usize, to: usize, up: bool)
     let mut i = from;
     while i != to {
         let j = next(i, up);
-        let w = crate::get(t, j);
-        crate::put(t, i, w);
+        let w = crate::waiting::get(t, j);
+        crate::waiting::put(t, i, w);
         i = j;
     }
 }

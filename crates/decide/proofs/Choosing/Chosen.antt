@@ -30,10 +30,10 @@ use Rattle.spec.proofs.Laws.Sound.{Given, Ahead, Owned}
 use Rattle.spec.proofs.Laws.Accepted.{SubmitReady, submit-ready}
 use Rattle.spec.proofs.Laws.Every.{value, is-true, is-false, same-test, all-at}
 use Rattle.spec.proofs.Laws.Places.{Roomy, feasible-roomy}
-use Rattle.search.specs.Scans.{overfullFrom, latestOf, putAt, countsWith, smallestRatioPlace, HaveRatios, Wins}
-use Rattle.search.proofs.Choosing.{place-wins}
-use Rattle.search.proofs.Fields.{column-insert, take-put}
-use Rattle.search.proofs.Latest.{Source, before, placed, source, latest-least}
+use Rattle.chart.specs.Scans.{overfullFrom, latestOf, putAt, countsWith, smallestRatioPlace, HaveRatios, Wins}
+use Rattle.chart.proofs.Choosing.{place-wins}
+use Rattle.chart.proofs.Fields.{column-insert, take-put}
+use Rattle.chart.proofs.Latest.{Source, before, placed, source, latest-least}
 use Rattle.decide.specs.declared.types.Decision.{Decision}
 use Rattle.decide.specs.declared.types.Decision.the-variants.{Keep, Drop}
 use Rattle.decide.specs.Decisions.{submitChoice, choiceBy, Found}

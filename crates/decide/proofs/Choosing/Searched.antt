@@ -7,7 +7,7 @@ use native.Mathlib.Omega.{arith}
 use lib.Dec.{leb, ltb}
 use lib.ListN.{length, getD, take}
 use borrow.Author.Tests.{le-ltb}
-use Rattle.search.specs.Scans.{Sorted, overfullFrom}
+use Rattle.chart.specs.Scans.{Sorted, overfullFrom}
 use Rattle.slots.proofs.Laws.Sums.{All, all-imp, all-each}
 use Rattle.slots.proofs.Laws.Tests.{Test, holds, fails, test, le, gt, order}
 use Rattle.spec.proofs.Laws.Every.{all-two, count-most}

@@ -17,11 +17,11 @@ use Rattle.spec.specs.Setup.{firstMatch}
 use Rattle.spec.specs.Chart.{dueBy}
 use Rattle.spec.specs.Calls.Submit.{submitRefusals}
 use Rattle.spec.proofs.Laws.Accepted.{SubmitReady, submit-ready}
-use Rattle.columns.specs.Widths.{largest32}
-use Rattle.search.specs.Scans.{Sorted, placeBy, candidateCount, overfullFrom, latestOf, putAt}
-use Rattle.search.proofs.Fields.{field-take, due-column}
-use Rattle.search.proofs.Latest.{latest-parts}
-use Rattle.search.proofs.Scanning.{place-within, place-counts}
+use Rattle.table.specs.Widths.{largest32}
+use Rattle.chart.specs.Scans.{Sorted, placeBy, candidateCount, overfullFrom, latestOf, putAt}
+use Rattle.chart.proofs.Fields.{field-take, due-column}
+use Rattle.chart.proofs.Latest.{latest-parts}
+use Rattle.chart.proofs.Scanning.{place-within, place-counts}
 use Rattle.decide.specs.Decisions.{Found}
 use Rattle.decide.proofs.Choosing.Searched.{sorted}
 use Rattle.decide.proofs.Choosing.Chosen.{place-last}

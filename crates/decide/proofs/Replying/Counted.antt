@@ -28,10 +28,10 @@ use Rattle.spec.proofs.Laws.Layout.{numbers-records, numbers-zero}
 use Rattle.spec.proofs.Laws.Sound.{Balanced, Shaped}
 use Rattle.spec.proofs.Laws.Accepted.{open-ready, TickReady, tick-ready, waiting-length}
 use Rattle.spec.proofs.Calls.Keeps.{Tidy, tidy, Ends, tidy-remove}
-use Rattle.columns.specs.Widths.{largest32}
-use Rattle.columns.specs.declared.clients.Count.the-variants as count
-use Rattle.columns.specs.Clients.{changedAt, oneMoreUnlessFull, restartedCounts, restartedNumbers}
-use Rattle.columns.proofs.Changed.{restartedAt, restarted-numbers, more-numbers}
+use Rattle.table.specs.Widths.{largest32}
+use Rattle.table.specs.declared.clients.Count.the-variants as count
+use Rattle.table.specs.Clients.{changedAt, oneMoreUnlessFull, restartedCounts, restartedNumbers}
+use Rattle.table.proofs.Changed.{restartedAt, restarted-numbers, more-numbers}
 use Rattle.decide.specs.declared.types.Decision.{Decision}
 use Rattle.decide.specs.declared.types.Decision.the-variants.{Serve}
 use Rattle.decide.specs.declared.types.Reply.{Reply}

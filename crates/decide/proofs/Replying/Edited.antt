@@ -20,7 +20,7 @@ use Rattle.spec.proofs.Laws.Every.{length-insert, length-remove, remove-insert,
 use Rattle.spec.proofs.Laws.Order.{place-most, length-put}
 use Rattle.spec.proofs.Laws.Accepted.{Ready, SubmitReady, submit-ready, tick-ready, waiting-length, table-held}
 use Rattle.spec.proofs.Calls.Victim.{victim-place}
-use Rattle.columns.specs.Widths.{largest64}
+use Rattle.table.specs.Widths.{largest64}
 use Rattle.table.specs.Records.{replaced, takenOut, inserted, removed, removedOut}
 use Rattle.table.proofs.Laws.{are-in, first-out, second-out, insert-front, remove-front}
 use Rattle.decide.specs.declared.types.Decision.{Decision}

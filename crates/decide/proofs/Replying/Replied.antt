@@ -25,9 +25,9 @@ use Rattle.spec.proofs.Laws.Sound.{Owned}
 use Rattle.spec.proofs.Laws.Accepted.{SubmitReady, submit-ready, report-ready, waiting-length}
 use Rattle.spec.proofs.Calls.Victim.{victim-place}
 use Rattle.spec.proofs.Calls.Keeps.{Tidy, tidy, tidy-put}
-use Rattle.columns.specs.declared.clients.Count.the-variants as count
-use Rattle.columns.specs.Clients.{changedAt, oneMoreUnlessFull, waitingCount}
-use Rattle.columns.proofs.Changed.{more-numbers}
+use Rattle.table.specs.declared.clients.Count.the-variants as count
+use Rattle.table.specs.Clients.{changedAt, oneMoreUnlessFull, waitingCount}
+use Rattle.table.proofs.Changed.{more-numbers}
 use Rattle.decide.specs.declared.types.Decision.{Decision}
 use Rattle.decide.specs.declared.types.Decision.the-variants.{Drop}
 use Rattle.decide.specs.declared.types.Reply.{Reply}

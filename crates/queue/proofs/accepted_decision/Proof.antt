@@ -4,7 +4,7 @@
 use Rattle.walk.proofs.Prelude.{_≡_, refl, sym, _∙_, subst, ℕ, _+_, _<_, _≤_, _^_, List, [], _∷_, arith, length, replicate, length-replicate, lit<, URA, w16, w64, vint, SProp, Memory, Routine, Heap, Tables, Atoms, Fun, Given, _$_, !, agg, stop, from, addr, lit, of-opd, bin, and-then, no-more, uint-makes, uint-lawful, uint-copy, u16, u32, Room, tripleOf, id⊢}
 use Rattle.walk.proofs.Prelude.{heard, Param, number, loan, shown, taken, so, Shape, Walk, proved, var, vars, field-var, sets, empties, gives, takes-out, passed-on, made, fit, of-number, of-nothing, calls-for}
 use Rattle.walk.proofs.Slices.Arrays.{ends-array, array-lent, array-shared, repeats}
-use Rattle.columns.specs.Widths.{largest16}
+use Rattle.table.specs.Widths.{largest16}
 use Rattle.spec.specs.Tables.{stateOf, mostRecords}
 use Rattle.spec.specs.Setup.{firstMatch}
 use Rattle.spec.specs.Calls.Submit.{submitRefusals}
@@ -14,12 +14,12 @@ use Rattle.queue.proofs.Values.{DecisionT, a-decision}
 use Rattle.spec.specs.declared.types.Request.{Request}
 use Rattle.table.proofs.Heads.{a-head, the-head, waiting-fits}
 use Rattle.table.proofs.Rows.{R}
-use Rattle.search.proofs.records.due_by as due-by
-use Rattle.search.proofs.records.first_overfull as first-overfull
-use Rattle.search.proofs.records.candidates as candidates
-use Rattle.columns.proofs.rows.smaller as smaller
-use Rattle.search.proofs.records.mark as mark
-use Rattle.search.proofs.records.note as note
+use Rattle.chart.proofs.overfull.due_by as due-by
+use Rattle.chart.proofs.overfull.first_overfull as first-overfull
+use Rattle.chart.proofs.victim.candidates as candidates
+use Rattle.chart.proofs.room.smaller as smaller
+use Rattle.chart.proofs.victim.note_last_of_each as mark
+use Rattle.chart.proofs.victim.note as note
 use Rattle.decide.proofs.calls.submit_choice as submit-choice
 use Rattle.queue.proofs.accepted_decision as f
 
@@ -114,17 +114,17 @@ pub accepted-decision-spec : {M : Type 1} → f.Statement.statement M
 unfolding f.Code.routine
 accepted-decision-spec 𝓤 H 𝓜 𝓖 𝓡 =
     proved 𝓤 H 𝓜 𝓖 𝓡 (shape 𝓤 H) (walk 𝓤 H) f.Code.env f.Key.name (f.Code.unfolded 𝓤 H 𝓜 𝓡) (
-      (due-by.Symbol.routine, f.Code.calls-search·records·due-by, due-by.Met.met 𝓤 H 𝓜 𝓖 𝓡),
+      (due-by.Symbol.routine, f.Code.calls-chart·overfull·due-by, due-by.Met.met 𝓤 H 𝓜 𝓖 𝓡),
       (
-        (first-overfull.Symbol.routine, f.Code.calls-search·records·first-overfull, first-overfull.Met.met 𝓤 H 𝓜 𝓖 𝓡),
+        (first-overfull.Symbol.routine, f.Code.calls-chart·overfull·first-overfull, first-overfull.Met.met 𝓤 H 𝓜 𝓖 𝓡),
         (
-          (candidates.Symbol.routine, f.Code.calls-search·records·candidates, candidates.Met.met 𝓤 H 𝓜 𝓖 𝓡),
+          (candidates.Symbol.routine, f.Code.calls-chart·victim·candidates, candidates.Met.met 𝓤 H 𝓜 𝓖 𝓡),
           (
-            (smaller.Symbol.routine, f.Code.calls-columns·rows·smaller, smaller.Met.met 𝓤 H 𝓜 𝓖 𝓡),
+            (smaller.Symbol.routine, f.Code.calls-chart·room·smaller, smaller.Met.met 𝓤 H 𝓜 𝓖 𝓡),
             (
-              (mark.Symbol.routine, f.Code.calls-search·records·mark, mark.Met.met 𝓤 H 𝓜 𝓖 𝓡),
+              (mark.Symbol.routine, f.Code.calls-chart·victim·note-last-of-each, mark.Met.met 𝓤 H 𝓜 𝓖 𝓡),
               (
-                (note.Symbol.routine, f.Code.calls-search·records·note, note.Met.met 𝓤 H 𝓜 𝓖 𝓡),
+                (note.Symbol.routine, f.Code.calls-chart·victim·note, note.Met.met 𝓤 H 𝓜 𝓖 𝓡),
                 ((submit-choice.Symbol.routine, f.Code.calls-decide·calls·submit-choice, submit-choice.Met.met 𝓤 H 𝓜 𝓖 𝓡), tt),
               ),
             ),

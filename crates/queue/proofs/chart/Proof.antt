@@ -10,8 +10,8 @@ use Rattle.queue.proofs.Together.{within, chart-gives, output-charted}
 use Rattle.sound.proofs.check.tables_refusal as tables-refusal
 use Rattle.decide.proofs.refusals.chart_refusal as chart-refusal
 use Rattle.decide.proofs.edits.unless_refused as unless-refused
-use Rattle.table.proofs.deadlines as deadlines
-use Rattle.columns.proofs.chart.write_starts as write-starts
+use Rattle.table.proofs.waiting.deadlines as deadlines
+use Rattle.chart.proofs.starts.write_starts as write-starts
 use Rattle.decide.proofs.replies.chart_reply as chart-reply
 use Rattle.queue.proofs.chart as f
 
@@ -68,9 +68,9 @@ chart-spec 𝓤 H 𝓜 𝓖 𝓡 =
         (
           (unless-refused.Symbol.routine, f.Code.calls-decide·edits·unless-refused, unless-refused.Met.met 𝓤 H 𝓜 𝓖 𝓡),
           (
-            (deadlines.Symbol.routine, f.Code.calls-table·deadlines, deadlines.Met.met 𝓤 H 𝓜 𝓖 𝓡),
+            (deadlines.Symbol.routine, f.Code.calls-table·waiting·deadlines, deadlines.Met.met 𝓤 H 𝓜 𝓖 𝓡),
             (
-              (write-starts.Symbol.routine, f.Code.calls-columns·chart·write-starts, write-starts.Met.met 𝓤 H 𝓜 𝓖 𝓡),
+              (write-starts.Symbol.routine, f.Code.calls-chart·starts·write-starts, write-starts.Met.met 𝓤 H 𝓜 𝓖 𝓡),
               ((chart-reply.Symbol.routine, f.Code.calls-decide·replies·chart-reply, chart-reply.Met.met 𝓤 H 𝓜 𝓖 𝓡), tt),
             ),
           ),

@@ -9,7 +9,7 @@ use Rattle.table.proofs.Rows.{R, mach, lawful, a-request, request}
 use Rattle.decide.specs.Replies.{placeWithout}
 use Rattle.decide.proofs.Replying.Edited.{drops-new, drops-other}
 use Rattle.decide.proofs.edits.place_without as place-without
-use Rattle.table.proofs.replace as replace
+use Rattle.table.proofs.waiting.replace as replace
 use Rattle.queue.proofs.drop_at as f
 
 module _ {M : Type 1} (𝓤 : URA M) (H : Heap 𝓤) (A : Atoms 𝓤) (W : Given 𝓤 H A) (mem : Memory → SProp 𝓤) (run : Routine → Fun 𝓤) where
@@ -50,5 +50,5 @@ unfolding f.Code.routine
 drop-at-spec 𝓤 H 𝓜 𝓖 𝓡 =
     proved 𝓤 H 𝓜 𝓖 𝓡 (shape 𝓤 H) (walk 𝓤 H) f.Code.env f.Key.name (f.Code.unfolded 𝓤 H 𝓜 𝓡) (
       (place-without.Symbol.routine, f.Code.calls-decide·edits·place-without, place-without.Met.met 𝓤 H 𝓜 𝓖 𝓡),
-      ((replace.Symbol.routine, f.Code.calls-table·replace, replace.Met.met 𝓤 H 𝓜 𝓖 𝓡), tt),
+      ((replace.Symbol.routine, f.Code.calls-table·waiting·replace, replace.Met.met 𝓤 H 𝓜 𝓖 𝓡), tt),
     )

@@ -9,7 +9,7 @@ use Rattle.queue.proofs.Values.{ReplyT, a-reply}
 use Rattle.queue.proofs.Together.{opened, cleared-within}
 use Rattle.decide.proofs.refusals.open_refusal as open-refusal
 use Rattle.decide.proofs.edits.unless_refused as unless-refused
-use Rattle.table.proofs.clear as clear
+use Rattle.table.proofs.waiting.clear as clear
 use Rattle.decide.proofs.replies.open_reply as open-reply
 use Rattle.queue.proofs.open as f
 
@@ -60,7 +60,7 @@ open-spec 𝓤 H 𝓜 𝓖 𝓡 =
       (
         (unless-refused.Symbol.routine, f.Code.calls-decide·edits·unless-refused, unless-refused.Met.met 𝓤 H 𝓜 𝓖 𝓡),
         (
-          (clear.Symbol.routine, f.Code.calls-table·clear, clear.Met.met 𝓤 H 𝓜 𝓖 𝓡),
+          (clear.Symbol.routine, f.Code.calls-table·waiting·clear, clear.Met.met 𝓤 H 𝓜 𝓖 𝓡),
           ((open-reply.Symbol.routine, f.Code.calls-decide·replies·open-reply, open-reply.Met.met 𝓤 H 𝓜 𝓖 𝓡), tt),
         ),
       ),

@@ -14,7 +14,7 @@ use Rattle.decide.specs.declared.types.Decision.the-variants.{Refuse, Keep, Dro
 use Rattle.decide.proofs.types.Decision as TD
 use Rattle.decide.proofs.types.Decision.Laws as TD′
 use Rattle.queue.proofs.Values.{DecisionT, a-decision}
-use Rattle.table.proofs.insert as insert
+use Rattle.table.proofs.waiting.insert as insert
 use Rattle.queue.proofs.drop_at as drop-at
 use Rattle.queue.proofs.put_in as f
 
@@ -89,6 +89,6 @@ pub put-in-spec : {M : Type 1} → f.Statement.statement M
 unfolding f.Code.routine
 put-in-spec 𝓤 H 𝓜 𝓖 𝓡 =
     proved 𝓤 H 𝓜 𝓖 𝓡 (shape 𝓤 H) (walk 𝓤 H) f.Code.env f.Key.name (f.Code.unfolded 𝓤 H 𝓜 𝓡) (
-      (insert.Symbol.routine, f.Code.calls-table·insert, insert.Met.met 𝓤 H 𝓜 𝓖 𝓡),
+      (insert.Symbol.routine, f.Code.calls-table·waiting·insert, insert.Met.met 𝓤 H 𝓜 𝓖 𝓡),
       ((drop-at.Symbol.routine, f.Code.calls-queue·drop-at, drop-at.Met.met 𝓤 H 𝓜 𝓖 𝓡), tt),
     )

@@ -11,7 +11,7 @@ use Rattle.sound.proofs.check.tables_refusal as tables-refusal
 use Rattle.decide.proofs.refusals.tick_refusal as tick-refusal
 use Rattle.decide.proofs.calls.tick_decision as tick-decision
 use Rattle.decide.proofs.edits.serving as serving
-use Rattle.table.proofs.remove as remove
+use Rattle.table.proofs.waiting.remove as remove
 use Rattle.decide.proofs.replies.tick_reply as tick-reply
 use Rattle.queue.proofs.tick as f
 
@@ -70,7 +70,7 @@ tick-spec 𝓤 H 𝓜 𝓖 𝓡 =
           (
             (serving.Symbol.routine, f.Code.calls-decide·edits·serving, serving.Met.met 𝓤 H 𝓜 𝓖 𝓡),
             (
-              (remove.Symbol.routine, f.Code.calls-table·remove, remove.Met.met 𝓤 H 𝓜 𝓖 𝓡),
+              (remove.Symbol.routine, f.Code.calls-table·waiting·remove, remove.Met.met 𝓤 H 𝓜 𝓖 𝓡),
               ((tick-reply.Symbol.routine, f.Code.calls-decide·replies·tick-reply, tick-reply.Met.met 𝓤 H 𝓜 𝓖 𝓡), tt),
             ),
           ),

@@ -27,8 +27,8 @@ use Rattle.spec.proofs.Laws.Every.{all-at}
 use Rattle.spec.proofs.Laws.Sound.{Ahead}
 use Rattle.spec.proofs.Laws.Accepted.{chart-ready, Ready, waiting-length}
 use Rattle.spec.proofs.Calls.Refused.{firstAnswer, call-answers, setup-same, left-same}
-use Rattle.columns.specs.Widths.{largest64}
-use Rattle.columns.proofs.Drawing.{starts-column, starts-below}
+use Rattle.table.specs.Widths.{largest64}
+use Rattle.chart.proofs.Drawing.{starts-column, starts-below}
 use Rattle.sound.proofs.Laws.{shapeOf, shape-facts, shape-refused}
 use Rattle.frame.specs.Written.{CanDraw}
 use Rattle.session.proofs.Laws.Lending.{alike}

@@ -1,4 +1,4 @@
--- `sound::tables::four` meets its contract: a walk of eight calls, `table::get` on the `&[Request]`, which is passed on, and `step`
+-- `sound::tables::four` meets its contract: a walk of eight calls, `table::waiting::get` on the `&[Request]`, which is passed on, and `step`
 -- on the `&mut [u16]`, which is lent again, by turns. After each turn it is known where the pass stands (`Reached`).
 -- Assumes nothing.
 use Rattle.walk.proofs.Prelude.{_≡_, refl, _∙_, true, ℕ, _+_, _<_, _^_, lt-trans, arith, List, [], _∷_, length, getD, URA, w64, vbool, SProp, Memory, Routine, Heap, Tables, Atoms, Fun, Given, _$_, !, true-lit, and-then, u16, bool, tripleOf}
@@ -7,7 +7,7 @@ use Rattle.spec.specs.declared.types.Request.{Request}
 use Rattle.spec.specs.Tables.{zeroRequest}
 use Rattle.table.proofs.Rows.{R, a-request, request}
 use Rattle.table.proofs.Heads.{a-head, the-head}
-use Rattle.table.proofs.get as get
+use Rattle.table.proofs.waiting.get as get
 use Rattle.sound.specs.Checks.{Bounded}
 use Rattle.sound.proofs.Turns.{comes-next, sets-out, may-step, steps-on, turns-made}
 use Rattle.sound.proofs.Calls.{Get, reads}
@@ -82,4 +82,4 @@ pub four-spec : {M : Type 1} → f.Statement.statement M
 unfolding f.Code.routine
 four-spec 𝓤 H 𝓜 𝓖 𝓡 =
     proved 𝓤 H 𝓜 𝓖 𝓡 (shape 𝓤 H) (walk 𝓤 H) f.Code.env f.Key.name (f.Code.unfolded 𝓤 H 𝓜 𝓡)
-    ((get.Symbol.routine, f.Code.calls-table·get, get.Met.met 𝓤 H 𝓜 𝓖 𝓡), ((step.Symbol.routine, f.Code.calls-sound·tables·step, step.Met.met 𝓤 H 𝓜 𝓖 𝓡), tt))
+    ((get.Symbol.routine, f.Code.calls-table·waiting·get, get.Met.met 𝓤 H 𝓜 𝓖 𝓡), ((step.Symbol.routine, f.Code.calls-sound·tables·step, step.Met.met 𝓤 H 𝓜 𝓖 𝓡), tt))

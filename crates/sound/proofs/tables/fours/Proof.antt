@@ -1,4 +1,4 @@
--- `sound::tables::fours` meets its contract: a walk with a loop, which calls `four` on both slices and `table::get` on the first.
+-- `sound::tables::fours` meets its contract: a walk with a loop, which calls `four` on both slices and `table::waiting::get` on the first.
 -- A turn stands wherever the pass has come to (`Turn`), at a whole number of fours.
 -- Assumes nothing.
 use Rattle.walk.proofs.Prelude.{_≡_, refl, _∙_, true, ℕ, _+_, _<_, _≤_, _-_, _^_, _%_, lt-of-le-of-lt, le-trans, arith, List, [], _∷_, getD, lit<, URA, w64, vbool, vint, SProp, Memory, Routine, Heap, Tables, Atoms, Fun, Given, ‵, _$_, !, agg, lit, true-lit, of-opd, and-then, no-more, u16, bool, tripleOf}
@@ -7,7 +7,7 @@ use Rattle.spec.specs.declared.types.Request.{Request}
 use Rattle.spec.specs.Tables.{zeroRequest}
 use Rattle.table.proofs.Rows.{R, mach, lawful, zero-is, request}
 use Rattle.table.proofs.Heads.{a-head, the-head}
-use Rattle.table.proofs.get as get
+use Rattle.table.proofs.waiting.get as get
 use Rattle.sound.proofs.Turns.{comes-next, sets-out, may-turn, turns-on, turns-over}
 use Rattle.sound.proofs.Calls.{Get, reads, Turn, goes-on}
 use Rattle.sound.proofs.tables.four as four
@@ -61,4 +61,4 @@ pub fours-spec : {M : Type 1} → f.Statement.statement M
 unfolding f.Code.routine
 fours-spec 𝓤 H 𝓜 𝓖 𝓡 =
     proved 𝓤 H 𝓜 𝓖 𝓡 (shape 𝓤 H) (walk 𝓤 H) f.Code.env f.Key.name (f.Code.unfolded 𝓤 H 𝓜 𝓡)
-    ((get.Symbol.routine, f.Code.calls-table·get, get.Met.met 𝓤 H 𝓜 𝓖 𝓡), ((four.Symbol.routine, f.Code.calls-sound·tables·four, four.Met.met 𝓤 H 𝓜 𝓖 𝓡), tt))
+    ((get.Symbol.routine, f.Code.calls-table·waiting·get, get.Met.met 𝓤 H 𝓜 𝓖 𝓡), ((four.Symbol.routine, f.Code.calls-sound·tables·four, four.Met.met 𝓤 H 𝓜 𝓖 𝓡), tt))

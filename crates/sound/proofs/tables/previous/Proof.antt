@@ -1,11 +1,11 @@
--- `sound::tables::previous` meets its contract: a walk with a branch, and `table::get` on the `&[Request]`.
+-- `sound::tables::previous` meets its contract: a walk with a branch, and `table::waiting::get` on the `&[Request]`.
 -- Assumes nothing.
 use Rattle.walk.proofs.Prelude.{_≡_, refl, not, ℕ, _<_, _≤_, _-_, lt-trans, arith, List, [], _∷_, length, getD, eqb, eqb→eq, T, URA, w64, SProp, Memory, Routine, Heap, Tables, Atoms, Fun, Given, _$_, !, agg, lit, bin, and-then, no-more, first}
 use Rattle.walk.proofs.Prelude.{shown, taken, so, Shape, Walk, heard, var, gives, gives-within, branches-then, into-assign, skips-then, fit, proved, sets, made, of-number}
 use Rattle.spec.specs.declared.types.Request.{Request}
 use Rattle.spec.specs.Tables.{zeroRequest}
 use Rattle.table.proofs.Rows.{R, a-request, mach, lawful, zero-is}
-use Rattle.table.proofs.get as get
+use Rattle.table.proofs.waiting.get as get
 use Rattle.sound.specs.Checks.{recordBefore}
 use Rattle.sound.proofs.Calls.{Get, reads}
 use Rattle.sound.proofs.Turns.{comes-next}
@@ -50,4 +50,4 @@ module _ {M : Type 1} (𝓤 : URA M) (H : Heap 𝓤) (A : Atoms 𝓤) (W : Given
 pub previous-spec : {M : Type 1} → f.Statement.statement M
 unfolding f.Code.routine
 previous-spec 𝓤 H 𝓜 𝓖 𝓡 =
-    proved 𝓤 H 𝓜 𝓖 𝓡 (shape 𝓤 H) (walk 𝓤 H) f.Code.env f.Key.name (f.Code.unfolded 𝓤 H 𝓜 𝓡) ((get.Symbol.routine, f.Code.calls-table·get, get.Met.met 𝓤 H 𝓜 𝓖 𝓡), tt)
+    proved 𝓤 H 𝓜 𝓖 𝓡 (shape 𝓤 H) (walk 𝓤 H) f.Code.env f.Key.name (f.Code.unfolded 𝓤 H 𝓜 𝓡) ((get.Symbol.routine, f.Code.calls-table·waiting·get, get.Met.met 𝓤 H 𝓜 𝓖 𝓡), tt)

@@ -1,4 +1,4 @@
--- `sound::tables::rest` meets its contract: a walk of `previous` and a loop, which calls `table::get` on the first slice and `step`
+-- `sound::tables::rest` meets its contract: a walk of `previous` and a loop, which calls `table::waiting::get` on the first slice and `step`
 -- on the other, and of `is_near`. A turn stands wherever the pass has come to (`Turn`).
 -- Assumes nothing.
 use Rattle.walk.proofs.Prelude.{refl, _∙_, _&&_, true, ℕ, _+_, _-_, lt-trans, lt-of-le-of-lt, le-trans, arith, add-one-le, add-one-dec, List, [], _∷_, getD, URA, w64, vbool, vint, SProp, Memory, Routine, Heap, Tables, Atoms, Fun, Given, ‵, _$_, !, true-lit, and-then, no-more, u16, bool, tripleOf}
@@ -7,7 +7,7 @@ use Rattle.spec.specs.declared.types.Request.{Request}
 use Rattle.spec.specs.Tables.{zeroRequest}
 use Rattle.table.proofs.Rows.{R, a-request, mach, lawful, request, deadline-fits}
 use Rattle.table.proofs.Heads.{a-head, the-head}
-use Rattle.table.proofs.get as get
+use Rattle.table.proofs.waiting.get as get
 use Rattle.sound.specs.Checks.{recordBefore, isNear}
 use Rattle.sound.proofs.Turns.{comes-next, sets-out, may-step, steps-on, asked-over}
 use Rattle.sound.proofs.Calls.{Get, reads, Turn, goes-on}
@@ -74,7 +74,7 @@ rest-spec 𝓤 H 𝓜 𝓖 𝓡 =
     proved 𝓤 H 𝓜 𝓖 𝓡 (shape 𝓤 H) (walk 𝓤 H) f.Code.env f.Key.name (f.Code.unfolded 𝓤 H 𝓜 𝓡) (
       (previous.Symbol.routine, f.Code.calls-sound·tables·previous, previous.Met.met 𝓤 H 𝓜 𝓖 𝓡),
       (
-        (get.Symbol.routine, f.Code.calls-table·get, get.Met.met 𝓤 H 𝓜 𝓖 𝓡),
+        (get.Symbol.routine, f.Code.calls-table·waiting·get, get.Met.met 𝓤 H 𝓜 𝓖 𝓡),
         ((step.Symbol.routine, f.Code.calls-sound·tables·step, step.Met.met 𝓤 H 𝓜 𝓖 𝓡), ((is-near.Symbol.routine, f.Code.calls-sound·record·is-near, is-near.Met.met 𝓤 H 𝓜 𝓖 𝓡), tt)),
       ),
     )

@@ -1,4 +1,4 @@
--- `sound::tables::zero_fours` meets its contract: a walk with a loop, `table::get` on the `&[Request]` and `are_zero_four`, a
+-- `sound::tables::zero_fours` meets its contract: a walk with a loop, `table::waiting::get` on the `&[Request]` and `are_zero_four`, a
 -- covered function, on what it lands. A turn stands wherever the pass has come to (`Turn`) with fours left.
 -- Assumes nothing.
 use Rattle.walk.proofs.Prelude.{_≡_, refl, Bool, true, ℕ, _+_, _<_, _-_, _^_, _%_, _≤_, lt-of-le-of-lt, le-trans, arith, List, [], _∷_, length, getD, URA, w64, vbool, vint, SProp, emp, id⊢, Memory, Routine, Heap, Tables, Atoms, Fun, Given, _$_, !, true-lit, of-opd, bool, tripleOf}
@@ -6,7 +6,7 @@ use Rattle.walk.proofs.Prelude.{shown, taken, so, Shape, Walk, heard, var, vars
 use Rattle.spec.specs.declared.types.Request.{Request}
 use Rattle.spec.specs.Tables.{zeroRequest}
 use Rattle.table.proofs.Rows.{R, request}
-use Rattle.table.proofs.get as get
+use Rattle.table.proofs.waiting.get as get
 use Rattle.sound.proofs.Zeros.{areFourZero, areZero, Turn, goes-on, ended, four-on}
 use Rattle.sound.proofs.Calls.{Get, reads}
 use Rattle.sound.proofs.record.are_zero_four as four
@@ -66,4 +66,4 @@ pub zero-fours-spec : {M : Type 1} → f.Statement.statement M
 unfolding f.Code.routine
 zero-fours-spec 𝓤 H 𝓜 𝓖 𝓡 =
     proved 𝓤 H 𝓜 𝓖 𝓡 (shape 𝓤 H) (walk 𝓤 H) f.Code.env f.Key.name (f.Code.unfolded 𝓤 H 𝓜 𝓡)
-    ((get.Symbol.routine, f.Code.calls-table·get, get.Met.met 𝓤 H 𝓜 𝓖 𝓡), ((four.Symbol.routine, f.Code.calls-sound·record·are-zero-four, four.Met.met 𝓤 H 𝓜 𝓖 𝓡), tt))
+    ((get.Symbol.routine, f.Code.calls-table·waiting·get, get.Met.met 𝓤 H 𝓜 𝓖 𝓡), ((four.Symbol.routine, f.Code.calls-sound·record·are-zero-four, four.Met.met 𝓤 H 𝓜 𝓖 𝓡), tt))

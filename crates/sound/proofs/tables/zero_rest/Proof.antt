@@ -1,4 +1,4 @@
--- `sound::tables::zero_rest` meets its contract: a walk with a loop, `table::get` on the `&[Request]` and `is_zero`, a covered
+-- `sound::tables::zero_rest` meets its contract: a walk with a loop, `table::waiting::get` on the `&[Request]` and `is_zero`, a covered
 -- function, on what it lands. A turn stands wherever the pass has come to (`Turn`).
 -- Assumes nothing.
 use lib.ListN.{drop as dropN}
@@ -9,7 +9,7 @@ use Rattle.spec.specs.Every.{every}
 use Rattle.spec.specs.Tables.{zeroRequest}
 use Rattle.spec.specs.Sound.{isZeroRequest}
 use Rattle.table.proofs.Rows.{R, request}
-use Rattle.table.proofs.get as get
+use Rattle.table.proofs.waiting.get as get
 use Rattle.sound.proofs.Zeros.{Turn, goes-on, ended, one-on}
 use Rattle.sound.proofs.Calls.{Get, reads}
 use Rattle.sound.proofs.record.is_zero as is-zero
@@ -56,4 +56,4 @@ pub zero-rest-spec : {M : Type 1} → f.Statement.statement M
 unfolding f.Code.routine
 zero-rest-spec 𝓤 H 𝓜 𝓖 𝓡 =
     proved 𝓤 H 𝓜 𝓖 𝓡 (shape 𝓤 H) (walk 𝓤 H) f.Code.env f.Key.name (f.Code.unfolded 𝓤 H 𝓜 𝓡)
-    ((get.Symbol.routine, f.Code.calls-table·get, get.Met.met 𝓤 H 𝓜 𝓖 𝓡), ((is-zero.Symbol.routine, f.Code.calls-sound·record·is-zero, is-zero.Met.met 𝓤 H 𝓜 𝓖 𝓡), tt))
+    ((get.Symbol.routine, f.Code.calls-table·waiting·get, get.Met.met 𝓤 H 𝓜 𝓖 𝓡), ((is-zero.Symbol.routine, f.Code.calls-sound·record·is-zero, is-zero.Met.met 𝓤 H 𝓜 𝓖 𝓡), tt))

@@ -9,8 +9,8 @@ use Rattle.spec.specs.Tables.{zeroRequest}
 use Rattle.table.proofs.Rows.{R, request, a-request}
 use Rattle.table.proofs.Laws.{Step, Going, Asked, sets-out, steps, goes-on, arrives}
 use Rattle.table.proofs.moves.next as next
-use Rattle.table.proofs.get as get
-use Rattle.table.proofs.put as put
+use Rattle.table.proofs.waiting.get as get
+use Rattle.table.proofs.waiting.put as put
 use Rattle.table.proofs.moves.shift as f
 
 module _ {M : Type 1} (𝓤 : URA M) (H : Heap 𝓤) (A : Atoms 𝓤) (W : Given 𝓤 H A) (mem : Memory → SProp 𝓤) (run : Routine → Fun 𝓤) where
@@ -65,7 +65,7 @@ shift-spec 𝓤 H 𝓜 𝓖 𝓡 =
     proved 𝓤 H 𝓜 𝓖 𝓡 (shape 𝓤 H) (walk 𝓤 H) f.Code.env f.Key.name (f.Code.unfolded 𝓤 H 𝓜 𝓡) (
       (next.Symbol.routine, f.Code.calls-table·moves·next, next.Met.met 𝓤 H 𝓜 𝓖 𝓡),
       (
-        (get.Symbol.routine, f.Code.calls-table·get, get.Met.met 𝓤 H 𝓜 𝓖 𝓡),
-        ((put.Symbol.routine, f.Code.calls-table·put, put.Met.met 𝓤 H 𝓜 𝓖 𝓡), tt),
+        (get.Symbol.routine, f.Code.calls-table·waiting·get, get.Met.met 𝓤 H 𝓜 𝓖 𝓡),
+        ((put.Symbol.routine, f.Code.calls-table·waiting·put, put.Met.met 𝓤 H 𝓜 𝓖 𝓡), tt),
       ),
     )

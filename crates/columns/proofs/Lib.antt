@@ -1,3 +1,0 @@
-pub mod Changed
-pub mod Drawing
-pub mod Laws

@@ -1,3 +1,0 @@
-pub mod Charted
-pub mod Clients
-pub mod Widths

@@ -1,5 +1,0 @@
-pub mod Choosing
-pub mod Counted
-pub mod Fields
-pub mod Latest
-pub mod Scanning
