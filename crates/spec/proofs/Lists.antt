@@ -3,3 +3,4 @@ pub mod Trace
 pub mod Counts
 pub mod Largest
 pub mod Passing
+pub mod Windows

@@ -1,17 +1,19 @@
 -- What is read off a list of calls and its answers, computed: for one list that has refused calls of every kind but ticks, a drop,
--- served requests, one that waits, and period starts; and for one at the clock's end, where ticks are refused. Assumes nothing.
+-- served requests, one that waits, and period starts; for one at the clock's end, where ticks are refused; and for one in which
+-- nothing is refused, off its calls alone. Assumes nothing.
 use Prim.Native.Nat.{ℕ}
 use mathlib.Core.Path.{_≡_, refl}
 use mathlib.Core.Bool.{Bool, true, false}
 use mathlib.Core.List.{List, [], _∷_, map}
 use lib.ListN.{replicate}
-use Rattle.slots.specs.Plan.{Slot, none, at}
+use Rattle.slots.specs.Plan.{Slot, none, at, since}
 use Rattle.spec.specs.declared.types.Counts.{Counts}
 use Rattle.spec.specs.Every.{exists, select}
 use Rattle.spec.specs.Tables.{zeroRequest, zeroCounts, openHead, State, numbersOf}
 use Rattle.spec.specs.Calls.Call.{Call, opening, submit, tick, report, chart, outcomeOf}
 use Rattle.spec.specs.Lists.{run, Event, history, isOpened, ticks, Asked, asked, bookings, victims, servedRequests}
 use Rattle.spec.specs.Lists.{waitingRequests, slotFor, chartBookings, ownPlan, waitingBy, sinceStart, countsSince}
+use Rattle.spec.proofs.Lists.Windows.{tickCalls, callWindows, isRefusedEvent}
 use Rattle.spec.proofs.Acceptance.Computed.{setting, calls}
 
 -- two clients, a period of two slots
@@ -146,3 +148,14 @@ late-readings = refl
 pub reopened : exists isOpened (history start (opening (setting 2 5) ∷ [])) ≡ true
 unfolding lists
 reopened = refl
+
+-- The last call stands first. Nothing is refused, and the third submit drops itself.
+abbrev unrefused : List Call
+unrefused = submit 1 9 ∷ tick ∷ submit 1 1 ∷ submit 1 2 ∷ submit 0 1 ∷ []
+
+-- This list meets the condition of `Lists/Windows.calls-alone`, so that its windows are those that its calls say.
+pub unrefused-windows :
+    (exists isRefusedEvent (history start unrefused) ≡ false)
+    × (callWindows unrefused ≡ since 1 9 ∷ since 0 1 ∷ since 0 2 ∷ since 0 1 ∷ [])
+unfolding lists tickCalls callWindows
+unrefused-windows = (refl, refl)

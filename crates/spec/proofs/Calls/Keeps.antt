@@ -5,7 +5,6 @@ use mathlib.Core.Logic.{_≢_}
 use mathlib.Core.Bool.{Bool, true, false, cond}
 use mathlib.Core.List.{List, [], _∷_}
 use native.Mathlib.Omega.{arith}
-use borrow.Author.Tests.{le-ltb, eq-eqb}
 use lib.ListN.{length, getD, replicate, length-replicate, getD-replicate}
 use Rattle.slots.proofs.Laws.Tests.{le, gt, order}
 use Rattle.slots.proofs.Laws.Sums.{All, all-imp}
@@ -14,13 +13,12 @@ use Rattle.spec.specs.declared.types.Head.{Head}
 use Rattle.spec.specs.declared.types.Request.{Request}
 use Rattle.spec.specs.declared.types.Counts.{Counts}
 use Rattle.spec.specs.Every.{mapFrom}
-use Rattle.spec.specs.Tables.{mostRecords, mostCounted, clockEnd, numberEnd, zeroRequest, zeroCounts, State, waiting}
+use Rattle.spec.specs.Tables.{mostCounted, clockEnd, numberEnd, zeroRequest, zeroCounts, State, waiting}
 use Rattle.spec.specs.Tables.{clientTable, width, nextState, change, oneMoreSubmitted, oneMoreServed, oneMoreDropped}
 use Rattle.spec.specs.Setup.{firstMatch}
 use Rattle.spec.specs.Order.{putInOrder, removeAt}
 use Rattle.spec.specs.Chart.{dueBy, hasNoOverfull, isCandidate}
 use Rattle.spec.specs.Calls.Readings.{isRefused}
-use Rattle.spec.specs.Calls.Refusals.{refusal4}
 use Rattle.spec.specs.Calls.Outcome.{Outcome}
 use Rattle.spec.specs.Calls.Open.{openAccepted}
 use Rattle.spec.specs.Calls.Submit.{newRequest, countedIn, withNew, kept, requestAt, droppedAt, victimPlace}
@@ -36,7 +34,7 @@ use Rattle.spec.proofs.Laws.Every.{all-two, Value, is-true, is-false, v
 use Rattle.spec.proofs.Laws.Every.{length-remove}
 use Rattle.spec.proofs.Laws.Order.{InOrder, Before, before-deadline, order-put, order-remove, all-put, length-put}
 use Rattle.spec.proofs.Laws.Feasible.{FeasibleAt, Feasible, feasible-facts, due-yes, dueBy-cons, dueBy-none, dueBy-self}
-use Rattle.spec.proofs.Laws.Sound.{within-test, Shaped, Ahead, Given, Owned, Balanced}
+use Rattle.spec.proofs.Laws.Sound.{Shaped, Ahead, Given, Owned, Balanced}
 use Rattle.spec.proofs.Laws.Accepted.{Decided, accepts, refuses, Ready, OpenReady, open-ready, SubmitReady, submit-ready}
 use Rattle.spec.proofs.Laws.Accepted.{TickReady, tick-ready, report-ready, chart-ready, waiting-length, next-waiting}
 use Rattle.spec.proofs.Laws.Accepted.{next-behind, next-length}
@@ -362,15 +360,6 @@ accepted-keeps (submit client deadline) s e = submit-keeps client deadline s (su
 accepted-keeps tick s e = tick-keeps s (tick-ready s e)
 accepted-keeps (report client) s e = report-ready client s e .ready
 accepted-keeps (chart output) s e = chart-ready output s e .ready
-
--- tables of the right lengths do not meet refusal 4
-pub shaped-test : (s : State) → Shaped s → refusal4 s .holds ≡ false
-shaped-test s f =
-    rw (
-      within-test 1 mostRecords (length (s .waitingTable)) (f .some-records) (f .most-records),
-      eq-eqb (length (s .clientNumbers)) (width * s .head .setup .clients) (f .numbers),
-      le-ltb (length (s .waitingTable)) (s .head .waiting) (f .waits),
-    )
 
 -- ---- tables keep their lengths
 abbrev pub SameLengths : State → State → Type 0

@@ -26,7 +26,8 @@ use Rattle.spec.specs.Calls.Report.{reportRefusals, reportAccepted}
 use Rattle.spec.specs.Calls.Chart.{chartRefusals, chartAccepted, chartOutput}
 use Rattle.spec.specs.Calls.Call.{Call, opening, submit, tick, report, chart, outcomeOf, acceptedOf, refusalsOf, meaning}
 use Rattle.spec.proofs.Demands.Words.{FirstHolds, here, further}
-use Rattle.spec.proofs.Laws.Accepted.{Decided, accepts, refuses, decided, chart-ready, waiting-length}
+use Rattle.spec.proofs.Laws.Accepted.{Decided, accepts, refuses, decided, SubmitReady, submit-none, chart-ready}
+use Rattle.spec.proofs.Laws.Accepted.{waiting-length}
 
 -- ---- each call is its refusals and what it does where none holds
 pub outcome-decided : (c : Call) (s : State) → Decided (refusalsOf c s) s (acceptedOf c s) (outcomeOf c s)
@@ -140,6 +141,12 @@ accepted-none c s = go (outcome-decided c s)
 pub none-accepted : (c : Call) (s : State) → firstMatch (refusalsOf c s) ≡ 0 → outcomeOf c s ≡ acceptedOf c s
 unfolding outcomeOf
 none-accepted c s e = rw e
+
+-- A submit that meets none of the conditions of its refusals is accepted.
+pub submit-accepted : (client deadline : ℕ) (s : State) → SubmitReady client deadline s
+    → isRefused (outcomeOf (submit client deadline) s .answers) ≡ false
+submit-accepted client deadline s r =
+    rw (none-accepted (submit client deadline) s (submit-none client deadline s r)) (accepted-answer (submit client deadline) s)
 
 pub accepted-same : (c : Call) (s : State) → isRefused (outcomeOf c s .answers) ≡ false → outcomeOf c s ≡ acceptedOf c s
 accepted-same c s = go (outcome-decided c s)

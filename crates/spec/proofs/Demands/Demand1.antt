@@ -32,11 +32,12 @@ use Rattle.spec.specs.Lists.{run, Event, history, WithRefused, isOpened,
 use Rattle.spec.proofs.Demands.Words.{FitsField, FirstHolds, Ascending, Pairs, Finish, ChartFits}
 use Rattle.spec.proofs.Demands.Words.{LongestRuns}
 use Rattle.spec.proofs.Laws.Sound.{sound-test}
-use Rattle.spec.proofs.Laws.Accepted.{Decided, accepts, refuses, decided, ChartReady, chart-ready, waiting-length}
+use Rattle.spec.proofs.Laws.Accepted.{shaped-test, Decided, accepts, refuses, decided, ChartReady, chart-ready}
+use Rattle.spec.proofs.Laws.Accepted.{waiting-length}
 use Rattle.spec.proofs.Calls.Refused.{accepted-same, outcome-decided, accepted-answer, accepted-none}
 use Rattle.spec.proofs.Calls.Refused.{first-holds, first-match, first-listed, listed, length-starts, Written, untouched}
 use Rattle.spec.proofs.Calls.Refused.{written, output-written}
-use Rattle.spec.proofs.Calls.Keeps.{same-lengths, keeps, shaped-test}
+use Rattle.spec.proofs.Calls.Keeps.{same-lengths, keeps}
 use Rattle.spec.proofs.Calls.Widths.{call-fits, segment-fits, count-fits}
 use Rattle.spec.proofs.Calls.Latest.{latest-start, ready-chart, starts-latest, starts-drop, longest-runs}
 use Rattle.spec.proofs.Lists.Trace.{traced}

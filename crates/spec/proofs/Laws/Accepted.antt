@@ -5,7 +5,7 @@ use mathlib.Core.Logic.{_≢_}
 use mathlib.Core.Bool.{Bool, true, false, not, cond}
 use mathlib.Core.List.{List, [], _∷_, _++_}
 use native.Mathlib.Omega.{arith}
-use borrow.Author.Tests.{ltb-true, ltb-false, eqb-true, eqb-false, not-false}
+use borrow.Author.Tests.{ltb-true, ltb-false, eqb-true, eqb-false, not-false, le-ltb, lt-ltb, eq-eqb, ne-eqb}
 use lib.Dec.{ltb, eqb}
 use lib.ListN.{drop, length, getD, replicate, length-take, length-drop, length-append, length-replicate, take-append-drop}
 use lib.Seq.{take-append-seam, drop-append-seam}
@@ -31,7 +31,8 @@ use Rattle.spec.specs.Calls.Report.{reportRefusals}
 use Rattle.spec.specs.Calls.Chart.{chartRefusals}
 use Rattle.spec.proofs.Laws.Every.{or-none}
 use Rattle.spec.proofs.Laws.Layout.{whole-records}
-use Rattle.spec.proofs.Laws.Sound.{within-refused, none-match, SetupWithin, setup-none, Shaped, Sound, sound-facts}
+use Rattle.spec.proofs.Laws.Sound.{within-test, within-refused, none-match, SetupWithin, setup-none, Shaped, Sound}
+use Rattle.spec.proofs.Laws.Sound.{sound-facts, sound-test}
 
 -- ---- accepted, or refused with the first number that matches
 pub data Decided (rs : List Refusal) (s : State) (o : Outcome) : Outcome → Type 0 where
@@ -77,6 +78,15 @@ shaped s e =
       waits = ltb-false (length (s .waitingTable)) (s .head .waiting) (p .1);
     }
 
+-- tables of the right lengths do not meet refusal 4
+pub shaped-test : (s : State) → Shaped s → refusal4 s .holds ≡ false
+shaped-test s f =
+    rw (
+      within-test 1 mostRecords (length (s .waitingTable)) (f .some-records) (f .most-records),
+      eq-eqb (length (s .clientNumbers)) (width * s .head .setup .clients) (f .numbers),
+      le-ltb (length (s .waitingTable)) (s .head .waiting) (f .waits),
+    )
+
 -- refusals 4 and 5 do not hold
 pub record Ready (s : State) : Type 0 where
   pub shape : Shaped s
@@ -87,6 +97,11 @@ ready s rs e =
     let p = none-match (refusal4 s) (refusal5 s ∷ rs) (omega arith) e in
     let q = none-match (refusal5 s) rs (omega arith) (p .1) in
     (record { shape = shaped s (p .0); sound = sound-facts s (not-false (isSound s) (q .0)) }, q .1)
+
+-- The reverse: where tables are of the right lengths and sound, only the refusals behind 4 and 5 can match.
+ready-passes : (s : State) (rs : List Refusal) → Ready s → firstMatch (refusal4 s ∷ refusal5 s ∷ rs) ≡ firstMatch rs
+unfolding firstMatch
+ready-passes s rs r = rw (shaped-test s (r .shape), sound-test s (r .sound))
 
 -- ---- each call
 pub record OpenReady (setup : Setup) (s : State) : Type 0 where
@@ -130,6 +145,20 @@ submit-ready client deadline s e =
       free = eqb-false (s .head .waiting) (length (s .waitingTable)) (g .0);
     }
 
+-- The reverse: no refusal matches a submit of which these facts hold, so that they are all that an accepted submit needs.
+pub submit-none : (client deadline : ℕ) (s : State) → SubmitReady client deadline s
+    → firstMatch (submitRefusals client deadline s) ≡ 0
+unfolding submitRefusals firstMatch
+submit-none client deadline s r =
+    ready-passes s (refusal6 client s ∷ refusal7 deadline s ∷ refusal8 client s ∷ refusal9 s ∷ refusal10 s ∷ []) (r .ready)
+    ∙ rw (
+      lt-ltb client (s .head .setup .clients) (r .exists),
+      within-test (suc (s .head .clock)) (s .head .clock + mostAhead) deadline (r .late) (r .near),
+      ne-eqb (getD (clientTable s) client zeroCounts .submitted) mostCounted (r .countable),
+      ne-eqb (s .head .last) numberEnd (r .numbered),
+      ne-eqb (s .head .waiting) (length (s .waitingTable)) (r .free),
+    )
+
 pub record TickReady (s : State) : Type 0 where
   pub ready : Ready s
   pub ticking : s .head .clock ≢ clockEnd
@@ -140,6 +169,11 @@ tick-ready s e =
     let a = ready s (refusal11 s ∷ []) e in
     let b = none-match (refusal11 s) [] (omega arith) (a .1) in
     record { ready = a .0; ticking = eqb-false (s .head .clock) clockEnd (b .0) }
+
+-- The same holds of a tick.
+pub tick-none : (s : State) → TickReady s → firstMatch (tickRefusals s) ≡ 0
+unfolding tickRefusals firstMatch
+tick-none s r = ready-passes s (refusal11 s ∷ []) (r .ready) ∙ rw (ne-eqb (s .head .clock) clockEnd (r .ticking))
 
 pub record ReportReady (client : ℕ) (s : State) : Type 0 where
   pub ready : Ready s
