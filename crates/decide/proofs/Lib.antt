@@ -1,5 +1,1 @@
-pub mod Carried
-pub mod Choosing
 pub mod Matching
-pub mod Replying
-pub mod States

@@ -11,30 +11,14 @@ use lib.ListN.{length, getD, length-replicate}
 use Rattle.spec.specs.declared.types.Setup.{Setup}
 use Rattle.spec.specs.Tables.{mostAhead, mostCounted, zeroRequest, zeroCounts, State, clientTable}
 use Rattle.spec.specs.Setup.{Refusal, firstMatch}
-use Rattle.spec.specs.Calls.Refusals.{refusal4, refusal5, refusal6, refusal7, refusal8, refusal9, refusal10, refusal11}
-use Rattle.spec.specs.Calls.Refusals.{refusal12}
-use Rattle.spec.specs.Calls.Open.{openRefusals}
-use Rattle.spec.specs.Calls.Submit.{submitRefusals}
-use Rattle.spec.specs.Calls.Tick.{tickRefusals}
-use Rattle.spec.specs.Calls.Report.{reportRefusals}
-use Rattle.spec.specs.Calls.Chart.{chartRefusals}
+use Rattle.spec.specs.Calls.Refusals.{refusal6, refusal7, refusal8, refusal9, refusal10}
 use Rattle.spec.proofs.Laws.Sound.{within-test}
-use Rattle.sound.specs.Checks.{tablesRefusal}
-use Rattle.decide.specs.Matches.{ofTables, openMatch, submitMatch, tickMatch, reportMatch, chartMatch}
+use Rattle.decide.specs.Refusal.{ofTables}
 
--- the refusals of a call behind 4 and 5: those of document 01's list from 6 on
+-- submit's refusals behind 4 and 5
 abbrev pub submitOwn : ℕ → ℕ → State → List Refusal
 submitOwn client deadline s =
     refusal6 client s ∷ refusal7 deadline s ∷ refusal8 client s ∷ refusal9 s ∷ refusal10 s ∷ []
-
-abbrev tickOwn : State → List Refusal
-tickOwn s = refusal11 s ∷ []
-
-abbrev reportOwn : ℕ → State → List Refusal
-reportOwn client s = refusal6 client s ∷ []
-
-abbrev chartOwn : List ℕ → State → List Refusal
-chartOwn output s = refusal12 output s ∷ []
 
 -- ---- one refusal of a list
 pub match-here : (r : Refusal) (rs : List Refusal) → r .holds ≡ true → r .number ≡ firstMatch (r ∷ rs)
@@ -71,44 +55,6 @@ module _ {t : ℕ} (own : List Refusal) where
 
   pub tables-pass : t ≡ 0 → {n : ℕ} → n ≡ firstMatch own → n ≡ firstMatch (ofTables t ∷ own)
   tables-pass z e = match-next (ofTables t) own (ap not (eq-eqb t 0 z)) e
-
-  -- it is a state's refusal 4 or 5, or none where neither matches
-  tables-told : (s : State) → t ≡ tablesRefusal s → firstMatch (ofTables t ∷ own) ≡ firstMatch (refusal4 s ∷ refusal5 s ∷ own)
-  unfolding tablesRefusal firstMatch
-  tables-told s found = go (refusal4 s .holds) (refusal5 s .holds) found
-    where
-      go : (x y : Bool) → t ≡ cond x 4 (cond y 5 0)
-          → cond (not (eqb t 0)) t (firstMatch own) ≡ cond x 4 (cond y 5 (firstMatch own))
-      go true y e = rw e
-      go false true e = rw e
-      go false false e = rw e
-
--- ---- of a state, told what its tables call for: the first that matches of the call's whole list
-pub open-told : (setup : Setup) (s : State)
-    → openMatch setup (length (s .waitingTable)) (length (s .clientNumbers)) ≡ firstMatch (openRefusals setup s)
-unfolding openMatch openRefusals
-open-told setup s =
-    rw (length-replicate (length (s .waitingTable)) zeroRequest, length-replicate {A = ℕ} (length (s .clientNumbers)) 0)
-
-module _ (s : State) {tables : ℕ} (found : tables ≡ tablesRefusal s) where
-  pub submit-told : (client deadline : ℕ)
-      → submitMatch tables (s .head) (length (s .waitingTable)) (s .clientNumbers) client deadline
-      ≡ firstMatch (submitRefusals client deadline s)
-  unfolding submitMatch submitRefusals
-  submit-told client deadline =
-      rw (length-replicate (length (s .waitingTable)) zeroRequest) (tables-told (submitOwn client deadline s) s found)
-
-  pub tick-told : tickMatch tables (s .head) ≡ firstMatch (tickRefusals s)
-  unfolding tickMatch tickRefusals
-  tick-told = tables-told (tickOwn s) s found
-
-  pub report-told : (client : ℕ) → reportMatch tables (s .head) client ≡ firstMatch (reportRefusals client s)
-  unfolding reportMatch reportRefusals
-  report-told client = tables-told (reportOwn client s) s found
-
-  pub chart-told : (output : List ℕ) → chartMatch tables (s .head) (length output) ≡ firstMatch (chartRefusals output s)
-  unfolding chartMatch chartRefusals
-  chart-told output = rw (length-replicate {A = ℕ} (length output) 0) (tables-told (chartOwn output s) s found)
 
 -- ---- "6. Submit and report: the client does not exist."
 pub holds6 : (client : ℕ) (s : State) → s .head .setup .clients ≤ client → refusal6 client s .holds ≡ true

@@ -1,3 +1,7 @@
-pub mod Decisions
-pub mod Matches
-pub mod Replies
+pub mod Reply
+pub mod Refusal
+pub mod Open
+pub mod Submit
+pub mod Tick
+pub mod Report
+pub mod Chart

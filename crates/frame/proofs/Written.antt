@@ -13,7 +13,7 @@ use Rattle.spec.specs.declared.types.Answer.the-variants.{Opened, Kept, Dropped
 use Rattle.spec.specs.Chart.{Segment, segmentsOf}
 use Rattle.spec.specs.Calls.Readings.{Field, field}
 use Rattle.spec.specs.Lines.Frames.{lineFeed, digits, fieldDigits, lineOf, answerLine, segmentLines, answerLines}
-use Rattle.chart.specs.Charted.{segment}
+use Rattle.occupancy.specs.Charted.{segment}
 use Rattle.spec.proofs.types.Answer.{the-type}
 use Rattle.table.proofs.Rest.{rest-none}
 

@@ -1,7 +1,7 @@
 // The lines that answer a frame, appended to an output: each function writes behind the first `at` characters and hands back where
 // its line ends.
 use crate::digits;
-use chart::segments;
+use occupancy::segments;
 use spec::bounds::MOST_RECORDS;
 use spec::types::Answer;
 use spec::types::Setup;

@@ -1,3 +1,3 @@
+pub mod Laws
 pub mod Lists
-pub mod Together
 pub mod Values

@@ -8,13 +8,12 @@ use Rattle.spec.specs.Every.{exists}
 use Rattle.spec.specs.Tables.{State}
 use Rattle.spec.specs.Calls.Readings.{isRefused}
 use Rattle.spec.specs.Calls.Call.{Call, opening, outcomeOf}
-use Rattle.spec.specs.Lists.{run, Event, history, isOpened, empty, own, other, refusedEvent, WithRefused, refused as refused-call}
+use Rattle.spec.specs.Lists.{run, Event, history, isOpened, empty, own, other, refusedEvent, WithRefused}
+use Rattle.spec.specs.Lists.{refused as refused-call}
 use Rattle.spec.proofs.Demands.Demand1.{CountsGiven, counts-given}
 use Rattle.spec.proofs.Demands.Demand3.{Largest, largest-plan}
 use Rattle.spec.proofs.Calls.Refused.{firstAnswer, call-answers}
-use Rattle.decide.specs.declared.types.Reply.{Reply}
-use Rattle.decide.specs.Replies.{said}
-use Rattle.queue.specs.Gives.{Gives}
+use Rattle.queue.specs.Gives.{Reply, said, Gives}
 use Rattle.queue.specs.Runs.{Ran, none, next, refused}
 
 -- the calls of a list that were lent these tables

@@ -1,11 +1,11 @@
--- Decide's types as walks pass their values on. Assumes nothing.
+-- What a call hands back, and what a submit decides, as walks pass their values on. Assumes nothing.
 use mathlib.Core.Path.{refl}
 use denote.RattleType.{RattleType}
 use Rattle.walk.proofs.Plain.{PlainType, of-struct, of-enum}
-use Rattle.decide.proofs.types.Reply as TR
-use Rattle.decide.proofs.types.Reply.Laws as TR′
-use Rattle.decide.proofs.types.Decision as TD
-use Rattle.decide.proofs.types.Decision.Laws as TD′
+use Rattle.decide.proofs.reply.Reply as TR
+use Rattle.decide.proofs.reply.Reply.Laws as TR′
+use Rattle.decide.proofs.submit.Decision as TD
+use Rattle.decide.proofs.submit.Decision.Laws as TD′
 
 abbrev pub ReplyT : RattleType
 ReplyT = TR.the-row

@@ -2,8 +2,8 @@
 use mathlib.Core.Path.{_≡_}
 use Rattle.spec.specs.Tables.{State}
 use Rattle.spec.specs.Calls.Call.{Call, outcomeOf}
-use Rattle.decide.specs.declared.types.Reply.{Reply}
-use Rattle.decide.specs.Replies.{said}
+pub use Rattle.decide.specs.declared.reply.Reply.{Reply}
+pub use Rattle.decide.specs.Reply.{said}
 
 -- from the head and the tables that a caller lends to those that it then has: the answers are those that the definition gives, and
 -- so is all that the head handed back and the tables hold

@@ -1,2 +1,4 @@
+pub mod Decided
 pub mod Gives
+pub mod Placed
 pub mod Runs

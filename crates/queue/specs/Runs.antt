@@ -7,9 +7,7 @@ use Rattle.spec.specs.declared.types.Answer.the-variants.{Refused}
 use Rattle.spec.specs.Tables.{State}
 use Rattle.spec.specs.Calls.Call.{Call}
 use Rattle.spec.specs.Lists.{Event, refusedEvent}
-use Rattle.decide.specs.declared.types.Reply.{Reply}
-use Rattle.decide.specs.Replies.{said}
-use Rattle.queue.specs.Gives.{Gives}
+use Rattle.queue.specs.Gives.{Reply, said, Gives}
 
 -- a list of calls that meet their contract, with their answers, the newest first. Among them may stand refused calls that were lent
 -- other tables, and so left these alone

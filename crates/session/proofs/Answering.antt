@@ -11,9 +11,7 @@ use Rattle.spec.specs.Every.{firstOr}
 use Rattle.spec.specs.Tables.{State, stateOf}
 use Rattle.spec.specs.Calls.Call.{Call, meaning}
 use Rattle.spec.specs.Lines.Session.{task}
-use Rattle.decide.specs.declared.types.Reply.{Reply}
-use Rattle.decide.specs.Replies.{said}
-use Rattle.queue.specs.Gives.{Gives}
+use Rattle.queue.specs.Gives.{Reply, said, Gives}
 use Rattle.session.specs.Answered.{Answered}
 
 -- a call's, where it is the one that the frame asks for

@@ -15,7 +15,7 @@ use Rattle.spec.specs.Tables.{mostRecords, mostClients, width, stateOf}
 use Rattle.spec.specs.Lines.Frames.{answerLines}
 use Rattle.spec.specs.Lines.Session.{task}
 use Rattle.frame.specs.Written.{mostBytes, CanDraw}
-use Rattle.decide.specs.declared.types.Reply.{Reply}
+use Rattle.queue.specs.Gives.{Reply}
 use Rattle.session.specs.declared.types.Session.{Session}
 use Rattle.session.specs.declared.types.Fed.{Fed}
 use Rattle.session.specs.declared.types.Turn.{Turn}

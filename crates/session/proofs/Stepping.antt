@@ -14,7 +14,7 @@ use Rattle.spec.specs.Lines.Frames.{answerLines}
 use Rattle.spec.specs.Lines.Session.{reply}
 use Rattle.spec.proofs.Laws.Every.{and-left, and-right}
 use Rattle.frame.specs.Written.{mostBytes}
-use Rattle.decide.specs.declared.types.Reply.{Reply}
+use Rattle.queue.specs.Gives.{Reply}
 use Rattle.session.specs.declared.types.Session.{Session}
 use Rattle.session.specs.declared.types.Fed.{Fed}
 use Rattle.session.specs.declared.types.Turn.{Turn}

@@ -6,8 +6,7 @@ use Rattle.spec.specs.declared.types.Frame.{Frame}
 use Rattle.spec.specs.Tables.{State}
 use Rattle.spec.specs.Calls.Outcome.{Outcome}
 use Rattle.spec.specs.Lines.Session.{task, outcomeBy, outputBy}
-use Rattle.decide.specs.declared.types.Reply.{Reply}
-use Rattle.decide.specs.Replies.{said}
+use Rattle.queue.specs.Gives.{Reply, said}
 
 -- what the call gives that a frame asks for, where the chart's output is starts
 abbrev pub outcomeFor : Frame → List ℕ → State → Outcome

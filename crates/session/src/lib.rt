@@ -2,9 +2,9 @@
 pub mod turns;
 pub mod types;
 
-use decide::types::Reply;
 use frame::lines;
 use frame::values;
+use queue::Reply;
 use spec::types::Frame;
 use spec::types::Head;
 use spec::types::Request;

@@ -1,5 +1,5 @@
 // The tests of one record, of one client's counts, and of the head.
-use chart::room;
+use occupancy::room;
 use spec::bounds;
 use spec::types::Counts;
 use spec::types::Head;

@@ -12,8 +12,8 @@ use Rattle.spec.specs.declared.types.Counts.{Counts}
 use Rattle.spec.specs.Tables.{zeroCounts, width, recordThen, recordsOf, numbersOf, change}
 use Rattle.spec.specs.Calls.Tick.{isPeriodStart}
 use Rattle.table.specs.declared.clients.Count.{Count}
-use Rattle.table.specs.Widths.{largest32}
-use Rattle.table.specs.Clients.{changedAt, changedAll, saturatingNext, countOf, oneMoreOf, oneMoreUnlessFull, restartedCounts, restartedNumbers}
+use Rattle.table.specs.Widths.{largest32, saturatingNext}
+use Rattle.table.specs.Clients.{changedAt, changedAll, countOf, oneMoreOf, oneMoreUnlessFull, restartedCounts, restartedNumbers}
 use Rattle.spec.proofs.Laws.Layout.{next-first, next-other, records-numbers}
 
 module _ (f : Counts → Counts) where
@@ -83,7 +83,7 @@ module _ (which : Count) where
       more-changed client (numbersOf cs) (rw (records-numbers cs) h) ∙ changedAt-numbers (oneMoreOf which) client cs
 
 -- a number that rises unless it is the largest, chosen in a record or between two
-pub next-record : (f : ℕ → Counts) (n : ℕ) → f (saturatingNext n) ≡ cond (ltb n largest32) (f (suc n)) (f n)
+pub next-record : (f : ℕ → Counts) (n : ℕ) → f (saturatingNext largest32 n) ≡ cond (ltb n largest32) (f (suc n)) (f n)
 next-record f n = chosen (ltb n largest32)
   where
     chosen : (b : Bool) → f (cond b (suc n) n) ≡ cond b (f (suc n)) (f n)

@@ -25,10 +25,6 @@ changedAll f (a ∷ []) = a ∷ []
 changedAll f (a ∷ b ∷ []) = a ∷ b ∷ []
 changedAll f (a ∷ b ∷ c ∷ xs) = recordThen (f (recordOf a b c)) (changedAll f xs)
 
--- the number one larger; the largest number of 32 bits stays
-abbrev pub saturatingNext : ℕ → ℕ
-saturatingNext n = cond (ltb n largest32) (suc n) n
-
 -- one of a client's counts, and the counts with 1 added to it
 abbrev pub countOf : Count → Counts → ℕ
 countOf Submitted k = k .submitted

@@ -6,7 +6,8 @@ ghost use Prim.Native.Nat.{_+_, _*_, _<_};
 ghost use lib.Dec.{eqb};
 ghost use lib.ListN.{length, getD, replicate};
 ghost use Rattle.spec.specs.Tables.{width, recordsOf, zeroCounts};
-ghost use Rattle.table.specs.Clients.{changedAt, saturatingNext, oneMoreUnlessFull, waitingCount};
+ghost use Rattle.table.specs.Clients.{changedAt, oneMoreUnlessFull, waitingCount};
+ghost use Rattle.table.specs.Widths.{largest32, saturatingNext};
 
 // How many numbers a record is.
 pub const WIDTH: usize = 3;
@@ -78,7 +79,7 @@ fn put_at(numbers: &mut [u32], client: u64, k: Counts)
 
 // One more, unless it is the largest number.
 fn saturating_next(n: u32) -> u32
-    ensures { λ r. ⌜ r ≡ saturatingNext n ⌝ }
+    ensures { λ r. ⌜ r ≡ saturatingNext largest32 n ⌝ }
 {
     if n == u32::MAX {
         return n;

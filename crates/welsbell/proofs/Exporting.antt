@@ -13,8 +13,7 @@ use Rattle.spec.specs.Calls.Chart.{chartAccepted}
 use Rattle.spec.specs.Calls.Call.{Call, report, chart, outcomeOf}
 use Rattle.spec.proofs.Laws.Accepted.{Decided, accepts, refuses}
 use Rattle.spec.proofs.Calls.Refused.{outcome-decided}
-use Rattle.decide.specs.declared.types.Reply.{Reply}
-use Rattle.queue.specs.Gives.{Gives}
+use Rattle.queue.specs.Gives.{Reply, Gives}
 use Rattle.welsbell.specs.Numbers.{headOf, valueNumbers, written, Exported}
 
 -- a report and a chart leave the state as it was, refused or not

@@ -14,9 +14,7 @@ use Rattle.spec.specs.Calls.Call.{Call, opening, outcomeOf}
 use Rattle.spec.specs.Lists.{Event, isOpened, refusedEvent}
 use Rattle.spec.proofs.Demands.Demand1.{CountsGiven}
 use Rattle.spec.proofs.Demands.Demand3.{Largest}
-use Rattle.decide.specs.declared.types.Reply.{Reply}
-use Rattle.decide.specs.Replies.{said}
-use Rattle.queue.specs.Gives.{Gives}
+use Rattle.queue.specs.Gives.{Reply, said, Gives}
 use Rattle.queue.specs.Runs.{Ran}
 use Rattle.queue.specs.Runs as runs
 use Rattle.queue.proofs.Lists.{library-largest, library-counts}

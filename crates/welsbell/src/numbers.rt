@@ -1,5 +1,5 @@
 // Setup, head and answer as numbers in lent arrays.
-use decide::types::Reply;
+use queue::Reply;
 use spec::types::Answer;
 use spec::types::Head;
 use spec::types::Setup;

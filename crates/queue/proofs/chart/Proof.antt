@@ -6,13 +6,13 @@ use Rattle.spec.specs.declared.types.Request.{Request}
 use Rattle.table.proofs.Rows.{R}
 use Rattle.table.proofs.Heads.{the-head, waiting-fits, a-head, a-setup, setup-is}
 use Rattle.queue.proofs.Values.{ReplyT, a-reply}
-use Rattle.queue.proofs.Together.{within, chart-gives, output-charted}
+use Rattle.queue.proofs.Laws.Chart.{within, chart-gives, output-charted}
 use Rattle.sound.proofs.check.tables_refusal as tables-refusal
-use Rattle.decide.proofs.refusals.chart_refusal as chart-refusal
-use Rattle.decide.proofs.edits.unless_refused as unless-refused
+use Rattle.decide.proofs.chart.refusal as chart-refusal
+use Rattle.decide.proofs.reply.unless_refused as unless-refused
 use Rattle.table.proofs.waiting.deadlines as deadlines
-use Rattle.chart.proofs.starts.write_starts as write-starts
-use Rattle.decide.proofs.replies.chart_reply as chart-reply
+use Rattle.occupancy.proofs.starts.write_starts as write-starts
+use Rattle.decide.proofs.chart.reply as chart-reply
 use Rattle.queue.proofs.chart as f
 
 module _ {M : Type 1} (𝓤 : URA M) (H : Heap 𝓤) (A : Atoms 𝓤) (W : Given 𝓤 H A) (mem : Memory → SProp 𝓤) (run : Routine → Fun 𝓤) where
@@ -42,9 +42,9 @@ module _ {M : Type 1} (𝓤 : URA M) (H : Heap 𝓤) (A : Atoms 𝓤) (W : Given
       -- let tables = check::tables_refusal(waiting, clients, head);
       calls-for ! 𝓣 (0 ∷ 1 ∷ []) (passed-on W s₀ ∷ passed-on W s₁ ∷ the-head W head head-is ∷ []) (of-number w64) (λ c. known-tables-refusal) (λ c h. h) (id⊢ 𝓤 _) refl (λ c. vars ! (refl, (refl, (refl, tt)))) (λ _. refl) (λ tables last₁ found kept₁ tables-is.
       sets ! (of-opd ! (field-var ! refl refl refl)) refl (tt, fit (s₂ .room .0)) $
-      -- let refusal = refusals::chart_refusal(tables, head, output.len());
+      -- let refusal = decide::chart::refusal(tables, head, output.len());
       calls-for ! 𝓣 [] (number W tables (tables-is .1) ∷ the-head W head head-is ∷ number W (length output) (s₂ .room .0) ∷ []) (of-number w64) (λ c. known-chart-refusal) (λ c h. h) (id⊢ 𝓤 _) refl (λ c. vars ! (refl, (refl, (refl, tt)))) (λ _. refl) (λ refusal last₂ refuses kept₂ refusal-is.
-      -- let n = edits::unless_refused(refusal, head.waiting);
+      -- let n = unless_refused(refusal, head.waiting);
       calls-for ! 𝓣 [] (number W refusal (refusal-is .1) ∷ number W (head .waiting) (waiting-fits head head-is) ∷ []) (of-number w64) (λ c. known-unless-refused) (λ c h. h) (id⊢ 𝓤 _) refl (λ c. and-then ! (var ! refl) (and-then ! (field-var ! refl refl refl) (no-more !))) (λ _. refl) (λ n last₃ copied kept₃ n-is.
       relends ! s₂ refl $
       -- table::deadlines(waiting, output, n);
@@ -54,7 +54,7 @@ module _ {M : Type 1} (𝓤 : URA M) (H : Heap 𝓤) (A : Atoms 𝓤) (W : Given
       -- chart::write_starts(head.setup, output, n);
       calls-for ! 𝓣 (2 ∷ []) (given W a-setup (head .setup) (setup-is head head-is) ∷ mut-of W s₂ (last₄ .1 .0) (kept₄ .1 .0) ∷ number W n (n-is .1) ∷ []) of-nothing (λ c. known-write-starts) (λ c h. h) (so 𝓤 (subst (λ (m : ℕ). n ≤ m) (sym (kept₄ .1 .0)) (within head ws xs output tables refusal n found refuses copied .1))) refl (λ c. and-then ! (field-var ! refl refl refl) (vars ! (refl, (refl, tt)))) (λ _. refl) (λ u last₅ second kept₅ _.
       let out₂ : List ℕ = last₅ .1 .0 in
-      -- replies::chart_reply(head, refusal)
+      -- decide::chart::reply(head, refusal)
       calls-for ! 𝓣 [] (the-head W head head-is ∷ number W refusal (refusal-is .1) ∷ []) a-reply (λ c. known-chart-reply) (λ c h. h) (id⊢ 𝓤 _) refl (λ c. vars ! (refl, (refl, tt))) (λ _. refl) (λ r last₆ told kept₆ r-is.
       gives ! refl refl $ leaves (a-reply .val r) r (last₅ .1 .0, tt) ((kept₅ .0) ∙ (kept₄ .1 .0), tt) (made W a-reply r r-is) (so 𝓤 (chart-gives head ws xs output tables refusal n found refuses copied r told, output-charted head ws xs output tables refusal n found refuses copied out₁ out₂ first second))))))))
 
@@ -64,14 +64,14 @@ chart-spec 𝓤 H 𝓜 𝓖 𝓡 =
     proved 𝓤 H 𝓜 𝓖 𝓡 (shape 𝓤 H) (walk 𝓤 H) f.Code.env f.Key.name (f.Code.unfolded 𝓤 H 𝓜 𝓡) (
       (tables-refusal.Symbol.routine, f.Code.calls-sound·check·tables-refusal, tables-refusal.Met.met 𝓤 H 𝓜 𝓖 𝓡),
       (
-        (chart-refusal.Symbol.routine, f.Code.calls-decide·refusals·chart-refusal, chart-refusal.Met.met 𝓤 H 𝓜 𝓖 𝓡),
+        (chart-refusal.Symbol.routine, f.Code.calls-decide·chart·refusal, chart-refusal.Met.met 𝓤 H 𝓜 𝓖 𝓡),
         (
-          (unless-refused.Symbol.routine, f.Code.calls-decide·edits·unless-refused, unless-refused.Met.met 𝓤 H 𝓜 𝓖 𝓡),
+          (unless-refused.Symbol.routine, f.Code.calls-decide·reply·unless-refused, unless-refused.Met.met 𝓤 H 𝓜 𝓖 𝓡),
           (
             (deadlines.Symbol.routine, f.Code.calls-table·waiting·deadlines, deadlines.Met.met 𝓤 H 𝓜 𝓖 𝓡),
             (
-              (write-starts.Symbol.routine, f.Code.calls-chart·starts·write-starts, write-starts.Met.met 𝓤 H 𝓜 𝓖 𝓡),
-              ((chart-reply.Symbol.routine, f.Code.calls-decide·replies·chart-reply, chart-reply.Met.met 𝓤 H 𝓜 𝓖 𝓡), tt),
+              (write-starts.Symbol.routine, f.Code.calls-occupancy·starts·write-starts, write-starts.Met.met 𝓤 H 𝓜 𝓖 𝓡),
+              ((chart-reply.Symbol.routine, f.Code.calls-decide·chart·reply, chart-reply.Met.met 𝓤 H 𝓜 𝓖 𝓡), tt),
             ),
           ),
         ),

@@ -6,10 +6,10 @@ use Rattle.spec.specs.declared.types.Request.{Request}
 use Rattle.table.proofs.Rows.{R}
 use Rattle.table.proofs.Heads.{a-head, the-head}
 use Rattle.queue.proofs.Values.{ReplyT, a-reply}
-use Rattle.queue.proofs.Together.{reported}
+use Rattle.queue.proofs.Laws.Report.{reported}
 use Rattle.sound.proofs.check.tables_refusal as tables-refusal
-use Rattle.decide.proofs.refusals.report_refusal as report-refusal
-use Rattle.decide.proofs.replies.report_reply as report-reply
+use Rattle.decide.proofs.report.refusal as report-refusal
+use Rattle.decide.proofs.report.reply as report-reply
 use Rattle.queue.proofs.report as f
 
 module _ {M : Type 1} (𝓤 : URA M) (H : Heap 𝓤) (A : Atoms 𝓤) (W : Given 𝓤 H A) (mem : Memory → SProp 𝓤) (run : Routine → Fun 𝓤) where
@@ -34,9 +34,9 @@ module _ {M : Type 1} (𝓤 : URA M) (H : Heap 𝓤) (A : Atoms 𝓤) (W : Given
       drop ! $
       -- let tables = check::tables_refusal(waiting, clients, head);
       calls-for ! 𝓣 (0 ∷ 1 ∷ []) (passed-on W waiting ∷ passed-on W clients ∷ the-head W head head-is ∷ []) (of-number w64) (λ c. known-tables-refusal) (λ c h. h) (id⊢ 𝓤 _) refl (λ c. vars ! (refl, (refl, (refl, tt)))) (λ _. refl) (λ tables last₁ found kept₁ tables-is.
-      -- let refusal = refusals::report_refusal(tables, head, client);
+      -- let refusal = decide::report::refusal(tables, head, client);
       calls-for ! 𝓣 [] (number W tables (tables-is .1) ∷ the-head W head head-is ∷ number W client (client-is .1) ∷ []) (of-number w64) (λ c. known-report-refusal) (λ c h. h) (id⊢ 𝓤 _) refl (λ c. vars ! (refl, (refl, (refl, tt)))) (λ _. refl) (λ refusal last₂ refuses kept₂ refusal-is.
-      -- replies::report_reply(head, clients, refusal, client)
+      -- decide::report::reply(head, clients, refusal, client)
       calls-for ! 𝓣 (1 ∷ []) (the-head W head head-is ∷ passed-on W clients ∷ number W refusal (refusal-is .1) ∷ number W client (client-is .1) ∷ []) a-reply (λ c. known-report-reply) (λ c h. h) (id⊢ 𝓤 _) refl (λ c. vars ! (refl, (refl, (refl, (refl, tt))))) (λ _. refl) (λ r last₃ told kept₃ r-is. gives ! refl refl $
       leaves (a-reply .val r) r tt tt (made W a-reply r r-is) (so 𝓤 (reported head ws xs client tables refusal r found refuses told)))))
 
@@ -46,7 +46,7 @@ report-spec 𝓤 H 𝓜 𝓖 𝓡 =
     proved 𝓤 H 𝓜 𝓖 𝓡 (shape 𝓤 H) (walk 𝓤 H) f.Code.env f.Key.name (f.Code.unfolded 𝓤 H 𝓜 𝓡) (
       (tables-refusal.Symbol.routine, f.Code.calls-sound·check·tables-refusal, tables-refusal.Met.met 𝓤 H 𝓜 𝓖 𝓡),
       (
-        (report-refusal.Symbol.routine, f.Code.calls-decide·refusals·report-refusal, report-refusal.Met.met 𝓤 H 𝓜 𝓖 𝓡),
-        ((report-reply.Symbol.routine, f.Code.calls-decide·replies·report-reply, report-reply.Met.met 𝓤 H 𝓜 𝓖 𝓡), tt),
+        (report-refusal.Symbol.routine, f.Code.calls-decide·report·refusal, report-refusal.Met.met 𝓤 H 𝓜 𝓖 𝓡),
+        ((report-reply.Symbol.routine, f.Code.calls-decide·report·reply, report-reply.Met.met 𝓤 H 𝓜 𝓖 𝓡), tt),
       ),
     )

@@ -28,7 +28,7 @@ use Rattle.spec.proofs.Laws.Sound.{Ahead}
 use Rattle.spec.proofs.Laws.Accepted.{chart-ready, Ready, waiting-length}
 use Rattle.spec.proofs.Calls.Refused.{firstAnswer, call-answers, setup-same, left-same}
 use Rattle.table.specs.Widths.{largest64}
-use Rattle.chart.proofs.Drawing.{starts-column, starts-below}
+use Rattle.occupancy.proofs.Drawing.{starts-column, starts-below}
 use Rattle.sound.proofs.Laws.{shapeOf, shape-facts, shape-refused}
 use Rattle.frame.specs.Written.{CanDraw}
 use Rattle.session.proofs.Laws.Lending.{alike}

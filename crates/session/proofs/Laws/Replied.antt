@@ -9,7 +9,7 @@ use Rattle.spec.specs.declared.types.Request.{Request}
 use Rattle.spec.specs.Lines.Frames.{answerLines}
 use Rattle.spec.specs.Lines.Session.{reply}
 use Rattle.frame.specs.Written.{CanDraw}
-use Rattle.decide.specs.declared.types.Reply.{Reply}
+use Rattle.queue.specs.Gives.{Reply}
 use Rattle.session.specs.declared.types.Session.{Session}
 use Rattle.session.specs.Standing.{Reserved, reservedOf, heldIn, fitsIn, recordsFor, numbersFor, recordsAfter}
 

@@ -26,8 +26,7 @@ use Rattle.spec.proofs.Laws.Layout.{length-numbers, whole-records}
 use Rattle.spec.proofs.Laws.Accepted.{OpenReady, open-ready}
 use Rattle.frame.specs.Written.{CanDraw}
 use Rattle.spec.proofs.Calls.Refused.{firstAnswer}
-use Rattle.decide.specs.declared.types.Reply.{Reply}
-use Rattle.decide.specs.Replies.{said}
+use Rattle.queue.specs.Gives.{Reply, said}
 use Rattle.session.specs.declared.types.Session.{Session}
 use Rattle.session.specs.Answered.{Answered, outcomeFor}
 use Rattle.session.specs.Standing.{reservedOf, heldIn, doFit, upTo, recordsFor, numbersFor, recordsAfter}

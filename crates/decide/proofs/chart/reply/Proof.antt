@@ -1,0 +1,17 @@
+-- `decide::chart::reply` meets its contract. Assumes nothing.
+use borrow.Author.Needs.{needs}
+use borrow.Author.Tests.{eq-eqb, ne-eqb}
+use Rattle.decide.proofs.chart.reply.Statement.{statement}
+use Rattle.decide.proofs.chart.reply.Tie as tie
+
+refused-requires : tie.Need-refused-requires
+refused-requires c κs = search needs
+
+returns : tie.Need-returns
+returns c = rw (ne-eqb _ 0 (c .before .if1 .taken)) (c .refused .ensures)
+
+returns-2 : tie.Need-returns-2
+returns-2 c = rw (eq-eqb _ 0 (c .if1 .left))
+
+pub reply-spec : {M : Type 1} → statement M
+reply-spec = tie.close (tie.spec refused-requires returns returns-2)

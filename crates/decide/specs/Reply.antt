@@ -1,0 +1,21 @@
+-- What a call hands back. Assumes nothing.
+use Prim.Native.Nat.{ℕ}
+use mathlib.Core.Bool.{cond}
+use mathlib.Core.List.{List, [], _∷_}
+use lib.Dec.{eqb}
+use Rattle.spec.specs.declared.types.Head.{Head}
+use Rattle.spec.specs.declared.types.Answer.{Answer}
+use Rattle.spec.specs.declared.types.Answer.the-variants.{Refused}
+use Rattle.decide.specs.declared.reply.Reply.{Reply}
+
+-- the answers that a reply stands for: the one that it has
+abbrev pub said : Reply → List Answer
+said r = r .answer ∷ []
+
+-- "Each answers with its number only; head, tables and output stay unchanged."
+abbrev pub refusedWith : Head → ℕ → Reply
+refusedWith head number = record { head = head; answer = Refused number }
+
+-- the reply of a call that is not refused, or the refusal
+abbrev pub replyUnless : ℕ → Head → Reply → Reply
+replyUnless refusal head accepted = cond (eqb refusal 0) accepted (refusedWith head refusal)

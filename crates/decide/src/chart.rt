@@ -1,0 +1,33 @@
+// Chart, the call: its refusal, and what it hands back.
+use crate::reply;
+use crate::reply::Reply;
+use spec::types::Answer;
+use spec::types::Head;
+ghost use mathlib.Core.Path.{_≡_};
+ghost use Rattle.decide.specs.Chart.{chartMatch, chartReply};
+
+// The number of the first refusal that matches, or 0, by the length of the output.
+pub fn refusal(tables: u64, head: Head, entries: usize) -> u64
+    ensures { λ r. ⌜ r ≡ chartMatch tables head entries ⌝ }
+{
+    if tables != 0 {
+        return tables;
+    }
+    if (entries as u64) < head.waiting {
+        return 12;
+    }
+    0
+}
+
+// What it hands back.
+pub fn reply(head: Head, refusal: u64) -> Reply
+    ensures { λ r. ⌜ r ≡ chartReply refusal head ⌝ }
+{
+    if refusal != 0 {
+        return reply::refused(head, refusal);
+    }
+    let answer = Answer::Charted {
+        count: head.waiting,
+    };
+    Reply { head, answer }
+}

@@ -1,0 +1,198 @@
+// Submit: its refusal, what it decides, and what it hands back. `tables` is what the tables call for, 4 or 5 or 0, however it was
+// found: refusals 4 and 5 stand first in every list but open's.
+use crate::reply;
+use crate::reply::Reply;
+use occupancy::victim;
+use spec::bounds;
+use spec::types::Answer;
+use spec::types::Head;
+use spec::types::Request;
+use table::clients;
+use table::clients::Count;
+ghost use mathlib.Core.Path.{_≡_};
+ghost use Prim.Native.Nat.{_≤_, _<_};
+ghost use lib.ListN.{length, getD};
+ghost use Rattle.spec.specs.Tables.{zeroCounts, recordsOf};
+ghost use Rattle.table.specs.Widths.{largest32};
+ghost use Rattle.occupancy.specs.Scans.{countsWith};
+ghost use Rattle.decide.specs.declared.submit.Decision.the-variants.{Refuse};
+ghost use Rattle.decide.specs.Submit.{submitMatch, choiceBy, placeWithout, numberedRequest, headAfterSubmit, keptWith};
+ghost use Rattle.decide.specs.Submit.{droppedWith, submitReply, submitNumbers};
+
+// What a submit does to the waiting table.
+pub enum Decision {
+    Refuse { number: u64 },
+    // The new record goes in at `place`.
+    Keep { place: usize },
+    // The new record goes in at `place`, and then the one at `victim` is taken out.
+    Drop { place: usize, victim: usize },
+}
+
+// The number of the first refusal that matches, or 0.
+pub fn refusal(
+    tables: u64,
+    head: Head,
+    records: usize,
+    numbers: &[u32],
+    client: u64,
+    deadline: u64,
+) -> u64
+    ensures { λ r. ⌜ r ≡ submitMatch tables head records (now (numbers .entry)) client deadline ⌝ }
+{
+    if tables != 0 {
+        return tables;
+    }
+    if head.setup.clients <= client {
+        return 6;
+    }
+    if deadline <= head.clock {
+        return 7;
+    }
+    if bounds::MOST_AHEAD < deadline - head.clock {
+        return 7;
+    }
+    if clients::counts_at(numbers, client).submitted == bounds::MOST_COUNTED {
+        return 8;
+    }
+    if head.last == bounds::NUMBER_END {
+        return 9;
+    }
+    if head.waiting == records as u64 {
+        return 10;
+    }
+    0
+}
+
+// A refused submit's decision.
+pub fn refuse(number: u64) -> Decision
+    ensures { λ r. ⌜ r ≡ Refuse number ⌝ }
+{
+    Decision::Refuse { number }
+}
+
+// What a submit decides that is not refused: the new request is kept at its place or, where a deadline was found overfull, the victim
+// goes. It is found by each client's last candidate.
+pub fn choice(
+    head: Head,
+    latest: &[u16],
+    numbers: &[u32],
+    client: u64,
+    place: usize,
+    found: u64,
+) -> Decision
+    requires { ⌜ (head .setup .clients ≤ length (now latest)) × (getD (recordsOf (now numbers)) client zeroCounts .submitted < largest32) ⌝ }
+    ensures { λ r. ⌜ r ≡ choiceBy (head .setup .clients)
+        (countsWith client (recordsOf (now (numbers .entry))))
+        (now (latest .entry)) place found ⌝ }
+{
+    if found == 0 {
+        return Decision::Keep { place };
+    }
+    let clients = head.setup.clients as usize;
+    let victim = victim::smallest_ratio_place(latest, numbers, client, clients);
+    Decision::Drop { place, victim }
+}
+
+// A place among the waiting records and the new one, as it is where the one at `other` is left out.
+pub fn place_without(place: usize, other: usize) -> usize
+    ensures { λ r. ⌜ r ≡ placeWithout place other ⌝ }
+{
+    if other < place {
+        return place - 1;
+    }
+    place
+}
+
+// The new record, with the next request number.
+pub fn new_request(head: Head, client: u64, deadline: u64) -> Request
+    ensures { λ r. ⌜ r ≡ numberedRequest head client deadline ⌝ }
+{
+    let number = reply::saturating_next(head.last);
+    Request {
+        deadline,
+        number,
+        client,
+    }
+}
+
+// The new request is counted in submitted and, where one is dropped, that one in dropped. `gone` is the record that went out of the
+// waiting table, or the new one.
+pub fn count(numbers: &mut [u32], decision: Decision, client: u64, gone: Request)
+    ensures { λ _. ⌜ now (numbers .exit) ≡ submitNumbers client gone decision (now (numbers .entry)) ⌝ }
+{
+    match decision {
+        Decision::Refuse { number: _ } => {
+            return;
+        }
+        Decision::Keep { place: _ } => {
+            clients::add_one(numbers, client, Count::Submitted);
+        }
+        Decision::Drop {
+            place: _,
+            victim: _,
+        } => {
+            clients::add_one(numbers, client, Count::Submitted);
+            clients::add_one(numbers, gone.client, Count::Dropped);
+        }
+    }
+}
+
+// The head after a submit, with so many waiting.
+fn head_after_submit(head: Head, waiting: u64) -> Head
+    ensures { λ r. ⌜ r ≡ headAfterSubmit head waiting ⌝ }
+{
+    let setup = head.setup;
+    let last = reply::saturating_next(head.last);
+    Head {
+        setup,
+        clock: head.clock,
+        last,
+        waiting,
+    }
+}
+
+// Where all are kept.
+fn kept(head: Head, place: usize) -> Reply
+    ensures { λ r. ⌜ r ≡ keptWith head place ⌝ }
+{
+    let waiting = reply::saturating_next(head.waiting);
+    let after = head_after_submit(head, waiting);
+    let answer = Answer::Kept {
+        number: after.last,
+        place: place as u64,
+    };
+    Reply {
+        head: after,
+        answer,
+    }
+}
+
+// Where one is dropped.
+fn dropped(head: Head, gone: Request) -> Reply
+    ensures { λ r. ⌜ r ≡ droppedWith head gone ⌝ }
+{
+    let after = head_after_submit(head, head.waiting);
+    let answer = Answer::Dropped {
+        number: after.last,
+        victim: gone.number,
+        client: gone.client,
+    };
+    Reply {
+        head: after,
+        answer,
+    }
+}
+
+// What it hands back.
+pub fn reply(head: Head, decision: Decision, gone: Request) -> Reply
+    ensures { λ r. ⌜ r ≡ submitReply head gone decision ⌝ }
+{
+    match decision {
+        Decision::Refuse { number } => reply::refused(head, number),
+        Decision::Keep { place } => kept(head, place),
+        Decision::Drop {
+            place: _,
+            victim: _,
+        } => dropped(head, gone),
+    }
+}

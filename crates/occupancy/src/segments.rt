@@ -1,0 +1,44 @@
+// The chart's segments, one after the other.
+use spec::types::Setup;
+ghost use mathlib.Core.Path.{_≡_};
+ghost use mathlib.Core.List.{_∷_};
+ghost use Prim.Native.Nat.{ℕ, _+_, _-_, _<_, _≤_};
+ghost use lib.ListN.{length, getD, take, drop};
+ghost use Rattle.spec.specs.Chart.{segmentsOf};
+ghost use Rattle.table.specs.Widths.{largest64};
+ghost use Rattle.occupancy.specs.Charted.{segment};
+
+// A segment's two ends, and the index of the first start slot behind it.
+pub struct Run {
+    pub left: u64,
+    pub right: u64,
+    pub next: usize,
+}
+
+// The segment that begins with the interval of the start slot at the index i: it spans as many start slots as it has slots.
+pub fn segment_at(setup: Setup, starts: &[u64], n: usize, i: usize) -> Run
+    requires { ⌜ (i < n) × (n ≤ length (now starts)) × ((k : ℕ) → k < n → getD (now starts) k 0 < largest64) ⌝ }
+    ensures { λ r. ⌜
+        (segmentsOf setup (drop i (take n (now (starts .entry))))
+        ≡ segment (r .left) (r .right) ∷ segmentsOf setup (drop (r .next) (take n (now (starts .entry)))))
+        × (i < r .next)
+        × (r .next ≤ n)
+        × (r .next ≡ i + (r .right - r .left))
+        ⌝ }
+{
+    let left = starts[i];
+    let mut right = left + 1;
+    let mut k = i + 1;
+    while k < n {
+        if starts[k] != right {
+            break;
+        }
+        right += 1;
+        k += 1;
+    }
+    Run {
+        left,
+        right,
+        next: k,
+    }
+}

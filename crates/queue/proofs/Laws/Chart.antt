@@ -1,0 +1,112 @@
+-- What the parts of a chart call come to together. Assumes nothing.
+use Prim.Native.Nat.{ℕ, _≤_}
+use mathlib.Core.Path.{_≡_, refl, sym, ap, subst, _∙_}
+use mathlib.Core.Bool.{Bool, true, false, cond}
+use mathlib.Core.List.{List, _++_}
+use mathlib.Core.Logic.{_≢_}
+use lib.Dec.{eqb}
+use lib.ListN.{length, take, drop, length-map}
+use lib.Seq.{take-at, drop-at, length-take-le}
+use Rattle.slots.proofs.Laws.Tests.{Same, same-yes, same-no, same}
+use Rattle.spec.specs.declared.types.Head.{Head}
+use Rattle.spec.specs.declared.types.Request.{Request}
+use Rattle.spec.specs.declared.types.Answer.the-variants.{Charted}
+use Rattle.spec.specs.Tables.{State, waiting, stateOf, deadlinesOf}
+use Rattle.spec.specs.Setup.{firstMatch}
+use Rattle.spec.specs.Chart.{startsOf}
+use Rattle.spec.specs.Calls.Outcome.{refusing}
+use Rattle.spec.specs.Calls.Chart.{chartRefusals, chartAccepted, chartOutput}
+use Rattle.spec.specs.Calls.Call.{chart, outcomeOf}
+use Rattle.spec.proofs.Laws.Accepted.{ChartReady, chart-ready, waiting-length}
+use Rattle.spec.proofs.Calls.Refused.{length-starts, Written, untouched, written, output-written}
+use Rattle.occupancy.specs.Charted.{startSlots}
+use Rattle.occupancy.proofs.Drawing.{starts-column}
+use Rattle.sound.specs.Checks.{tablesRefusal}
+use Rattle.decide.specs.Reply.{refusedWith}
+use Rattle.decide.specs.Chart.{chartMatch, chartReply}
+use Rattle.queue.specs.Gives.{Reply, said, Gives}
+use Rattle.queue.proofs.Laws.Told.{chart-told}
+use Rattle.queue.proofs.Laws.Answers.{answers, unless-within, unchanged, given}
+
+-- ---- an accepted chart's output: the start slots of the waiting requests' deadlines, and what stood beyond
+charted : (output : List ℕ) (s : State) → firstMatch (chartRefusals output s) ≡ 0
+    → startSlots (s .head .setup) (deadlinesOf (waiting s)) ++ drop (s .head .waiting) output ≡ chartOutput output s
+charted output s z = go (output-written output s)
+  where
+    count : length (startsOf (s .head .setup) (waiting s)) ≡ s .head .waiting
+    count = length-starts (s .head .setup) (waiting s) ∙ waiting-length s (chart-ready output s z .ready .shape)
+
+    go : {l : List ℕ} → Written output s l → startSlots (s .head .setup) (deadlinesOf (waiting s)) ++ drop (s .head .waiting) output ≡ l
+    go (untouched n) = absurd (n z)
+    go (written e) = rw (starts-column (s .head .setup) (waiting s), count)
+
+chart-answers : (output : List ℕ) (s : State) {refusal : ℕ} {r : Reply} → refusal ≡ firstMatch (chartRefusals output s)
+    → r ≡ chartReply refusal (s .head) → (said r ≡ outcomeOf (chart output) s .answers) × (r .head ≡ outcomeOf (chart output) s .after .head)
+unfolding outcomeOf chartAccepted
+chart-answers output s {refusal} found e = rw (← found, e) (go (eqb refusal 0))
+  where
+    go : (b : Bool) → let q = cond b (chartAccepted s) (refusing refusal s) in
+        let r = cond b (record { head = s .head; answer = Charted (s .head .waiting) }) (refusedWith (s .head) refusal) in
+        (said r ≡ q .answers) × (r .head ≡ q .after .head)
+    go true = (refl, refl)
+    go false = (refl, refl)
+
+module _ (head : Head) (ws : List Request) (xs : List ℕ) where
+  abbrev s : State
+  s = stateOf head ws xs
+
+  module _ (output : List ℕ) (tables refusal n : ℕ) (found : tables ≡ tablesRefusal s)
+      (refuses : refusal ≡ chartMatch tables head (length output))
+      (copied : n ≡ cond (eqb refusal 0) (head .waiting) 0) where
+    told : refusal ≡ firstMatch (chartRefusals output s)
+    told = refuses ∙ chart-told s found output
+
+    -- how much is copied and written: all that wait, or nothing
+    pub within : (n ≤ length ws) × (n ≤ length output)
+    within = (
+      unless-within refusal (head .waiting) n (length ws) copied (λ z. ready z .ready .shape .waits),
+      unless-within refusal (head .waiting) n (length output) copied (λ z. ready z .long),
+    )
+      where
+        ready : refusal ≡ 0 → ChartReady output s
+        ready z = chart-ready output s (sym told ∙ z)
+
+    module _ (out₁ out₂ : List ℕ) (first : out₁ ≡ deadlinesOf (take n ws) ++ drop n output)
+        (second : out₂ ≡ startSlots (head .setup) (take n out₁) ++ drop n out₁) where
+      abbrev front : List ℕ
+      front = deadlinesOf (take n ws)
+
+      front-long : length front ≡ n
+      front-long = length-map (take n ws) (λ (w : Request). w .deadline) ∙ length-take-le n ws (within .0)
+
+      slots : out₂ ≡ startSlots (head .setup) front ++ drop n output
+      slots =
+          second
+          ∙ ap (λ (l : List ℕ). startSlots (head .setup) (take n l) ++ drop n l) first
+          ∙ rw (take-at front (drop n output) n front-long, drop-at front (drop n output) n front-long)
+
+      untouched-output : refusal ≢ 0 → {l : List ℕ} → Written output s l → output ≡ l
+      untouched-output z (untouched h) = refl
+      untouched-output z (written e) = absurd (z (told ∙ e))
+
+      pub output-charted : out₂ ≡ chartOutput output s
+      unfolding startSlots
+      output-charted = slots ∙ go (eqb refusal 0) (same refusal 0) copied
+        where
+          go : (b : Bool) → Same refusal 0 b → n ≡ cond b (head .waiting) 0
+              → startSlots (head .setup) front ++ drop n output ≡ chartOutput output s
+          go true (same-yes z) e =
+              subst (λ (m : ℕ). startSlots (head .setup) (deadlinesOf (take m ws)) ++ drop m output ≡ chartOutput output s) (sym e)
+              (charted output s (sym told ∙ z))
+          go false (same-no z) e =
+              subst (λ (m : ℕ). startSlots (head .setup) (deadlinesOf (take m ws)) ++ drop m output ≡ chartOutput output s) (sym e)
+              (untouched-output z (output-written output s))
+
+    pub chart-gives : (r : Reply) → r ≡ chartReply refusal head → Gives (chart output) s r (stateOf (r .head) ws xs)
+    unfolding outcomeOf chartAccepted
+    chart-gives r a =
+        let q = unchanged (chartRefusals output s) s (chartAccepted s) refl in
+        let b = chart-answers output s told a in
+        given (chart output) s
+        (ap (λ (t : State). t .waitingTable) (sym q))
+        (answers (b .0) (b .1) (ap (λ (t : State). t .clientNumbers) (sym q)))
