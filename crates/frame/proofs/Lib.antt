@@ -1,7 +1,6 @@
-pub mod Ending
-pub mod Fields
-pub mod Framing
-pub mod Parts
+pub mod FieldDigits
+pub mod FrameKinds
+pub mod LineParts
 pub mod Reader
-pub mod Reading
-pub mod Written
+pub mod ReaderCalls
+pub mod LinesPut

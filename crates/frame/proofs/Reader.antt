@@ -88,11 +88,11 @@ lefts [] = ftrue
 lefts (n ∷ ns) = fsep ftrue (lefts ns)
 
 module _ {M : Type 1} (𝓤 : URA M) (H : Heap 𝓤) (A : Atoms 𝓤) (κ : Lft) (q : Share) where
-  abbrev pub Asked : (P : RattleType) → P .Denot → Val → List Word → SProp 𝓤
-  Asked P x v ns = sep 𝓤 (sep 𝓤 (sem 𝓤 H A (fsep (flft κ q) ftrue)) (sem 𝓤 H A (fsep (P .own x (v ∷ [])) (numbers ns)))) (emp 𝓤)
+  abbrev pub Requires : (P : RattleType) → P .Denot → Val → List Word → SProp 𝓤
+  Requires P x v ns = sep 𝓤 (sep 𝓤 (sem 𝓤 H A (fsep (flft κ q) ftrue)) (sem 𝓤 H A (fsep (P .own x (v ∷ [])) (numbers ns)))) (emp 𝓤)
 
-  abbrev pub Told : List Word → (S : RattleType) → (S .Denot → Type 0) → Val → SProp 𝓤
-  Told ns S ψ w =
+  abbrev pub Ensures : List Word → (S : RattleType) → (S .Denot → Type 0) → Val → SProp 𝓤
+  Ensures ns S ψ w =
       H .⇛ (ex 𝓤 (λ (r : S .Denot). sep 𝓤 (sep 𝓤 (sem 𝓤 H A (fsep (flft κ q) ftrue)) (sem 𝓤 H A (S .own r (w ∷ []))))
       (ex 𝓤 (λ (ws : Unit {0} × Lasts ns). sep 𝓤 (sem 𝓤 H A (fsep ftrue (lefts ns))) (fact 𝓤 (ψ r))))))
 
@@ -107,7 +107,7 @@ module _ {M : Type 1} {𝓤 : URA M} {H : Heap 𝓤} {A : Atoms 𝓤} (W : Given
   lefts-made (n ∷ ns) = qed W [] ∵ use0 W (‵ (lefts ns)) (lefts-made ns) $ nothing ! $ fjoin ! $ done !
 
   pub taken : (κ : Lft) (q : Share) (P : RattleType) (x : P .Denot) (v : Val) (ns : List Word)
-      → ent 𝓤 (Asked 𝓤 H A κ q P x v ns) (⋆ 𝓤 H A (‵ (P .own x (v ∷ [])) ∷ ‵ (flft κ q) ∷ []))
+      → ent 𝓤 (Requires 𝓤 H A κ q P x v ns) (⋆ 𝓤 H A (‵ (P .own x (v ∷ [])) ∷ ‵ (flft κ q) ∷ []))
   taken κ q P x v ns =
       qed W ((‵ (fsep (flft κ q) ftrue) ⊛ ‵ (fsep (P .own x (v ∷ [])) (numbers ns))) ∷ raw (emp 𝓤) ∷ []) ∵ split ! $ fsplit ! $ move ! (2 ∷ []) $ fsplit ! $ keep ! (0 ∷ 2 ∷ []) $ done !
 
@@ -121,15 +121,15 @@ module _ {M : Type 1} {𝓤 : URA M} {H : Heap 𝓤} {A : Atoms 𝓤} (W : Given
 -- ---- a call
 module _ {M : Type 1} {𝓤 : URA M} {H : Heap 𝓤} {A : Atoms 𝓤} {K : Type 0} {W : Given 𝓤 H A} {Γ : List (Item 𝓤)} {E : Env 𝓤 H} {C : Calls 𝓤 H} {f : Name} {xs : List Operand} {Λ : Loops 𝓤 H} {q′ : Post 𝓤 H} {d : Place} {rest : Body} where
   pub calls-on : K → FmC 𝓤 H (W .laws) C → (κ : Lft) (q : Share) (P : RattleType) (x : P .Denot) (v : Val) (ns : List Word) (S : RattleType) (ψ : S .Denot → Type 0)
-      → ent 𝓤 (Asked 𝓤 H A κ q P x v ns) (C f (v ∷ machine ns) (Told 𝓤 H A κ q ns S ψ))
-      → Opds K W (raw (Asked 𝓤 H A κ q P x v ns) ∷ Γ) E xs (v ∷ machine ns)
+      → ent 𝓤 (Requires 𝓤 H A κ q P x v ns) (C f (v ∷ machine ns) (Ensures 𝓤 H A κ q ns S ψ))
+      → Opds K W (raw (Requires 𝓤 H A κ q P x v ns) ∷ Γ) E xs (v ∷ machine ns)
       → ((w : Val) (r : S .Denot) → ψ r → Is S r (w ∷ []) → Seq K W (‵ (S .own r (w ∷ [])) ∷ ‵ (flft κ q) ∷ Γ) (lands C Λ E d w rest q′))
       → Seq K W (‵ (P .own x (v ∷ [])) ∷ ‵ (flft κ q) ∷ Γ) (runs C Λ E (seq (call f xs d) rest) q′)
   calls-on t fm κ q P x v ns S ψ met ops k =
       use0 W (‵ (numbers ns)) (numbers-made W ns) $ move t (1 ∷ 0 ∷ []) $ fjoin t $ nothing t $ move t (2 ∷ 0 ∷ []) $ fjoin t $ join t $ use0 W (raw (emp 𝓤)) (id⊢ 𝓤 (emp 𝓤)) $
-      move t (1 ∷ 0 ∷ []) $ use2 W (raw (Asked 𝓤 H A κ q P x v ns)) (id⊢ 𝓤 (Asked 𝓤 H A κ q P x v ns)) $
-      calls-from t fm (raw (Asked 𝓤 H A κ q P x v ns)) (v ∷ machine ns) (Told 𝓤 H A κ q ns S ψ) met ops (λ w.
-      use1 W (later (some (λ (r : S .Denot). (‵ (fsep (flft κ q) ftrue) ⊛ ‵ (S .own r (w ∷ []))) ⊛ some (λ (ws : Unit {0} × Lasts ns). ‵ (fsep ftrue (lefts ns)) ⊛ raw (fact 𝓤 (ψ r)))))) (id⊢ 𝓤 (Told 𝓤 H A κ q ns S ψ w)) $ await t tt $ pick t (λ r.
+      move t (1 ∷ 0 ∷ []) $ use2 W (raw (Requires 𝓤 H A κ q P x v ns)) (id⊢ 𝓤 (Requires 𝓤 H A κ q P x v ns)) $
+      calls-from t fm (raw (Requires 𝓤 H A κ q P x v ns)) (v ∷ machine ns) (Ensures 𝓤 H A κ q ns S ψ) met ops (λ w.
+      use1 W (later (some (λ (r : S .Denot). (‵ (fsep (flft κ q) ftrue) ⊛ ‵ (S .own r (w ∷ []))) ⊛ some (λ (ws : Unit {0} × Lasts ns). ‵ (fsep ftrue (lefts ns)) ⊛ raw (fact 𝓤 (ψ r)))))) (id⊢ 𝓤 (Ensures 𝓤 H A κ q ns S ψ w)) $ await t tt $ pick t (λ r.
       split t $ move t (1 ∷ []) $ pick t (λ ws. split t $ drop t $ heard t (ψ r) (λ said. split t $ fsplit t $ move t (1 ∷ []) $ drop t $ move t (1 ∷ 0 ∷ []) $
       peeks t S (Is S) (shows 𝓤 H A S) r (w ∷ []) (λ is. k w r said is)))))
 
@@ -140,8 +140,8 @@ Bytes κ = ShrSlice (named 0) κ u8
 abbrev pub slice : RefT (List ℕ) → Val
 slice s = sliceVal (s .ptr) (length (s .now))
 
-abbrev pub Held : Lft → RattleType
-Held κ = T.the-row (namedLft 1 0 tt (κ, tt))
+abbrev pub HeldReader : Lft → RattleType
+HeldReader κ = T.the-row (namedLft 1 0 tt (κ, tt))
 
 abbrev pub mach : Reader → Val
 mach d = T′.lowered d
@@ -155,7 +155,7 @@ L κ = T′.the-laws (namedLft 1 0 tt (κ, tt))
 abbrev fields : (κ : Lft) → Reader → Values (D κ .parts)
 fields κ d = (d .buffer, (d .at, tt))
 
-pub tells : (κ : Lft) → Tells (Held κ) (Is (Held κ)) (λ d. mach d ∷ [])
+pub tells : (κ : Lft) → Tells (HeldReader κ) (Is (HeldReader κ)) (λ d. mach d ∷ [])
 tells κ = LL.tells (D κ) (L κ)
 
 -- in a local of a body the lifetime has another name
@@ -167,15 +167,15 @@ module _ {M : Type 1} {𝓤 : URA M} {H : Heap 𝓤} {A : Atoms 𝓤} (W : Given
   lawful ℓ = LL.lawful (T.the-type (record { mir = ℓ; lft = κ })) (T′.the-laws (record { mir = ℓ; lft = κ })) 𝓤 H A W
 
 module _ {M : Type 1} {𝓤 : URA M} {H : Heap 𝓤} {A : Atoms 𝓤} (W : Given 𝓤 H A) (κ : Lft) (d : Reader) where
-  pub typed : (ℓ : Lifetime) → Is (Held κ) d (mach d ∷ []) → Holds (hasTy (T′.mir ℓ) (mach d)) × WT (mach d)
+  pub typed : (ℓ : Lifetime) → Is (HeldReader κ) d (mach d ∷ []) → Holds (hasTy (T′.mir ℓ) (mach d)) × WT (mach d)
   typed ℓ is = lawful W κ ℓ .typed d _ is .0
 
-  pub buffer-out : ent 𝓤 (sem 𝓤 H A (Held κ .own d (mach d ∷ []))) (sem 𝓤 H A (Bytes κ .own (d .buffer) (slice (d .buffer) ∷ [])))
+  pub buffer-out : ent 𝓤 (sem 𝓤 H A (HeldReader κ .own d (mach d ∷ []))) (sem 𝓤 H A (Bytes κ .own (d .buffer) (slice (d .buffer) ∷ [])))
   buffer-out =
-      qed W (‵ (Held κ .own d (mach d ∷ [])) ∷ []) ∵ use1 W (given (mach d ∷ [] ≡ mach d ∷ []) (‵ (all-own (D κ .parts) (L κ) (fields κ d)))) (own-open 𝓤 H A W (D κ) (L κ) (fields κ d) (mach d)) $ learn ! (λ _.
+      qed W (‵ (HeldReader κ .own d (mach d ∷ [])) ∷ []) ∵ use1 W (given (mach d ∷ [] ≡ mach d ∷ []) (‵ (all-own (D κ .parts) (L κ) (fields κ d)))) (own-open 𝓤 H A W (D κ) (L κ) (fields κ d) (mach d)) $ learn ! (λ _.
       use1 W (‵ (ownAt (D κ .parts) (L κ) 0 (d .buffer)) ⊛ ‵ (rest (D κ .parts) (L κ) 0 (fields κ d))) (own-out 𝓤 H A W (D κ .parts) (L κ) 0 (fields κ d)) $ split ! $ move ! (1 ∷ []) $ drop ! $ done !)
 
-  pub buffer-in : d .at < 2 ^ 64 → ent 𝓤 (sem 𝓤 H A (Bytes κ .own (d .buffer) (slice (d .buffer) ∷ []))) (sem 𝓤 H A (Held κ .own d (mach d ∷ [])))
+  pub buffer-in : d .at < 2 ^ 64 → ent 𝓤 (sem 𝓤 H A (Bytes κ .own (d .buffer) (slice (d .buffer) ∷ []))) (sem 𝓤 H A (HeldReader κ .own d (mach d ∷ [])))
   buffer-in fits =
       qed W (‵ (Bytes κ .own (d .buffer) (slice (d .buffer) ∷ [])) ∷ []) ∵ nothing ! $ owned ! usize (Is usize) (uint-makes 𝓤 H A W w64) (d .at) (vint w64 (d .at) ∷ []) (refl, fits) $ fjoin ! $ move ! (1 ∷ 0 ∷ []) $ fjoin ! $
       by ! (own-shut 𝓤 H A W (D κ) (L κ) (fields κ d))

@@ -1,4 +1,4 @@
 pub mod Digits
 pub mod Kinds
 pub mod Lines
-pub mod Written
+pub mod LineLengths

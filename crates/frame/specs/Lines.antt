@@ -12,7 +12,7 @@ abbrev pub NoFeed : List ℕ → ℕ → ℕ → Type 0
 NoFeed s from end = (k : ℕ) → from ≤ k → k < end → getD s k 0 ≡ lineFeed → ⊥
 
 -- the first line feed from an index on stands at end
-pub record Ends (s : List ℕ) (at end : ℕ) : Type 0 where
+pub record FirstFeed (s : List ℕ) (at end : ℕ) : Type 0 where
   pub from : at ≤ end
   pub within : end < length s
   pub feed : getD s end 0 ≡ lineFeed
@@ -21,7 +21,7 @@ pub record Ends (s : List ℕ) (at end : ℕ) : Type 0 where
 -- how far the line at an index is read: up to behind its line feed, or, while it has none, not at all
 pub record Behind (s : List ℕ) (at to : ℕ) : Type 0 where
   pub onward : at ≤ to
-  pub whole : at < to → Ends s at (to - 1)
+  pub whole : at < to → FirstFeed s at (to - 1)
   pub begun : to ≡ at → NoFeed s at (length s)
 
 -- the characters from an index up to another

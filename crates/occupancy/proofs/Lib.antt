@@ -1,6 +1,6 @@
-pub mod Choosing
-pub mod Counted
-pub mod Drawing
-pub mod Fields
-pub mod Latest
-pub mod Scanning
+pub mod BestClient
+pub mod Ratios
+pub mod StartsAndSegments
+pub mod Columns
+pub mod LastOfEach
+pub mod Searches

@@ -9,7 +9,7 @@ use Rattle.spec.specs.declared.types.Head.{Head}
 use Rattle.spec.specs.declared.types.Counts.{Counts}
 use Rattle.spec.specs.Tables.{mostClients, zeroCounts, change, oneMoreSubmitted}
 use Rattle.spec.specs.Chart.{roomTo, hasSmallerRatio}
-use Rattle.occupancy.specs.declared.victim.Latest.{Latest}
+use Rattle.occupancy.specs.declared.victim.LastCandidate.{LastCandidate}
 
 -- no entry is larger than a later one
 abbrev pub Sorted : List ℕ → Type 0
@@ -59,17 +59,17 @@ abbrev pub countsWith : ℕ → List Counts → ℕ → Counts
 countsWith client cs c = getD (change oneMoreSubmitted client cs) c zeroCounts
 
 -- the better of two clients' last candidates: a smaller miss ratio, among equals the later place; 0 is the place of none
-unfoldable pub betterOf : Latest → Latest → Latest
-betterOf best next =
+unfoldable pub betterCandidate : LastCandidate → LastCandidate → LastCandidate
+betterCandidate best next =
     cond (eqb (next .at) 0) best
     (cond (hasSmallerRatio (best .counts) (next .counts)) best
     (cond (hasSmallerRatio (next .counts) (best .counts)) next
     (cond (ltb (next .at) (best .at)) best next)))
 
 -- the best of n clients' last candidates, one after the other
-unfoldable pub bestOf : (ℕ → Counts) → List ℕ → ℕ → Latest
+unfoldable pub bestOf : (ℕ → Counts) → List ℕ → ℕ → LastCandidate
 bestOf counts latest zero = record { at = 0; counts = zeroCounts }
-bestOf counts latest (suc n) = betterOf (bestOf counts latest n) (record { at = getD latest n 0; counts = counts n })
+bestOf counts latest (suc n) = betterCandidate (bestOf counts latest n) (record { at = getD latest n 0; counts = counts n })
 
 -- the victim's place, from each of n clients' last candidate; 0 where no client has one
 abbrev pub smallestRatioPlace : (ℕ → Counts) → List ℕ → ℕ → ℕ

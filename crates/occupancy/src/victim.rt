@@ -12,7 +12,7 @@ ghost use lib.ListN.{length, getD, set, take, drop};
 ghost use Rattle.spec.specs.Tables.{mostClients, clientsOf, zeroCounts, recordsOf};
 ghost use Rattle.spec.specs.Chart.{hasSmallerRatio};
 ghost use Rattle.table.specs.Widths.{largest16, largest32};
-ghost use Rattle.occupancy.specs.Scans.{candidateCount, latestOf, countsWith, betterOf, smallestRatioPlace};
+ghost use Rattle.occupancy.specs.Scans.{candidateCount, latestOf, countsWith, betterCandidate, smallestRatioPlace};
 
 // How many of n waiting records are candidates, where so many are due by the first overfull deadline: those, and none where no
 // deadline is overfull.
@@ -49,7 +49,7 @@ pub fn note_last_of_each(t: &[Request], latest: &mut [u16], from: usize, to: usi
 }
 
 // A client's last candidate: its place and 1, or 0 where it has none. Beside it the client's counts.
-struct Latest {
+struct LastCandidate {
     at: u16,
     counts: Counts,
 }
@@ -81,8 +81,8 @@ fn has_smaller_ratio(a: Counts, b: Counts) -> bool
 }
 
 // The better of two as a victim.
-fn better(best: Latest, next: Latest) -> Latest
-    ensures { λ r. ⌜ r ≡ betterOf best next ⌝ }
+fn better(best: LastCandidate, next: LastCandidate) -> LastCandidate
+    ensures { λ r. ⌜ r ≡ betterCandidate best next ⌝ }
 {
     let a = best.counts;
     let b = next.counts;
@@ -111,14 +111,14 @@ pub fn smallest_ratio_place(latest: &[u16], numbers: &[u32], client: u64, n: usi
         served: 0,
         dropped: 0,
     };
-    let mut best = Latest {
+    let mut best = LastCandidate {
         at: 0,
         counts: none,
     };
     let mut c: usize = 0;
     while c < n {
         let counts = counts_with(numbers, client, c as u64);
-        let next = Latest {
+        let next = LastCandidate {
             at: latest[c],
             counts,
         };

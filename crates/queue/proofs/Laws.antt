@@ -1,13 +1,13 @@
 -- What the parts of each call come to together: what its definition says.
-pub mod Told
-pub mod Answers
+pub mod Refusals
+pub mod Replies
 pub mod Open
 pub mod Tick
 pub mod Report
 pub mod Chart
-pub mod Decided
-pub mod Searched
-pub mod Chosen
-pub mod Shown
-pub mod Placed
+pub mod Decision
+pub mod Deadlines
+pub mod Victim
+pub mod Searches
+pub mod Placement
 pub mod Submit

@@ -1,4 +1,4 @@
-pub mod Decided
+pub mod Decision
 pub mod Gives
-pub mod Placed
+pub mod Placement
 pub mod Runs

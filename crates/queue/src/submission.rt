@@ -12,8 +12,8 @@ ghost use mathlib.Core.Path.{_≡_};
 ghost use Rattle.spec.specs.Tables.{stateOf};
 ghost use Rattle.spec.specs.Setup.{firstMatch};
 ghost use Rattle.spec.specs.Calls.Submit.{submitRefusals};
-ghost use Rattle.queue.specs.Placed.{withoutVictim, victimAt, tableAfter, goneAfter};
-ghost use Rattle.queue.specs.Decided.{submitChoice, submitDecision};
+ghost use Rattle.queue.specs.Placement.{withoutVictim, victimAt, tableAfter, goneAfter};
+ghost use Rattle.queue.specs.Decision.{submitChoice, submitDecision};
 
 // What a submit does that is not refused. Where a deadline is overfull, the waiting records up to the last candidate are marked,
 // each with its client, and the new request among them; where none is, `last` is 0 and no record is marked.

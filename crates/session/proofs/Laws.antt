@@ -1,8 +1,8 @@
 -- Laws of a session's parts: of texts and what characters lead to, of turns, of lending, and of replies.
-pub mod Leading
+pub mod Leads
 pub mod Lending
-pub mod Plain
-pub mod Replied
-pub mod Replies
+pub mod OtherFrames
+pub mod LentCall
+pub mod LineOutcome
 pub mod Texts
-pub mod Turning
+pub mod NextLine

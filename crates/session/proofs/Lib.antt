@@ -1,6 +1,6 @@
-pub mod Answering
-pub mod Going
+pub mod FrameCalls
+pub mod TurnWalk
 pub mod Laws
 pub mod Parts
-pub mod Stepping
+pub mod TurnsTogether
 pub mod Values

@@ -14,26 +14,26 @@ use Rattle.spec.specs.Lines.Frames.{longestFrame}
 use Rattle.spec.specs.Lines.Session.{Text, textOf, replies, atEnd, session, atStart as stateAtStart}
 use Rattle.spec.proofs.Laws.Every.{and-both}
 use Rattle.frame.specs.Lines.{NoFeed, slice}
-use Rattle.frame.specs.Written.{mostBytes}
+use Rattle.frame.specs.LineLengths.{mostBytes}
 use Rattle.session.specs.declared.types.Session.{Session}
 use Rattle.session.specs.declared.types.Fed.{Fed}
 use Rattle.session.specs.Standing.{Reserved, heldIn, fitsIn, Begun, Reached, Leads}
-use Rattle.session.specs.Feeding.{FedBy, Left, canWith, owed}
-use Rattle.session.specs.Parts.{atStart, Lent, Made, Through, begins, goes}
+use Rattle.session.specs.Feeding.{FedBy, LeftOver, canWith, owed}
+use Rattle.session.specs.Parts.{sessionStart, SessionTables, Made, Through, begins, goes}
 use Rattle.session.proofs.Laws.Texts.{begun, text-append, slice-goes-on, take-slice}
-use Rattle.session.proofs.Laws.Leading.{begun-text, leads-none, leads-then}
+use Rattle.session.proofs.Laws.Leads.{begun-text, leads-none, leads-then}
 
 -- ---- the calls one after the other
-abbrev held : Lent → State
+abbrev held : SessionTables → State
 held l = heldIn (l .session) (l .tables)
 
 -- what is used of the input leads to what is written, whatever calls used it
-record LedBy (input : List ℕ) (used : ℕ) (answers : List ℕ) (l : Lent) : Type 0 where
+record LedBy (input : List ℕ) (used : ℕ) (answers : List ℕ) (l : SessionTables) : Type 0 where
   within : used ≤ length input
   leads : Leads stateAtStart false (take used input) (held l) (l .session .skip) answers
 
 -- before the first call, where no table is in use
-led-at-start : (input : List ℕ) (l : Lent) → l .session ≡ atStart → LedBy input 0 [] l
+led-at-start : (input : List ℕ) (l : SessionTables) → l .session ≡ sessionStart → LedBy input 0 [] l
 unfolding stateAtStart
 led-at-start input l e =
     record {
@@ -42,7 +42,7 @@ led-at-start input l e =
     }
 
 -- after another call
-module _ (input : List ℕ) (used : ℕ) (answers : List ℕ) (before after : Lent) (part : List ℕ) (r : Fed) (out : List ℕ) where
+module _ (input : List ℕ) (used : ℕ) (answers : List ℕ) (before after : SessionTables) (part : List ℕ) (r : Fed) (out : List ℕ) where
   -- what the call used is the next of the input
   used-next : part ≡ take (length part) (drop used input) → r .used ≤ length part
       → take (used + r .used) input ≡ take used input ++ take (r .used) part
@@ -62,7 +62,7 @@ module _ (input : List ℕ) (used : ℕ) (answers : List ℕ) (before after : Le
             (take (r .put) out) (led .leads) (made .fed .leads));
       }
 
-led-by : (input : List ℕ) {first l : Lent} {used : ℕ} {answers : List ℕ} → Through first input used answers l
+led-by : (input : List ℕ) {first l : SessionTables} {used : ℕ} {answers : List ℕ} → Through first input used answers l
     → LedBy input used answers l
 led-by input {first} (begins e) = led-at-start input first e
 led-by input (goes {used} {answers} {before} {after} part r out calls cut made) =
@@ -103,7 +103,7 @@ module _ (input : List ℕ) (used : ℕ) (within : used ≤ length input) (no-fe
       rw (text-last skip (x .begun), x .answers, end-owed skip (t .rest) last (x .begun), length-last)
 
 -- "whatever way the input is cut into parts, the answers together are those of the session definition"
-pub parts-together : (input : List ℕ) {first l : Lent} {used : ℕ} {answers : List ℕ} → Through first input used answers l
+pub parts-together : (input : List ℕ) {first l : SessionTables} {used : ℕ} {answers : List ℕ} → Through first input used answers l
     → NoFeed input used (length input) → answers ++ owed (l .session .skip) (length input - used) ≡ session input
 parts-together input {l = l} {used = used} {answers = answers} calls no-feed =
     let led = led-by input calls in
@@ -116,7 +116,7 @@ module _ (input : List ℕ) (used : ℕ) {part : List ℕ} {session : Session} {
   pub no-feed-left : r .full ≡ false → NoFeed input (used + r .used) (length input)
   no-feed-left e = go (r .full) e (f .left)
     where
-      go : (full : Bool) → full ≡ false → Left full part (r .used) (canWith r t st out₀)
+      go : (full : Bool) → full ≡ false → LeftOver full part (r .used) (canWith r t st out₀)
           → NoFeed input (used + r .used) (length input)
       go true e left k h l g = absurd (false≢true (sym e))
       go false e left k h l g =
@@ -124,7 +124,7 @@ module _ (input : List ℕ) (used : ℕ) {part : List ℕ} {session : Session} {
           let same : getD part (k - used) 0 ≡ getD input k 0 = rw (all, getD-drop used input (k - used) 0, at) in
           left .1 (k - used) (omega arith) (omega (arith, ap length all, length-drop used input)) (same ∙ g)
 
-pub all-fed : (input : List ℕ) {first before after : Lent} {used : ℕ} {answers part out : List ℕ} {r : Fed}
+pub all-fed : (input : List ℕ) {first before after : SessionTables} {used : ℕ} {answers part out : List ℕ} {r : Fed}
     → Through first input used answers before → part ≡ drop used input → Made part before r out after → r .full ≡ false
     → (answers ++ take (r .put) out) ++ owed (after .session .skip) (length input - (used + r .used)) ≡ session input
 all-fed input {used = used} {part = part} {out = out} {r = r} calls all made e =

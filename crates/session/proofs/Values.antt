@@ -12,8 +12,8 @@ use Rattle.session.proofs.types.Session as TS
 use Rattle.session.proofs.types.Session.Laws as TS′
 use Rattle.session.proofs.types.Fed as TFed
 use Rattle.session.proofs.types.Fed.Laws as TFed′
-use Rattle.session.proofs.types.Turn as TT
-use Rattle.session.proofs.types.Turn.Laws as TT′
+use Rattle.session.proofs.types.NextLine as TT
+use Rattle.session.proofs.types.NextLine.Laws as TT′
 use Rattle.session.proofs.types.Share as TL
 use Rattle.session.proofs.types.Share.Laws as TL′
 use Rattle.walk.proofs.Plain.{PlainType, of-struct, of-enum}

@@ -10,10 +10,10 @@ use Rattle.spec.specs.Tables.{State}
 use Rattle.spec.specs.Lines.Frames.{frameOf, answerLine, longestFrame}
 use Rattle.spec.specs.Lines.Session.{textOf}
 use Rattle.frame.specs.Lines.{NoFeed, Behind, slice, lineAt}
-use Rattle.frame.specs.Written.{longestLine, mostBytes}
+use Rattle.frame.specs.LineLengths.{longestLine, mostBytes}
 use Rattle.session.specs.declared.types.Session.{Session}
 use Rattle.session.specs.declared.types.Fed.{Fed}
-use Rattle.session.specs.declared.types.Turn.{Turn}
+use Rattle.session.specs.declared.types.NextLine.{NextLine}
 use Rattle.session.specs.Standing.{Reserved, heldIn, doFit, fitsIn, Begun, Leads}
 
 -- ---- what stands next in the input, from `used` on
@@ -28,7 +28,7 @@ abbrev pub canAnswer : Bool → ℕ → ℕ → Bool
 canAnswer fits put out = fits && leb (put + mostBytes) out
 
 -- a whole line, of which the turn uses all and its line feed, and which is the turn's frame
-pub record Whole (input : List ℕ) (used : ℕ) (skip : Bool) (turn : Turn) : Type 0 where
+pub record Whole (input : List ℕ) (used : ℕ) (skip : Bool) (turn : NextLine) : Type 0 where
   pub onward : used < turn .used
   pub within : turn .used ≤ length input
   pub skip-ends : turn .skip ≡ false
@@ -37,7 +37,7 @@ pub record Whole (input : List ℕ) (used : ℕ) (skip : Bool) (turn : Turn) : T
   pub frame : (p : List ℕ) → Begun skip p → frameOf (line p) ≡ turn .frame
 
 -- no whole line: all is used, or a beginning that a frame can still come of is left
-pub record None (input : List ℕ) (used : ℕ) (skip : Bool) (turn : Turn) : Type 0 where
+pub record None (input : List ℕ) (used : ℕ) (skip : Bool) (turn : NextLine) : Type 0 where
   pub onward : used ≤ turn .used
   pub within : turn .used ≤ length input
   pub left : length input ≤ turn .used + longestFrame
@@ -46,33 +46,33 @@ pub record None (input : List ℕ) (used : ℕ) (skip : Bool) (turn : Turn) : Ty
   pub begun : (p : List ℕ) → Begun skip p → Begun (turn .skip) (p ++ slice used (turn .used) input)
 
 -- nothing is read: an answer might not have room
-pub record Waits (fed : Fed) (can : Bool) (turn : Turn) : Type 0 where
+pub record NoRoom (fed : Fed) (can : Bool) (turn : NextLine) : Type 0 where
   pub cannot : can ≡ false
   pub used-same : turn .used ≡ fed .used
   pub skip-same : turn .skip ≡ fed .session .skip
 
 -- in any input of which the reader hands back this line and then stands at behind
-abbrev pub NextIf : Bool → Bool → List ℕ → ℕ → Fed → Bool → Turn → Type 0
-NextIf true true line behind fed can turn = Waits fed can turn
+abbrev pub NextIf : Bool → Bool → List ℕ → ℕ → Fed → Bool → NextLine → Type 0
+NextIf true true line behind fed can turn = NoRoom fed can turn
 NextIf true false line behind fed can turn =
     (input : List ℕ) → HandsBack input (fed .used) line behind → None input (fed .used) (fed .session .skip) turn
 NextIf false full line behind fed can turn =
     (can ≡ true) × (turn .used ≡ behind)
     × ((input : List ℕ) → HandsBack input (fed .used) line behind → Whole input (fed .used) (fed .session .skip) turn)
 
-abbrev pub Next : List ℕ → ℕ → Fed → Bool → Turn → Type 0
+abbrev pub Next : List ℕ → ℕ → Fed → Bool → NextLine → Type 0
 Next line behind fed can turn = NextIf (turn .ends) (turn .full) line behind fed can turn
 
 -- ---- a part of the input
 -- what is left of a part of the input once no more of it is answered
-abbrev pub Left : Bool → List ℕ → ℕ → Bool → Type 0
-Left true input used can = can ≡ false
-Left false input used can = (length input ≤ used + longestFrame) × NoFeed input used (length input)
+abbrev pub LeftOver : Bool → List ℕ → ℕ → Bool → Type 0
+LeftOver true input used can = can ≡ false
+LeftOver false input used can = (length input ≤ used + longestFrame) × NoFeed input used (length input)
 
 -- while lines may still be answered, each turn reads one
-abbrev pub Ends : Bool → Bool → List ℕ → ℕ → ℕ → Bool → Type 0
-Ends true full input before used can = before < used
-Ends false full input before used can = Left full input used can
+abbrev pub TurnEnds : Bool → Bool → List ℕ → ℕ → ℕ → Bool → Type 0
+TurnEnds true full input before used can = before < used
+TurnEnds false full input before used can = LeftOver full input used can
 
 abbrev pub can : Fed → ℕ → ℕ → ℕ → ℕ → Bool
 can fed waiting numbers starts out = canAnswer (doFit (fed .session) waiting numbers starts) (fed .put) out
@@ -93,7 +93,7 @@ pub record Stepped (input : List ℕ) (fed : Fed) (t : Reserved) (starts out : L
       → Leads s₀ skip₀ (take (fed .used) input) (heldIn (fed .session) t) (fed .session .skip) (take (fed .put) out)
       → Leads s₀ skip₀ (take (r .used) input) (heldIn (r .session) t′) (r .session .skip) (take (r .put) out′)
   pub ends :
-      Ends (r .going) (r .full) input (fed .used) (r .used)
+      TurnEnds (r .going) (r .full) input (fed .used) (r .used)
       (canWith r t starts out)
 
 -- the same of any input of which the reader hands back this line and then stands at behind; while lines may still be answered, the
@@ -125,7 +125,7 @@ pub record FedBy (session : Session) (input : List ℕ) (t : Reserved) (starts o
       Leads (heldIn session t) (session .skip) (take (r .used) input)
       (heldIn (r .session) t′) (r .session .skip) (take (r .put) out′)
   pub left :
-      Left (r .full) input (r .used)
+      LeftOver (r .full) input (r .used)
       (canWith r t starts out)
 
 -- ---- the end of the input

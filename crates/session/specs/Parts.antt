@@ -12,16 +12,16 @@ use Rattle.session.specs.Standing.{Reserved}
 use Rattle.session.specs.Feeding.{FedBy}
 
 -- where a session begins
-abbrev pub atStart : Session
-atStart = record { head = openHead zeroSetup; records = 0; skip = false }
+abbrev pub sessionStart : Session
+sessionStart = record { head = openHead zeroSetup; records = 0; skip = false }
 
 -- what the caller of `feed` has: where the session stands, and the tables that it lends
-pub record Lent : Type 0 where
+pub record SessionTables : Type 0 where
   pub session : Session
   pub tables : Reserved
 
 -- a call of `feed` that meets its contract, on this part of the input, with any start slots and output
-pub record Made (part : List ℕ) (before : Lent) (r : Fed) (out : List ℕ) (after : Lent) : Type 0 where
+pub record Made (part : List ℕ) (before : SessionTables) (r : Fed) (out : List ℕ) (after : SessionTables) : Type 0 where
   pub session-kept : after .session ≡ r .session
   pub starts : List ℕ
   pub out₀ : List ℕ
@@ -29,8 +29,8 @@ pub record Made (part : List ℕ) (before : Lent) (r : Fed) (out : List ℕ) (af
       FedBy (before .session) part (before .tables) starts out₀ r (after .tables) out
 
 -- calls of `feed` on an input, from what the caller had first, by which so much of it is used and these answers are written
-pub data Through (first : Lent) (input : List ℕ) : ℕ → List ℕ → Lent → Type 0 where
-  begins : first .session ≡ atStart → Through first input 0 [] first
-  goes : {used : ℕ} {answers : List ℕ} {before after : Lent} (part : List ℕ) (r : Fed) (out : List ℕ)
+pub data Through (first : SessionTables) (input : List ℕ) : ℕ → List ℕ → SessionTables → Type 0 where
+  begins : first .session ≡ sessionStart → Through first input 0 [] first
+  goes : {used : ℕ} {answers : List ℕ} {before after : SessionTables} (part : List ℕ) (r : Fed) (out : List ℕ)
       → Through first input used answers before → part ≡ take (length part) (drop used input) → Made part before r out after
       → Through first input (used + r .used) (answers ++ take (r .put) out) after

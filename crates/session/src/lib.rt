@@ -20,7 +20,7 @@ ghost use Rattle.session.specs.Standing.{reservedOf};
 ghost use Rattle.session.specs.Feeding.{Steps, FedBy};
 
 // The call that a frame asks for, on the tables as they are lent to it.
-fn answer(
+fn make_call(
     frame: Frame,
     head: Head,
     waiting: &mut [Request],
@@ -55,7 +55,7 @@ fn answer(
 
 // Answers one line, where it is whole and its answer has room: `line` is what the reader hands back, and `behind` where it then
 // stands.
-fn step(
+fn answer_line(
     table: &[u8],
     fed: Fed,
     line: &[u8],
@@ -70,7 +70,7 @@ fn step(
         (reservedOf (now (waiting .entry)) (now (clients .entry))) (now (starts .entry)) (now (out .entry)) r
         (reservedOf (now (waiting .exit)) (now (clients .exit))) (now (out .exit)) ⌝ }
 {
-    let turn = turns::next_turn(
+    let turn = turns::next_line(
         table,
         line,
         fed,
@@ -86,7 +86,7 @@ fn step(
     let frame = turns::frame_of(turn);
     let head = turns::head_of(fed);
     let share = turns::share(fed, turn);
-    let reply = answer(
+    let reply = make_call(
         frame,
         head,
         &mut waiting[..share.records],
@@ -117,7 +117,7 @@ pub fn feed(
     while fed.going {
         let behind = lines::next(reader);
         let line = lines::digits(reader, behind.at);
-        let next = step(&table, fed, line, behind.at, waiting, clients, starts, out);
+        let next = answer_line(&table, fed, line, behind.at, waiting, clients, starts, out);
         fed = next;
         reader = behind;
     }

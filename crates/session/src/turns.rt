@@ -1,8 +1,8 @@
 // The parts of a turn that need no table: what is read, how much is lent, what is written, where the session then stands.
 use crate::types::Fed;
+use crate::types::NextLine;
 use crate::types::Session;
 use crate::types::Share;
-use crate::types::Turn;
 use frame::answers;
 use frame::frames;
 use queue::Reply;
@@ -22,14 +22,14 @@ ghost use Rattle.spec.specs.declared.types.Answer.the-variants.{Refused};
 ghost use Rattle.spec.specs.Calls.Readings.{isRefused, reading};
 ghost use Rattle.spec.specs.Lines.Frames.{answerLines};
 ghost use Rattle.frame.specs.Digits.{digitTable};
-ghost use Rattle.frame.specs.Written.{mostBytes, CanDraw};
+ghost use Rattle.frame.specs.LineLengths.{mostBytes, CanDraw};
 ghost use Rattle.session.specs.Standing.{doFit, upTo, recordsFor, numbersFor, recordsAfter};
-ghost use Rattle.session.specs.Parts.{atStart};
+ghost use Rattle.session.specs.Parts.{sessionStart};
 ghost use Rattle.session.specs.Feeding.{can, HandsBack, Whole, None, Next, owedIn};
 
 // Before the first line: no tables.
 pub fn start() -> Session
-    ensures { λ r. ⌜ r ≡ atStart ⌝ }
+    ensures { λ r. ⌜ r ≡ sessionStart ⌝ }
 {
     Session {
         head: Head {
@@ -66,13 +66,13 @@ fn fit(session: Session, waiting: usize, numbers: usize, starts: usize) -> bool
 }
 
 // A whole line, behind which the reader stands at `behind`. One that was read past so far has more digits than any frame.
-fn whole(table: &[u8], line: &[u8], fed: Fed, behind: usize) -> Turn
+fn whole(table: &[u8], line: &[u8], fed: Fed, behind: usize) -> NextLine
     requires { ⌜ (now table ≡ digitTable) × (fed .used < behind) ⌝ }
     ensures { λ r. ⌜ (r .ends ≡ false) × (r .used ≡ behind)
         × ((input : List ℕ) → HandsBack input (fed .used) (now (line .entry)) behind → Whole input (fed .used) (fed .session .skip) r) ⌝ }
 {
     if fed.session.skip {
-        return Turn {
+        return NextLine {
             ends: false,
             full: false,
             used: behind,
@@ -81,7 +81,7 @@ fn whole(table: &[u8], line: &[u8], fed: Fed, behind: usize) -> Turn
         };
     }
     let frame = frames::frame_of(table, line);
-    Turn {
+    NextLine {
         ends: false,
         full: false,
         used: behind,
@@ -91,7 +91,7 @@ fn whole(table: &[u8], line: &[u8], fed: Fed, behind: usize) -> Turn
 }
 
 // No line feed: what has more digits than any frame is read past, and the beginning of a frame is left.
-fn begun(line: &[u8], fed: Fed) -> Turn
+fn begun(line: &[u8], fed: Fed) -> NextLine
     requires { ⌜ fed .used + length (now line) < 2 ^ 64 ⌝ }
     ensures { λ r. ⌜ (r .ends ≡ true) × (r .full ≡ false)
         × ((input : List ℕ) → HandsBack input (fed .used) (now (line .entry)) (fed .used) → None input (fed .used) (fed .session .skip) r) ⌝ }
@@ -102,7 +102,7 @@ fn begun(line: &[u8], fed: Fed) -> Turn
     } else {
         fed.used
     };
-    Turn {
+    NextLine {
         ends: true,
         full: false,
         used,
@@ -113,12 +113,12 @@ fn begun(line: &[u8], fed: Fed) -> Turn
 
 // What stands next in the input, where `can` says whether a line may be answered at all: `line` is what the reader hands back,
 // and `behind` where it then stands.
-fn look(table: &[u8], line: &[u8], fed: Fed, behind: usize, can: bool) -> Turn
+fn look(table: &[u8], line: &[u8], fed: Fed, behind: usize, can: bool) -> NextLine
     requires { ⌜ (now table ≡ digitTable) × (fed .used ≤ behind) × (fed .used + length (now line) < 2 ^ 64) ⌝ }
     ensures { λ r. ⌜ Next (now (line .entry)) behind fed can r ⌝ }
 {
     if !can {
-        return Turn {
+        return NextLine {
             ends: true,
             full: true,
             used: fed.used,
@@ -133,7 +133,7 @@ fn look(table: &[u8], line: &[u8], fed: Fed, behind: usize, can: bool) -> Turn
 }
 
 // What stands next in the input, if the tables will do and an answer has room.
-pub(crate) fn next_turn(
+pub(crate) fn next_line(
     table: &[u8],
     line: &[u8],
     fed: Fed,
@@ -142,7 +142,7 @@ pub(crate) fn next_turn(
     numbers: usize,
     starts: usize,
     out: usize,
-) -> Turn
+) -> NextLine
     requires { ⌜ (now table ≡ digitTable) × (fed .used ≤ behind) × (fed .used + length (now line) < 2 ^ 64) × (fed .put ≤ out) ⌝ }
     ensures { λ r. ⌜ Next (now (line .entry)) behind fed (can fed waiting numbers starts out) r ⌝ }
 {
@@ -152,7 +152,7 @@ pub(crate) fn next_turn(
 }
 
 // Where feeding ends.
-pub(crate) fn stopped(fed: Fed, turn: Turn) -> Fed
+pub(crate) fn stopped(fed: Fed, turn: NextLine) -> Fed
     ensures { λ r. ⌜ r ≡ record {
       session = record { head = fed .session .head; records = fed .session .records; skip = turn .skip };
       used = turn .used;
@@ -183,7 +183,7 @@ fn up_to(most: u64, n: u64) -> usize
 }
 
 // How much of the tables the frame's call gets.
-pub(crate) fn share(fed: Fed, turn: Turn) -> Share
+pub(crate) fn share(fed: Fed, turn: NextLine) -> Share
     ensures { λ r. ⌜ r ≡ record { records = recordsFor (turn .frame) (fed .session); numbers = numbersFor (turn .frame) (fed .session) } ⌝ }
 {
     let frame = turn.frame;
@@ -205,7 +205,7 @@ pub(crate) fn head_of(fed: Fed) -> Head
     fed.session.head
 }
 
-pub(crate) fn frame_of(turn: Turn) -> Frame
+pub(crate) fn frame_of(turn: NextLine) -> Frame
     ensures { λ r. ⌜ r ≡ turn .frame ⌝ }
 {
     turn.frame
@@ -252,7 +252,7 @@ fn records_after(frame: Frame, answer: Answer, before: u64) -> u64
 }
 
 // Where the session stands after a line.
-pub(crate) fn answered(fed: Fed, turn: Turn, reply: Reply, put: usize) -> Fed
+pub(crate) fn answered(fed: Fed, turn: NextLine, reply: Reply, put: usize) -> Fed
     ensures { λ r. ⌜ r ≡ record {
       session = record {
         head = reply .head;

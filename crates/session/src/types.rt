@@ -23,7 +23,7 @@ pub struct Fed {
 }
 
 // What stands next in the input.
-pub struct Turn {
+pub struct NextLine {
     // No line can be answered.
     pub ends: bool,
     pub full: bool,

@@ -1,4 +1,4 @@
-pub mod Flows
-pub mod Reading
-pub mod Turns
+pub mod Loop
+pub mod ReadAnswers
+pub mod LoopTurn
 pub mod Values

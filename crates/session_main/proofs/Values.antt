@@ -8,21 +8,21 @@ use denote.Laws.{Is}
 use denote.Struct.Laws as LL
 use Rattle.walk.proofs.Plain.{PlainType, of-struct}
 use Rattle.session.proofs.Values.{SessionT, a-session}
-use Rattle.session_main.specs.declared.flow.Flow.{Flow}
-use Rattle.session_main.proofs.flow.Flow as TF
-use Rattle.session_main.proofs.flow.Flow.Laws as TF′
+use Rattle.session_main.specs.declared.progress.Progress.{Progress}
+use Rattle.session_main.proofs.progress.Progress as TF
+use Rattle.session_main.proofs.progress.Progress.Laws as TF′
 
-abbrev pub FlowT : RattleType
-FlowT = TF.the-row
+abbrev pub ProgressT : RattleType
+ProgressT = TF.the-row
 
-abbrev pub a-flow : PlainType FlowT
-a-flow = of-struct TF.the-type TF′.the-laws TF′.the-plain (λ x. tt) (λ x w. refl)
+abbrev pub a-progress : PlainType ProgressT
+a-progress = of-struct TF.the-type TF′.the-laws TF′.the-plain (λ x. tt) (λ x w. refl)
 
-abbrev pub flow-vals : Flow → List Val
-flow-vals flow = a-flow .val flow ∷ []
+abbrev pub progress-vals : Progress → List Val
+progress-vals progress = a-progress .val progress ∷ []
 
-pub session-in : (flow : Flow) → Is FlowT flow (flow-vals flow) → Is SessionT (flow .session) (a-session .val (flow .session) ∷ [])
-session-in flow is = LL.owed TF.the-type TF′.the-laws flow _ is .0
+pub session-in : (progress : Progress) → Is ProgressT progress (progress-vals progress) → Is SessionT (progress .session) (a-session .val (progress .session) ∷ [])
+session-in progress is = LL.owed TF.the-type TF′.the-laws progress _ is .0
 
-pub have-fits : (flow : Flow) → Is FlowT flow (flow-vals flow) → flow .have < 2 ^ 64
-have-fits flow is = LL.owed TF.the-type TF′.the-laws flow _ is .1 .0 .1
+pub have-fits : (progress : Progress) → Is ProgressT progress (progress-vals progress) → progress .have < 2 ^ 64
+have-fits progress is = LL.owed TF.the-type TF′.the-laws progress _ is .1 .0 .1

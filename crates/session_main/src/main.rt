@@ -1,35 +1,35 @@
 // The session program: it reads lines from standard input and answers them on standard output. `session::feed` answers them; here are
 // the tables, the buffers and the loop.
-mod flow;
+mod progress;
 mod system;
 
-use flow::Flow;
 use frame::answers::MOST_BYTES;
+use progress::Progress;
 use spec::bounds::MOST_CLIENTS;
 use spec::bounds::MOST_RECORDS;
 use spec::types::Request;
 use table::clients::WIDTH;
 ghost use Rattle.session.specs.Standing.{reservedOf};
-ghost use Rattle.session_main.specs.Flowing.{Suffices, Served};
+ghost use Rattle.session_main.specs.Program.{Suffices, ProgramRan};
 
 // The characters that the buffer has room for.
 const BUFFER: usize = 65536;
 
-// Feeds the session part by part, until the input ends or a read or a write fails, and hands back where that was.
+// BeforeFeed the session part by part, until the input ends or a read or a write fails, and hands back where that was.
 fn serve(
     waiting: &mut [Request],
     clients: &mut [u32],
     starts: &mut [u64],
     buffer: &mut [u8],
     out: &mut [u8],
-) -> Flow
+) -> Progress
     requires { ⌜ Suffices (reservedOf (now waiting) (now clients)) (now starts) (now buffer) (now out) ⌝ }
-    ensures { λ r. ⌜ Served (reservedOf (now (waiting .entry)) (now (clients .entry)))
+    ensures { λ r. ⌜ ProgramRan (reservedOf (now (waiting .entry)) (now (clients .entry)))
         (reservedOf (now (waiting .exit)) (now (clients .exit))) r ⌝ }
 {
-    let mut flow = flow::start();
-    while flow.turns > 0 {
-        let read = flow::read_on(flow, buffer);
+    let mut progress = progress::start();
+    while progress.turns > 0 {
+        let read = progress::read_on(progress, buffer);
         let fed = session::feed(
             read.session,
             &buffer[..read.have],
@@ -38,10 +38,10 @@ fn serve(
             starts,
             out,
         );
-        let next = flow::go_on(read, fed, buffer, out);
-        flow = next;
+        let next = progress::go_on(read, fed, buffer, out);
+        progress = next;
     }
-    flow
+    progress
 }
 
 // "The session program reserves 2,048 waiting records once". The output has room for four of the longest replies: a buffer of submits,
@@ -56,12 +56,12 @@ fn main() {
     let mut starts = [0u64; MOST_RECORDS];
     let mut buffer = [0u8; BUFFER];
     let mut out = [0u8; 4 * MOST_BYTES];
-    let flow = serve(
+    let progress = serve(
         &mut waiting,
         &mut clients,
         &mut starts,
         &mut buffer,
         &mut out,
     );
-    flow::say_why(flow);
+    progress::say_why(progress);
 }

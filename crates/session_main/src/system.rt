@@ -1,5 +1,5 @@
 // The program's calls of the system: standard input is read, standard output and standard error are written. What a read puts in the
-// buffer, and what of the answers a write takes, no contract says (specs/Flowing.antt). Fields are private, so that what a call
+// buffer, and what of the answers a write takes, no contract says (specs/Program.antt). Fields are private, so that what a call
 // answered is made here alone.
 use libc::STDERR_FILENO;
 use libc::STDIN_FILENO;
@@ -7,8 +7,8 @@ use libc::STDOUT_FILENO;
 ghost use mathlib.Core.Path.{_≡_};
 ghost use Prim.Native.Nat.{_<_, _≤_};
 ghost use lib.ListN.{length};
-ghost use Rattle.frame.specs.Written.{mostBytes};
-ghost use Rattle.session_main.specs.Flowing.{bufferLength, deliveredBy, isFailed, ReadBehind};
+ghost use Rattle.frame.specs.LineLengths.{mostBytes};
+ghost use Rattle.session_main.specs.Program.{bufferLength, deliveredBy, isFailed, ReadBehind};
 
 // What a read answered: how many characters it put in the buffer, 0 at the end of the input, less where it failed.
 pub struct Got {

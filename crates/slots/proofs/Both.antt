@@ -12,7 +12,7 @@ use Rattle.slots.proofs.Queue.{withdrawing}
 use Rattle.slots.proofs.Laws.Sorted.{Sorted, due, upto}
 use Rattle.slots.proofs.Upper.{Inv, inv-empty, inv-kept, inv-dropped, inv-ticked, inv-withdrawn}
 use Rattle.slots.proofs.Reached.Chart.{chart}
-use Rattle.slots.proofs.Reached.Book.{who, Known, Good}
+use Rattle.slots.proofs.Reached.Book.{who, IsNumber, Good}
 use Rattle.slots.proofs.Reached.Seat.{sits, chart-who, seated, rank-heads, rank-none}
 use Rattle.slots.proofs.Reached.Own.{Served, Waits, Own, own-empty, own-kept, own-dropped, own-ticked, own-withdrawn}
 use Rattle.slots.proofs.Reached.Own.{log-none, none-due, roomy}
@@ -58,20 +58,20 @@ module _ (heads : ℕ → ℕ) where
   bookings q = q .log ++ chart heads (q .waiting)
 
   -- a booking of a request that was asked, in a slot that it can have
-  abbrev pub Sound : Queue → Booking → Type 0
-  Sound q b = Good (q .asked) b × Known (length (q .asked)) (b .number)
+  abbrev pub BookedWell : Queue → Booking → Type 0
+  BookedWell q b = Good (q .asked) b × IsNumber (length (q .asked)) (b .number)
 
   module _ (q : Queue) (B : Both q) where
-    pub sound-all : All (Sound q) (bookings q)
+    pub sound-all : All (BookedWell q) (bookings q)
     sound-all =
-        all-append (Sound q) (q .log) (chart heads (q .waiting))
-        (all-imp (Served (q .clock) (q .asked)) (Sound q) (q .log) (λ b h. (h .good, h .known)) (B .own .served))
-        (seated heads (q .clock) (Waits (q .clock) (q .asked)) (Sound q)
+        all-append (BookedWell q) (q .log) (chart heads (q .waiting))
+        (all-imp (Served (q .clock) (q .asked)) (BookedWell q) (q .log) (λ b h. (h .good, h .known)) (B .own .served))
+        (seated heads (q .clock) (Waits (q .clock) (q .asked)) (BookedWell q)
         (λ w x h l u. ((omega (arith, h .released), omega (arith, h .limit)), h .known))
         0 (suc (q .clock)) (q .waiting) (none-due heads q (B .inv)) (roomy heads q (B .inv)) (B .own .waits))
 
-    pub known-all : All (λ (b : Booking). Known (length (q .asked)) (b .number)) (bookings q)
-    known-all = all-imp (Sound q) (λ (b : Booking). Known (length (q .asked)) (b .number)) (bookings q) (λ b h. h .1) sound-all
+    pub known-all : All (λ (b : Booking). IsNumber (length (q .asked)) (b .number)) (bookings q)
+    known-all = all-imp (BookedWell q) (λ (b : Booking). IsNumber (length (q .asked)) (b .number)) (bookings q) (λ b h. h .1) sound-all
 
     -- each number is booked at most once
     pub once-all : (i : ℕ) → total (who i) (bookings q) ≤ 1

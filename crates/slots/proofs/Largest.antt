@@ -17,7 +17,7 @@ use Rattle.slots.proofs.Upper.{upper}
 use Rattle.slots.proofs.Reached.Chart.{chart, plan}
 use Rattle.slots.proofs.Reached.Book.{book-total, Good, book-fits}
 use Rattle.slots.proofs.Reached.Seat.{slotted, chart-length}
-use Rattle.slots.proofs.Both.{Both, both-kept, both-dropped, bookings, Sound, sound-all, known-all, once-all, heads-all}
+use Rattle.slots.proofs.Both.{Both, both-kept, both-dropped, bookings, BookedWell, sound-all, known-all, once-all, heads-all}
 use Rattle.slots.proofs.Reached.Placing.{none-before, due-below, placed-feasible, feasible-placed, chart-size}
 
 module _ (heads : ℕ → ℕ) where
@@ -48,7 +48,7 @@ module _ (heads : ℕ → ℕ) where
         record {
           fits =
               book-fits (q .asked) (bookings heads q)
-              (all-imp (Sound heads q) (Good (q .asked)) (bookings heads q) (λ b h. h .0) (sound-all heads q B));
+              (all-imp (BookedWell heads q) (Good (q .asked)) (bookings heads q) (λ b h. h .0) (sound-all heads q B));
           shared =
               λ x.
               omega (

@@ -37,8 +37,8 @@ module _ (heads : ℕ → ℕ) where
 
   -- the slots of a plan before the clock, or not before D, are no more than were served, were withdrawn and wait for a deadline
   -- after D
-  abbrev pub Bound : Queue → List Slot → Type 0
-  Bound q P =
+  abbrev pub PlanBound : Queue → List Slot → Type 0
+  PlanBound q P =
       (D : ℕ) → q .clock ≤ D
       → size P + below (q .clock) P + upto D (q .waiting) ≤ length (q .log) + q .withdrawn + length (q .waiting) + below D P
 
@@ -49,13 +49,13 @@ module _ (heads : ℕ → ℕ) where
   pub record Inv (q : Queue) : Type 0 where
     pub sorted : Sorted 0 (q .waiting)
     pub feasible : Feasible (q .clock) (q .waiting)
-    pub bound : (P : List Slot) → Plan heads (q .asked) P → Bound q P
+    pub bound : (P : List Slot) → Plan heads (q .asked) P → PlanBound q P
 
   pub inv-empty : Inv empty
   unfolding total size
   inv-empty = record { sorted = tt; feasible = λ D h. omega (arith, opens-mono heads 0 D h); bound = none-asked }
     where
-      none-asked : (P : List Slot) → Plan heads [] P → Bound empty P
+      none-asked : (P : List Slot) → Plan heads [] P → PlanBound empty P
       none-asked [] p = λ D h. omega arith
       none-asked (x ∷ P) p = absurd (p .fits)
 
@@ -74,7 +74,7 @@ module _ (heads : ℕ → ℕ) where
     r = record { release = q .clock; deadline = d }
 
     -- ---- it is kept
-    kept-bound : Joined e ws vs → (P : List Slot) → Plan heads (r ∷ q .asked) P → Bound (asking d vs q) P
+    kept-bound : Joined e ws vs → (P : List Slot) → Plan heads (r ∷ q .asked) P → PlanBound (asking d vs q) P
     unfolding total size
     kept-bound J [] p D h = absurd (p .fits)
     kept-bound J (x ∷ P) p D h =
@@ -119,7 +119,7 @@ module _ (heads : ℕ → ℕ) where
             | gt h ↦ absurd (omega (arith, ripe, I .feasible full (omega (arith, ripe)), due-no full e h))
           ]
 
-      dropped-bound : (P : List Slot) → Plan heads (r ∷ q .asked) P → Bound (asking d vs q) P
+      dropped-bound : (P : List Slot) → Plan heads (r ∷ q .asked) P → PlanBound (asking d vs q) P
       unfolding total size
       dropped-bound [] p D h = absurd (p .fits)
       dropped-bound (x ∷ P) p D h =
@@ -170,8 +170,8 @@ module _ (heads : ℕ → ℕ) where
 
   -- ---- a tick
   -- the bound asks that those that wait are in order, and no room for them, so that it stands too where every request is kept
-  pub bound-ticked : (q : Queue) → Sorted 0 (q .waiting) → (P : List Slot) → Plan heads (q .asked) P → Bound q P
-      → Bound (ticked heads q) P
+  pub bound-ticked : (q : Queue) → Sorted 0 (q .waiting) → (P : List Slot) → Plan heads (q .asked) P → PlanBound q P
+      → PlanBound (ticked heads q) P
   bound-ticked q s P p b D h =
       let t = q .clock in
       let k = heads t in

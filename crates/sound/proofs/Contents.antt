@@ -13,9 +13,9 @@ use Rattle.spec.specs.Tables.{mostClients, mostRecords, width, recordsOf, State
 use Rattle.spec.specs.Sound.{isZeroRequest}
 use Rattle.spec.proofs.Laws.Sound.{Shaped, HeadWithin, head-facts}
 use Rattle.sound.specs.Checks.{tallySize, talliedOf, doesBalance, Bounded, Countable, Passed, headRefusal, tablesRefusal}
-use Rattle.sound.proofs.Laws.{shape-facts}
+use Rattle.sound.proofs.RecordTests.{shape-facts}
 use Rattle.sound.proofs.Tally.{zero-countable}
-use Rattle.sound.proofs.Found.{head-refused, head-passed, found-sound, sound-refused}
+use Rattle.sound.proofs.Verdict.{head-refused, head-passed, found-sound, sound-refused}
 
 module _ (head : Head) (ws : List Request) (xs : List ℕ) where
   abbrev s : State

@@ -1,8 +1,8 @@
 pub mod Tally
-pub mod Laws
+pub mod RecordTests
 pub mod Turns
 pub mod Zeros
-pub mod Calls
+pub mod PassWalks
 pub mod Pass
-pub mod Found
+pub mod Verdict
 pub mod Contents

@@ -19,7 +19,7 @@ use Rattle.spec.proofs.Laws.Order.{before-facts, before-deadline, order-facts, 
 use Rattle.spec.proofs.Laws.Sound.{within-facts, within-test}
 use Rattle.spec.proofs.Laws.Places.{Roomy, roomy-feasible, feasible-roomy}
 use Rattle.sound.specs.Checks.{isNext, areNext}
-use Rattle.sound.proofs.Laws.{room-past}
+use Rattle.sound.proofs.RecordTests.{room-past}
 
 every-cons : (p : Request → Bool) (w : Request) (ws : List Request) → every p (w ∷ ws) ≡ true
     → (p w ≡ true) × (every p ws ≡ true)
@@ -28,7 +28,7 @@ every-cons p w ws e = and-eq-true-iff (p w) (every p ws) .0 e
 
 -- ---- the pass
 -- what it finds of the records from the place i on, behind the one before them
-record Found (head : Head) (i : ℕ) (before : Request) (ws : List Request) : Type 0 where
+record PassFinds (head : Head) (i : ℕ) (before : Request) (ws : List Request) : Type 0 where
   pub near : before .deadline ≤ head .clock + mostAhead
   pub ordered : isInOrder (before ∷ ws) ≡ true
   pub ahead : every (λ w. isAhead (head .clock) (w .deadline)) ws ≡ true
@@ -37,7 +37,7 @@ record Found (head : Head) (i : ℕ) (before : Request) (ws : List Request) : Ty
   pub roomy : Roomy head i ws
 
 next-facts : (head : Head) (i : ℕ) (before : Request) (ws : List Request) → areNext head i before ws ≡ true
-    → Found head i before ws
+    → PassFinds head i before ws
 unfolding areNext isNext every isInOrder
 next-facts head i before [] e =
     record {
@@ -68,7 +68,7 @@ next-facts head i before (w ∷ ws) e =
       roomy = (ltb-true i (roomTo head (w .deadline)) (q .0 .1), f .roomy);
     }
 
-next-test : (head : Head) (i : ℕ) (before : Request) (ws : List Request) → Found head i before ws
+next-test : (head : Head) (i : ℕ) (before : Request) (ws : List Request) → PassFinds head i before ws
     → areNext head i before ws ≡ true
 unfolding areNext isNext every isInOrder
 next-test head i before [] f = le-leb (before .deadline) (head .clock + mostAhead) (f .near)
@@ -99,7 +99,7 @@ first-order clock (w ∷ ws) e =
     rw (before-test zeroRequest w (earlier (omega arith)))
 
 -- the pass, and the clauses of soundness that it stands for
-passed : (head : Head) (ws : List Request) → Found head 0 zeroRequest ws
+passed : (head : Head) (ws : List Request) → PassFinds head 0 zeroRequest ws
     → (isInOrder ws ≡ true) × (hasNoOverfull head ws ≡ true)
 passed head ws f =
     let o = sym (first-order (head .clock) ws (f .ahead)) ∙ f .ordered in
@@ -107,7 +107,7 @@ passed head ws f =
 
 passes : (head : Head) (ws : List Request) → isInOrder ws ≡ true → every (λ w. isAhead (head .clock) (w .deadline)) ws ≡ true
     → every (λ w. isGiven (head .last) (w .number)) ws ≡ true → every (λ w. isClient (head .setup .clients) (w .client)) ws ≡ true
-    → hasNoOverfull head ws ≡ true → Found head 0 zeroRequest ws
+    → hasNoOverfull head ws ≡ true → PassFinds head 0 zeroRequest ws
 passes head ws o a g c f =
     record {
       near = omega arith;

@@ -18,20 +18,20 @@ use Rattle.spec.specs.Tables.{mostClients, zeroRequest}
 use Rattle.spec.specs.Sound.{waitingOf}
 use Rattle.spec.proofs.Laws.Every.{Value, is-true, is-false as not-passed, value, and-left, and-right}
 use Rattle.spec.proofs.Laws.Clients.{of, waitingOf-none, waitingOf-cons}
-use Rattle.sound.specs.Checks.{parts, talliedOf, countedIf, Countable, Bounded, Standing, turn, turns, recordBefore}
+use Rattle.sound.specs.Checks.{parts, talliedOf, countedIf, Countable, Bounded, PassState, turn, turns, recordBefore}
 use Rattle.sound.specs.Checks.{isNext, isNear, areNext, asked, Passed}
-use Rattle.sound.proofs.Laws.{next-client}
+use Rattle.sound.proofs.RecordTests.{next-client}
 use Rattle.sound.proofs.Tally.{counted-more, counted-countable, fewer-countable}
 
 -- ---- one turn
 module _ (head : Head) (few : head .setup .clients ≤ mostClients) (i : ℕ) (before w : Request) where
-  abbrev passes : Standing → Bool
+  abbrev passes : PassState → Bool
   passes s = s .0 && isNext head i before w
 
-  owned : (s : Standing) → passes s ≡ true → w .client < mostClients
+  owned : (s : PassState) → passes s ≡ true → w .client < mostClients
   owned s e = omega (arith, next-client head i before w (and-right (s .0) (isNext head i before w) e))
 
-  turn-countable : (s : Standing) (m : ℕ) → Countable (suc m) (s .1) → Countable m (turn head i before w s .1)
+  turn-countable : (s : PassState) (m : ℕ) → Countable (suc m) (s .1) → Countable m (turn head i before w s .1)
   unfolding turn
   turn-countable s m h = go (value (passes s))
     where
@@ -39,7 +39,7 @@ module _ (head : Head) (few : head .setup .clients ≤ mostClients) (i : ℕ) (b
       go (is-true e) = rw e (counted-countable (i % parts) w (omega arith) (owned s e) (s .1) m h)
       go (not-passed e) = rw e (fewer-countable (s .1) (suc m) m h (omega arith))
 
-  turn-tallied : (s : Standing) (m : ℕ) → Countable m (s .1) → turn head i before w s .0 ≡ true → (c : ℕ) → c < mostClients
+  turn-tallied : (s : PassState) (m : ℕ) → Countable m (s .1) → turn head i before w s .0 ≡ true → (c : ℕ) → c < mostClients
       → talliedOf (turn head i before w s .1) c ≡ talliedOf (s .1) c + of c w
   unfolding turn
   turn-tallied s m h e c l = rw e (counted-more (i % parts) w (omega arith) (owned s e) (s .1) (h .size) c l)
@@ -53,12 +53,12 @@ module _ (head : Head) (ys : List Request) where
   turns-stop i zero false tally t = refl
   turns-stop i (suc k) false tally t = turns-stop (suc i) k false tally t
 
-  turns-passed : (i k : ℕ) (s : Standing) → turns head ys i k s .0 ≡ true → s .0 ≡ true
+  turns-passed : (i k : ℕ) (s : PassState) → turns head ys i k s .0 ≡ true → s .0 ≡ true
   turns-passed i k (true, tally) e = refl
-  turns-passed i k (false, tally) e = sym (ap (λ (s : Standing). s .0) (turns-stop i k false tally tt)) ∙ e
+  turns-passed i k (false, tally) e = sym (ap (λ (s : PassState). s .0) (turns-stop i k false tally tt)) ∙ e
 
   -- j turns, and k more from where they end
-  turns-join : (i j k at all : ℕ) (s : Standing) → at ≡ i + j → all ≡ j + k
+  turns-join : (i j k at all : ℕ) (s : PassState) → at ≡ i + j → all ≡ j + k
       → turns head ys at k (turns head ys i j s) ≡ turns head ys i all s
   unfolding turns
   turns-join i zero k at all s e f = let a : at ≡ i = omega arith in let b : all ≡ k = omega arith in rw (a, b)
@@ -67,7 +67,7 @@ module _ (head : Head) (ys : List Request) where
       turns-join (suc i) j k at all (turn head i (recordBefore ys i) (getD ys i zeroRequest) s) (omega arith) (omega arith)
 
   -- so many more can be counted after them
-  turns-countable : head .setup .clients ≤ mostClients → (i k m all : ℕ) (s : Standing) → all ≡ k + m → Countable all (s .1)
+  turns-countable : head .setup .clients ≤ mostClients → (i k m all : ℕ) (s : PassState) → all ≡ k + m → Countable all (s .1)
       → Countable m (turns head ys i k s .1)
   unfolding turns
   turns-countable few i zero m all s e h = fewer-countable (s .1) all m h (omega arith)
@@ -77,7 +77,7 @@ module _ (head : Head) (ys : List Request) where
       (turn-countable head few i (recordBefore ys i) (getD ys i zeroRequest) s all h)
 
   -- with the last record asked whether it is near, they find whether the records are as waiting ones should be
-  turns-verdict : (i k n : ℕ) (s : Standing) → n ≡ i + k → n ≤ length ys
+  turns-verdict : (i k n : ℕ) (s : PassState) → n ≡ i + k → n ≤ length ys
       → (turns head ys i k s .0 && isNear head (recordBefore ys n .deadline))
       ≡ (s .0 && areNext head i (recordBefore ys i) (take k (drop i ys)))
   unfolding turns turn areNext
@@ -88,7 +88,7 @@ module _ (head : Head) (ys : List Request) where
       (turns-verdict (suc i) k n (turn head i (recordBefore ys i) w s) (omega arith) l ∙ and-assoc (s .0) _ _)
 
   -- where all have passed, each client has its records counted
-  turns-tallied : head .setup .clients ≤ mostClients → (i k : ℕ) (s : Standing) → i + k ≤ length ys → Countable k (s .1)
+  turns-tallied : head .setup .clients ≤ mostClients → (i k : ℕ) (s : PassState) → i + k ≤ length ys → Countable k (s .1)
       → turns head ys i k s .0 ≡ true → (c : ℕ) → c < mostClients
       → talliedOf (turns head ys i k s .1) c ≡ talliedOf (s .1) c + waitingOf c (take k (drop i ys))
   unfolding turns
@@ -112,12 +112,12 @@ pub pass-told : (head : Head) (ys : List Request) (m n : ℕ) (tally₀ tally₁
     → Passed head (take n ys) tally₀ r tally
 pass-told head ys m n tally₀ tally₁ tally p r within l few less first second =
     record {
-      verdict = ap (λ (s : Standing). s .0) whole ∙ turns-verdict head ys 0 n n (true, tally₀) (omega arith) l;
+      verdict = ap (λ (s : PassState). s .0) whole ∙ turns-verdict head ys 0 n n (true, tally₀) (omega arith) l;
       tallied = λ e.
-          let all = and-left _ _ (sym (ap (λ (s : Standing). s .0) whole) ∙ e) in
+          let all = and-left _ _ (sym (ap (λ (s : PassState). s .0) whole) ∙ e) in
           record {
             at = λ c o.
-                ap (λ (s : Standing). talliedOf (s .1) c) whole
+                ap (λ (s : PassState). talliedOf (s .1) c) whole
                 ∙ turns-tallied head ys (within .clients) 0 n (true, tally₀) (omega arith) few all c o;
           };
     }
@@ -137,7 +137,7 @@ pub comes-next : (ys : List Request) (i j : ℕ) → j ≡ i + 1 → getD ys i z
 comes-next ys i j e = rw (e, add-one i)
 
 -- ---- the pass on its way over the first n records: where it started, and where it stands at the index i
-pub record Reached (head : Head) (ys : List Request) (start : ℕ) (s : Standing) (n i : ℕ) (passed : Bool) (tally : List ℕ)
+pub record OnTheWay (head : Head) (ys : List Request) (start : ℕ) (s : PassState) (n i : ℕ) (passed : Bool) (tally : List ℕ)
     : Type 0 where
   pub made : ℕ
   pub index : i ≡ start + made
@@ -146,7 +146,7 @@ pub record Reached (head : Head) (ys : List Request) (start : ℕ) (s : Standing
   pub countable : Countable (n - i) tally
 
 pub sets-out : (head : Head) (ys : List Request) (start n all : ℕ) (ok : Bool) (tally : List ℕ)
-    → n ≡ start + all → Countable all tally → Reached head ys start (ok, tally) n start ok tally
+    → n ≡ start + all → Countable all tally → OnTheWay head ys start (ok, tally) n start ok tally
 unfolding turns
 sets-out head ys start n all ok tally e h =
     record {
@@ -157,8 +157,8 @@ sets-out head ys start n all ok tally e h =
       countable = fewer-countable tally all (n - start) h (omega arith);
     }
 
-module _ {head : Head} {ys : List Request} {start : ℕ} {s : Standing} {n i : ℕ} {passed : Bool} {tally : List ℕ}
-    (h : Reached head ys start s n i passed tally) (b : Bounded head n) where
+module _ {head : Head} {ys : List Request} {start : ℕ} {s : PassState} {n i : ℕ} {passed : Bool} {tally : List ℕ}
+    (h : OnTheWay head ys start s n i passed tally) (b : Bounded head n) where
   -- what the next k turns ask
   pub may-turn : (k : ℕ) → i + k ≤ n → Bounded head (i + k) × Countable k tally
   may-turn k l = (fewer-bounded (i + k) b l, fewer-countable tally (n - i) k (h .countable) (omega arith))
@@ -168,7 +168,7 @@ module _ {head : Head} {ys : List Request} {start : ℕ} {s : Standing} {n i : �
 
   -- they are made, to the index j
   pub turns-on : (k j : ℕ) → j ≡ i + k → j ≤ n → {r : Bool} {zs : List ℕ} → (r, zs) ≡ turns head ys i k (passed, tally)
-      → Reached head ys start s n j r zs
+      → OnTheWay head ys start s n j r zs
   turns-on k j e l t =
       record {
         made = h .made + k;
@@ -176,12 +176,12 @@ module _ {head : Head} {ys : List Request} {start : ℕ} {s : Standing} {n i : �
         within = l;
         stands = t ∙ ap (turns head ys i k) (h .stands) ∙ turns-join head ys start (h .made) k i _ s (h .index) refl;
         countable =
-            subst (Countable (n - j)) (sym (ap (λ (z : Standing). z .1) t))
+            subst (Countable (n - j)) (sym (ap (λ (z : PassState). z .1) t))
             (turns-countable head ys (b .clients) i k (n - j) (n - i) (passed, tally) (omega arith) (h .countable));
       }
 
   pub steps-on : {before : Request} → before ≡ recordBefore ys i → i < n → (j : ℕ) → j ≡ i + 1 → {r : Bool} {zs : List ℕ}
-      → (r, zs) ≡ turn head i before (getD ys i zeroRequest) (passed, tally) → Reached head ys start s n j r zs
+      → (r, zs) ≡ turn head i before (getD ys i zeroRequest) (passed, tally) → OnTheWay head ys start s n j r zs
   unfolding turns
   steps-on e l j f t =
       turns-on 1 j f (omega arith) (t ∙ ap (λ (v : Request). turn head i v (getD ys i zeroRequest) (passed, tally)) e)
@@ -206,7 +206,7 @@ module _ {head : Head} {ys : List Request} {start : ℕ} {s : Standing} {n i : �
       → (passed && isNear head (before .deadline), tally) ≡ asked head (recordBefore ys n) (turns head ys start all s)
   asked-over all e over {before} f = last ∙ ap (asked head (recordBefore ys n)) (turns-over all e over)
     where
-      last : _≡_ {A = Standing} (passed && isNear head (before .deadline), tally)
+      last : _≡_ {A = PassState} (passed && isNear head (before .deadline), tally)
           (passed && isNear head (recordBefore ys n .deadline), tally)
       last =
           elim (and-no (ltb i n) passed over) [

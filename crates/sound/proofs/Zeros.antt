@@ -13,8 +13,8 @@ use Rattle.spec.specs.declared.types.Request.{Request}
 use Rattle.spec.specs.Every.{every}
 use Rattle.spec.specs.Tables.{zeroRequest}
 use Rattle.spec.specs.Sound.{isZeroRequest}
-use Rattle.table.proofs.Rest.{rest-cons, rest-none}
-use Rattle.sound.proofs.Laws.{verdict-end, every-turn}
+use Rattle.table.proofs.Remaining.{rest-cons, rest-none}
+use Rattle.sound.proofs.RecordTests.{verdict-end, every-turn}
 
 -- the record of a table at an index, the four from it on, and those from one index to another
 abbrev isZeroAt : List Request → ℕ → Bool

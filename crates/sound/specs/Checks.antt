@@ -71,11 +71,11 @@ pub record Bounded (head : Head) (n : ℕ) : Type 0 where
   pub records : n ≤ mostRecords
 
 -- where it stands: whether all records so far passed, and the count per client
-abbrev pub Standing : Type 0
-Standing = Bool × List ℕ
+abbrev pub PassState : Type 0
+PassState = Bool × List ℕ
 
 -- one turn, of the record w at the index i, behind the one before it: it is counted if it passes and all so far did
-unfoldable pub turn : Head → ℕ → Request → Request → Standing → Standing
+unfoldable pub turn : Head → ℕ → Request → Request → PassState → PassState
 turn head i before w s =
     (s .0 && isNext head i before w, countedIf (s .0 && isNext head i before w) i w (s .1))
 
@@ -85,7 +85,7 @@ recordBefore ys zero = zeroRequest
 recordBefore ys (suc i) = getD ys i zeroRequest
 
 -- so many turns over the records of a table, the first at the index i
-unfoldable pub turns : Head → List Request → ℕ → ℕ → Standing → Standing
+unfoldable pub turns : Head → List Request → ℕ → ℕ → PassState → PassState
 turns head ys i zero s = s
 turns head ys i (suc k) s = turns head ys (suc i) k (turn head i (recordBefore ys i) (getD ys i zeroRequest) s)
 
@@ -94,7 +94,7 @@ abbrev pub isNear : Head → ℕ → Bool
 isNear head deadline = leb deadline (head .clock + mostAhead)
 
 -- where the pass stands once its last record is asked whether it is near
-abbrev pub asked : Head → Request → Standing → Standing
+abbrev pub asked : Head → Request → PassState → PassState
 asked head last s = (s .0 && isNear head (last .deadline), s .1)
 
 -- whether all of them are as they should be, the first with the index i; deadlines ascend, so that all are near if the last is

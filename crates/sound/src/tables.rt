@@ -17,7 +17,7 @@ ghost use Rattle.sound.specs.Checks.{asked, Passed, areBalancedFrom};
 // One turn of the pass over the records, told whether all before it passed: whether they and this one do, a record that may
 // stand at its index behind the one before it; if so it is counted. The tally has four parts, used by turns: adding to one place
 // twice in a row waits for the store, and with few clients most records would.
-pub(crate) fn step(
+pub(crate) fn check_record(
     ok: bool,
     tally: &mut [u16],
     head: Head,
@@ -40,22 +40,22 @@ pub(crate) fn step(
 }
 
 // Four turns, from the index i on. Each is told whether those before it passed, so that there is no branch between them.
-fn four(t: &[Request], tally: &mut [u16], head: Head, i: usize, before: Request) -> bool
+fn check_four(t: &[Request], tally: &mut [u16], head: Head, i: usize, before: Request) -> bool
     requires { ⌜ Bounded head (i + 4) × (i + 4 ≤ length (now t)) × (before ≡ recordBefore (now t) i) × Countable 4 (now tally) ⌝ }
     ensures { λ r. ⌜ (r, now (tally .exit)) ≡ turns head (now (t .entry)) i 4 (true, now (tally .entry)) ⌝ }
 {
     let a = waiting::get(t, i);
-    let p = step(true, tally, head, i, before, a);
+    let p = check_record(true, tally, head, i, before, a);
     let b = waiting::get(t, i + 1);
-    let q = step(p, tally, head, i + 1, a, b);
+    let q = check_record(p, tally, head, i + 1, a, b);
     let c = waiting::get(t, i + 2);
-    let r = step(q, tally, head, i + 2, b, c);
+    let r = check_record(q, tally, head, i + 2, b, c);
     let d = waiting::get(t, i + 3);
-    step(r, tally, head, i + 3, c, d)
+    check_record(r, tally, head, i + 3, c, d)
 }
 
 // The turns of the first n records, four at a time, until one of the four does not pass.
-fn fours(t: &[Request], tally: &mut [u16], head: Head, n: usize) -> bool
+fn check_fours(t: &[Request], tally: &mut [u16], head: Head, n: usize) -> bool
     requires { ⌜ Bounded head n × (n ≤ length (now t)) × (n % 4 ≡ 0) × Countable n (now tally) ⌝ }
     ensures { λ r. ⌜ (r, now (tally .exit)) ≡ turns head (now (t .entry)) 0 n (true, now (tally .entry)) ⌝ }
 {
@@ -67,7 +67,7 @@ fn fours(t: &[Request], tally: &mut [u16], head: Head, n: usize) -> bool
     let mut passed = true;
     let mut i = 0;
     while (i < n) & passed {
-        passed = four(t, tally, head, i, before);
+        passed = check_four(t, tally, head, i, before);
         before = waiting::get(t, i + 3);
         i += 4;
     }
@@ -91,7 +91,7 @@ fn previous(t: &[Request], i: usize) -> Request
 
 // The turns of the records from one index on, one at a time, if all before it passed, until one does not pass; and whether the
 // last is near.
-fn rest(t: &[Request], tally: &mut [u16], head: Head, from: usize, n: usize, ok: bool) -> bool
+fn check_rest(t: &[Request], tally: &mut [u16], head: Head, from: usize, n: usize, ok: bool) -> bool
     requires { ⌜ Bounded head n × (n ≤ length (now t)) × (from ≤ n) × Countable (n - from) (now tally) ⌝ }
     ensures { λ r. ⌜ (r, now (tally .exit))
         ≡ asked head (recordBefore (now (t .entry)) n) (turns head (now (t .entry)) from (n - from) (ok, now (tally .entry))) ⌝ }
@@ -101,7 +101,7 @@ fn rest(t: &[Request], tally: &mut [u16], head: Head, from: usize, n: usize, ok:
     let mut i = from;
     while (i < n) & passed {
         let w = waiting::get(t, i);
-        passed = step(true, tally, head, i, before, w);
+        passed = check_record(true, tally, head, i, before, w);
         before = w;
         i += 1;
     }
@@ -116,8 +116,8 @@ pub(crate) fn are_next(t: &[Request], tally: &mut [u16], head: Head, n: usize) -
     ensures { λ r. ⌜ Passed head (take n (now (t .entry))) (now (tally .entry)) r (now (tally .exit)) ⌝ }
 {
     let m = n / 4 * 4;
-    let p = fours(t, tally, head, m);
-    rest(t, tally, head, m, n, p)
+    let p = check_fours(t, tally, head, m);
+    check_rest(t, tally, head, m, n, p)
 }
 
 // Whether the records from one index to another are zero, four at a time; the first four of which one is not end the search.

@@ -4,5 +4,5 @@ pub mod Cases
 pub mod Sessions
 pub mod Refusals
 pub mod Damaged
-pub mod Reading
+pub mod ReadOff
 pub mod Printed

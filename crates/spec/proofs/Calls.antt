@@ -3,5 +3,5 @@ pub mod Refused
 pub mod Victim
 pub mod Keeps
 pub mod Fair
-pub mod Latest
+pub mod LatestSlots
 pub mod Widths

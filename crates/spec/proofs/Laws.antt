@@ -9,3 +9,4 @@ pub mod Entries
 pub mod Clients
 pub mod Sound
 pub mod Accepted
+pub mod Digits

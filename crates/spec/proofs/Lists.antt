@@ -4,3 +4,5 @@ pub mod Counts
 pub mod Largest
 pub mod Passing
 pub mod Windows
+pub mod Printed
+pub mod SinceOpen

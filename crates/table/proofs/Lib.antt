@@ -1,6 +1,6 @@
-pub mod Changed
-pub mod Ends
+pub mod ChangedCounts
+pub mod ThinShifts
 pub mod Heads
-pub mod Laws
-pub mod Rows
-pub mod Rest
+pub mod MovedRecords
+pub mod Requests
+pub mod Remaining

@@ -6,6 +6,5 @@ pub mod Matches
 pub mod Plain
 pub mod Prelude
 pub mod Proves
-pub mod References
 pub mod Slices
 pub mod Steps

@@ -26,10 +26,10 @@ use Rattle.walk.proofs.Frees.{Held, holds, empty, heldIn, cell}
 use Rattle.walk.proofs.Locals.{front, many, standing, held}
 
 module _ {M : Type 1} {𝓤 : URA M} (H : Heap 𝓤) (A : Atoms 𝓤) (E : Env 𝓤 H) where
-  abbrev pub Standing : List (ℕ × Item 𝓤) → List (ℕ × Val) → List (Item 𝓤) → List (Item 𝓤)
-  Standing [] [] Γ = Γ
-  Standing [] (v ∷ vs) Γ = Standing [] vs (held H A Γ E (v .0) (v .1))
-  Standing (i ∷ is) vs Γ = Standing is vs (put 𝓤 H A (i .0) (i .1) Γ)
+  abbrev pub LoopContext : List (ℕ × Item 𝓤) → List (ℕ × Val) → List (Item 𝓤) → List (Item 𝓤)
+  LoopContext [] [] Γ = Γ
+  LoopContext [] (v ∷ vs) Γ = LoopContext [] vs (held H A Γ E (v .0) (v .1))
+  LoopContext (i ∷ is) vs Γ = LoopContext is vs (put 𝓤 H A (i .0) (i .1) Γ)
 
 -- ---- locals emptied
 module _ {M : Type 1} {𝓤 : URA M} where
@@ -107,13 +107,13 @@ module _ {M : Type 1} {𝓤 : URA M} {H : Heap 𝓤} {A : Atoms 𝓤} {K : Type 
 
 module _ {M : Type 1} {𝓤 : URA M} {H : Heap 𝓤} {A : Atoms 𝓤} {K : Type 0} {W : Given 𝓤 H A} {Γ : List (Item 𝓤)} {E : Env 𝓤 H} {rest : Body} {q : Post 𝓤 H} where
   pub iterates : K → (𝓣 : Tables 𝓤 H) {turn : Body} {X : Type 0} (measure : X → ℕ) (slices : X → List (ℕ × Item 𝓤)) (locals : X → List (ℕ × Val)) (x₀ : X)
-      → let At : X → List (Item 𝓤) = λ x. Standing H A E (slices x) (locals x) Γ in
+      → let At : X → List (Item 𝓤) = λ x. LoopContext H A E (slices x) (locals x) Γ in
       At x₀ ≡ Γ
       → ((x : X) (o : Iteration K W (𝓣 .C) (𝓣 .Λ) E rest q measure At x) → Seq K W (At x) (runs (𝓣 .C) (𝓣 .Λ) E turn (anyQ (o .after))))
       → Seq K W Γ (runs (𝓣 .C) (𝓣 .Λ) E (seq (block (loop turn)) rest) q)
   unfolding afterTurn
   iterates t 𝓣 {turn} {X = X} measure slices locals x₀ e turns =
-      let At : X → List (Item 𝓤) = λ x. Standing H A E (slices x) (locals x) Γ in
+      let At : X → List (Item 𝓤) = λ x. LoopContext H A E (slices x) (locals x) Γ in
       let G : Post 𝓤 H = anyQ (afterBlock 𝓤 H (afterSeq 𝓤 H (Wp 𝓤 H (𝓣 .C) (𝓣 .Λ) E rest (post 𝓤 H q)) (post 𝓤 H q))) in
       let nearer : X → X → Type 0 = λ y x. measure y < measure x in
       first t $ blocks t $ subst (λ (Δ : List (Item 𝓤)). Seq K W Δ (runs (𝓣 .C) (𝓣 .Λ) E (loop turn) G)) e

@@ -23,10 +23,10 @@ use denote.Triple.Statement.{Contract, Triple}
 use denote.Triple.Spec.{tripleOf}
 use denote.Triple.Clauses.{Clauses, closing}
 use denote.Triple.Table.{entered, cited}
-use Rattle.walk.proofs.Enter.{Kind, endedOf, signatureOf, Lies, Body, meets-of}
+use Rattle.walk.proofs.Enter.{ParamKind, endedOf, signatureOf, Lies, Body, meets-of}
 
 pub record Shape {M : Type 1} {𝓤 : URA M} {H : Heap 𝓤} {A : Atoms 𝓤} (W : Given 𝓤 H A) : Type 3 where
-  pub params : List (Kind 𝓤 H A)
+  pub params : List (ParamKind 𝓤 H A)
   pub result : RattleType
   pub clauses : Clauses 𝓤 (endedOf params result)
   pub code : Fn

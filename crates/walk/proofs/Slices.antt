@@ -7,3 +7,4 @@ pub mod Inside
 pub mod Lent
 pub mod Loans
 pub mod Parts
+pub mod References

@@ -1,3 +1,3 @@
-pub mod Calls
-pub mod Exporting
-pub mod Listed
+pub mod ExportedCalls
+pub mod ExportLaws
+pub mod Lists

@@ -57,13 +57,13 @@ pub(crate) fn write_head(numbers: &mut [u64; HEAD_WIDTH], reply: Reply)
 }
 
 // An answer as numbers: its kind, and its values, which are the first `count` of `numbers`.
-struct Line {
+struct Values {
     kind: u64,
     numbers: [u64; MOST_VALUES],
     count: usize,
 }
 
-impl Line {
+impl Values {
     fn new(kind: u64, numbers: [u64; MOST_VALUES], count: usize) -> Self
         ensures { λ r. ⌜ r ≡ record { kind = kind; numbers = numbers; count = count } ⌝ }
     {
@@ -76,32 +76,32 @@ impl Line {
 }
 
 // An answer's line, document 01, "Session lines": kinds and the order of values are the paper's.
-fn line_of(answer: Answer) -> Line
+fn values_of(answer: Answer) -> Values
     ensures { λ r. ⌜ (r .kind ≡ kindOf answer) × (take (r .count) (r .numbers) ≡ valueNumbers answer) × (r .count ≤ 5) ⌝ }
 {
     match answer {
-        Answer::Opened => Line::new(0x81, [0; MOST_VALUES], 0),
-        Answer::Kept { number, place } => Line::new(0x82, [number, place, 0, 0, 0], 2),
+        Answer::Opened => Values::new(0x81, [0; MOST_VALUES], 0),
+        Answer::Kept { number, place } => Values::new(0x82, [number, place, 0, 0, 0], 2),
         Answer::Dropped {
             number,
             victim,
             client,
-        } => Line::new(0x83, [number, victim, client, 0, 0], 3),
+        } => Values::new(0x83, [number, victim, client, 0, 0], 3),
         Answer::Served {
             slot,
             number,
             client,
-        } => Line::new(0x84, [slot, number, client, 0, 0], 3),
-        Answer::Idle { slot } => Line::new(0x85, [slot, 0, 0, 0, 0], 1),
+        } => Values::new(0x84, [slot, number, client, 0, 0], 3),
+        Answer::Idle { slot } => Values::new(0x85, [slot, 0, 0, 0, 0], 1),
         Answer::Reported {
             client,
             submitted,
             served,
             dropped,
             waiting,
-        } => Line::new(0x86, [client, submitted, served, dropped, waiting], 5),
-        Answer::Charted { count } => Line::new(0x88, [count, 0, 0, 0, 0], 1),
-        Answer::Refused { number } => Line::new(0xFF, [number, 0, 0, 0, 0], 1),
+        } => Values::new(0x86, [client, submitted, served, dropped, waiting], 5),
+        Answer::Charted { count } => Values::new(0x88, [count, 0, 0, 0, 0], 1),
+        Answer::Refused { number } => Values::new(0xFF, [number, 0, 0, 0, 0], 1),
     }
 }
 
@@ -125,7 +125,7 @@ pub(crate) fn write_values(values: &mut [u64; MOST_VALUES], reply: Reply) -> u64
         × (now (values .exit) ≡ written (valueNumbers (reply .answer)) (now (values .entry))) ⌝ }
 {
     let answer = reply.answer;
-    let line = line_of(answer);
+    let line = values_of(answer);
     let others = *values;
     let numbers = line.numbers;
     let all = over(others, numbers, line.count);

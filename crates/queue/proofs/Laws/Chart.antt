@@ -20,13 +20,13 @@ use Rattle.spec.specs.Calls.Call.{chart, outcomeOf}
 use Rattle.spec.proofs.Laws.Accepted.{ChartReady, chart-ready, waiting-length}
 use Rattle.spec.proofs.Calls.Refused.{length-starts, Written, untouched, written, output-written}
 use Rattle.occupancy.specs.Charted.{startSlots}
-use Rattle.occupancy.proofs.Drawing.{starts-column}
+use Rattle.occupancy.proofs.StartsAndSegments.{starts-column}
 use Rattle.sound.specs.Checks.{tablesRefusal}
 use Rattle.decide.specs.Reply.{refusedWith}
 use Rattle.decide.specs.Chart.{chartMatch, chartReply}
 use Rattle.queue.specs.Gives.{Reply, said, Gives}
-use Rattle.queue.proofs.Laws.Told.{chart-told}
-use Rattle.queue.proofs.Laws.Answers.{answers, unless-within, unchanged, given}
+use Rattle.queue.proofs.Laws.Refusals.{chart-told}
+use Rattle.queue.proofs.Laws.Replies.{answers, unless-within, unchanged, given}
 
 -- ---- an accepted chart's output: the start slots of the waiting requests' deadlines, and what stood beyond
 charted : (output : List ℕ) (s : State) → firstMatch (chartRefusals output s) ≡ 0

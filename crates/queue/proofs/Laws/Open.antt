@@ -19,13 +19,13 @@ use Rattle.spec.proofs.Laws.Layout.{numbers-zero}
 use Rattle.spec.proofs.Laws.Accepted.{open-ready}
 use Rattle.decide.specs.Open.{openMatch, openReply, openNumbers}
 use Rattle.queue.specs.Gives.{Reply, Gives}
-use Rattle.queue.proofs.Laws.Told.{open-told}
-use Rattle.queue.proofs.Laws.Answers.{Answers, answers, unless-answers, unless-within, given}
+use Rattle.queue.proofs.Laws.Refusals.{open-told}
+use Rattle.queue.proofs.Laws.Replies.{ReplyMatches, answers, unless-answers, unless-within, given}
 
 open-answers : (setup : Setup) (s : State) {refusal : ℕ} {r : Reply} {xs : List ℕ}
     → refusal ≡ firstMatch (openRefusals setup s)
     → (r ≡ openReply refusal (s .head) setup) × (xs ≡ openNumbers refusal (s .clientNumbers))
-    → Answers (outcomeOf (opening setup) s) r xs
+    → ReplyMatches (outcomeOf (opening setup) s) r xs
 unfolding outcomeOf openAccepted
 open-answers setup s found (e, h) =
     unless-answers (openRefusals setup s) s (openAccepted setup s) found (λ z. answers refl refl (zeros (sym found ∙ z))) e h

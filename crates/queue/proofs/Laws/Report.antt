@@ -19,14 +19,14 @@ use Rattle.table.specs.Clients.{waitingCount}
 use Rattle.sound.specs.Checks.{tablesRefusal}
 use Rattle.decide.specs.Report.{reportMatch, reportedWith, reportReply}
 use Rattle.queue.specs.Gives.{Reply, Gives}
-use Rattle.queue.proofs.Laws.Told.{report-told}
-use Rattle.queue.proofs.Laws.Answers.{Answers, answers, unless-answers, unchanged, given}
+use Rattle.queue.proofs.Laws.Refusals.{report-told}
+use Rattle.queue.proofs.Laws.Replies.{ReplyMatches, answers, unless-answers, unchanged, given}
 
 -- the counts of a client balance, so that what is neither served nor dropped waits
 report-answers : (client : ℕ) (s : State) {refusal : ℕ} {r : Reply}
     → refusal ≡ firstMatch (reportRefusals client s)
     → r ≡ reportReply refusal (s .head) client (getD (clientTable s) client zeroCounts)
-    → Answers (outcomeOf (report client) s) r (s .clientNumbers)
+    → ReplyMatches (outcomeOf (report client) s) r (s .clientNumbers)
 unfolding outcomeOf reportAccepted
 report-answers client s {refusal} found e =
     unless-answers (reportRefusals client s) s (reportAccepted client s) found

@@ -21,23 +21,23 @@ use Rattle.spec.specs.Calls.Chart.{chartRefusals, chartAccepted}
 use Rattle.spec.specs.Calls.Call.{chart, outcomeOf, report, submit}
 use Rattle.spec.proofs.Laws.Every.{length-remove, all-at}
 use Rattle.spec.proofs.Laws.Order.{length-put}
-use Rattle.spec.proofs.Laws.Sound.{Owned}
+use Rattle.spec.proofs.Laws.Sound.{ClientExists}
 use Rattle.spec.proofs.Laws.Accepted.{SubmitReady, submit-ready, report-ready, waiting-length}
 use Rattle.spec.proofs.Calls.Victim.{victim-place}
 use Rattle.spec.proofs.Calls.Keeps.{Tidy, tidy, tidy-put}
 use Rattle.table.specs.declared.clients.Count.the-variants as count
 use Rattle.table.specs.Widths.{largest64, saturatingNext}
 use Rattle.table.specs.Clients.{changedAt, oneMoreUnlessFull, waitingCount}
-use Rattle.table.proofs.Changed.{more-numbers}
+use Rattle.table.proofs.ChangedCounts.{more-numbers}
 use Rattle.decide.specs.declared.submit.Decision.{Decision}
 use Rattle.decide.specs.declared.submit.Decision.the-variants.{Drop}
 use Rattle.decide.specs.Submit.{numberedRequest, submitNumbers, headAfterSubmit, keptWith, droppedWith, submitReply}
-use Rattle.queue.specs.Placed.{tableAfter, goneAfter}
-use Rattle.queue.specs.Decided.{submitDecision}
+use Rattle.queue.specs.Placement.{tableAfter, goneAfter}
+use Rattle.queue.specs.Decision.{submitDecision}
 use Rattle.queue.specs.Gives.{Reply, Gives}
-use Rattle.queue.proofs.Laws.Answers.{whole, bounded, next-fits, Answers, answers, given as given-by}
-use Rattle.queue.proofs.Laws.Decided.{Carried, refuses, keeps, drops, submit-carried}
-use Rattle.queue.proofs.Laws.Placed.{submit-table, submit-gone, new-fits}
+use Rattle.queue.proofs.Laws.Replies.{whole, bounded, next-fits, ReplyMatches, answers, given as given-by}
+use Rattle.queue.proofs.Laws.Decision.{Carried, refuses, keeps, drops, submit-carried}
+use Rattle.queue.proofs.Laws.Placement.{submit-table, submit-gone, new-fits}
 
 -- ---- a submit
 -- the head with the next number
@@ -81,14 +81,14 @@ module _ (client deadline : ℕ) (s : State) (ready : SubmitReady client deadlin
       ap (changedAt (oneMoreUnlessFull count.Submitted) client) (whole s (ready .ready .shape))
       ∙ more-numbers count.Submitted client (clientTable s) (bounded (tidy s (ready .ready)) client (ready .exists) .0)
 
-  kept-answers : Answers (kept client deadline s)
+  kept-answers : ReplyMatches (kept client deadline s)
       (keptWith (s .head) (placeOf (newRequest client deadline s) (waiting s)))
       (changedAt (oneMoreUnlessFull count.Submitted) client (s .clientNumbers))
   unfolding kept nextState
   kept-answers = answers (rw given) (head-after all (s .head) _ given one-more) counted
 
   dropped-answers : (k : ℕ) → k < length all
-      → Answers (droppedAt k client deadline s) (droppedWith (s .head) (requestAt k client deadline s))
+      → ReplyMatches (droppedAt k client deadline s) (droppedWith (s .head) (requestAt k client deadline s))
       (changedAt (oneMoreUnlessFull count.Dropped) (requestAt k client deadline s .client) (changedAt (oneMoreUnlessFull count.Submitted) client (s .clientNumbers)))
   unfolding droppedAt nextState
   dropped-answers k h =
@@ -103,20 +103,20 @@ module _ (client deadline : ℕ) (s : State) (ready : SubmitReady client deadlin
       together = tidy-put client deadline s ready
 
       exists : whose < s .head .setup .clients
-      exists = all-at (Owned (s .head .setup .clients)) all k zeroRequest h (together .owned)
+      exists = all-at (ClientExists (s .head .setup .clients)) all k zeroRequest h (together .owned)
 
 -- by the decision, where `gone` is the victim: what is handed back, and what becomes of the client table
 submit-answers : (client deadline : ℕ) (s : State) {gone : Request} {decision : Decision} {r : Reply} {xs : List ℕ}
     → decision ≡ submitDecision client deadline s
     → ((place victim : ℕ) → decision ≡ Drop place victim → gone ≡ requestAt victim client deadline s)
     → (r ≡ submitReply (s .head) gone decision) × (xs ≡ submitNumbers client gone decision (s .clientNumbers))
-    → Answers (outcomeOf (submit client deadline) s) r xs
+    → ReplyMatches (outcomeOf (submit client deadline) s) r xs
 submit-answers client deadline s {gone} e g (a, b) =
     rw (a, b, e) (go (submit-carried client deadline s) (λ p v h. g p v (e ∙ h)))
   where
     go : {d : Decision} {o : Outcome} → Carried client deadline s d o
         → ((place victim : ℕ) → d ≡ Drop place victim → gone ≡ requestAt victim client deadline s)
-        → Answers o (submitReply (s .head) gone d) (submitNumbers client gone d (s .clientNumbers))
+        → ReplyMatches o (submitReply (s .head) gone d) (submitNumbers client gone d (s .clientNumbers))
     go (refuses n) h = answers refl refl refl
     go (keeps z) h = kept-answers client deadline s (submit-ready client deadline s z)
     go (drops z) h =

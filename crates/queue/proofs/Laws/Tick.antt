@@ -25,17 +25,17 @@ use Rattle.spec.proofs.Laws.Clients.{counts-path}
 use Rattle.spec.proofs.Laws.Sound.{Balanced}
 use Rattle.spec.proofs.Laws.Accepted.{Ready, TickReady, tick-ready, waiting-length, table-held, Decided, accepts, refuses}
 use Rattle.spec.proofs.Calls.Refused.{outcome-decided}
-use Rattle.spec.proofs.Calls.Keeps.{Tidy, tidy, Ends, tidy-remove}
+use Rattle.spec.proofs.Calls.Keeps.{Tidy, tidy, AddsOne, tidy-remove}
 use Rattle.table.specs.Widths.{largest64, saturatingNext}
 use Rattle.table.specs.Clients.{changedAt, oneMoreUnlessFull, restartedCounts, restartedNumbers}
 use Rattle.table.specs.declared.clients.Count.the-variants as count
 use Rattle.table.specs.Records.{removed, removedOut}
-use Rattle.table.proofs.Changed.{restartedAt, restarted-numbers, more-numbers}
+use Rattle.table.proofs.ChangedCounts.{restartedAt, restarted-numbers, more-numbers}
 use Rattle.sound.specs.Checks.{tablesRefusal}
 use Rattle.decide.specs.Tick.{tickMatch, servedNumbers, slotNumbers, tickNumbers, headAfterTick, tickAnswer, tickReply}
 use Rattle.queue.specs.Gives.{Reply, Gives}
-use Rattle.queue.proofs.Laws.Told.{tick-told}
-use Rattle.queue.proofs.Laws.Answers.{whole, bounded, next-fits, Answers, answers, unless-answers, given}
+use Rattle.queue.proofs.Laws.Refusals.{tick-told}
+use Rattle.queue.proofs.Laws.Replies.{whole, bounded, next-fits, ReplyMatches, answers, unless-answers, given}
 
 -- ---- a period start
 -- where the counts balance, what is neither served nor dropped waits
@@ -90,7 +90,7 @@ module _ (s : State) (r : TickReady s) (gone : Request) where
       ∙ ap numbersOf
       (rw rises (restarted-after (s .head .setup .period) (suc clock) (r .ready .sound .headed .setup .some-period) t))
 
-  idle-answers : waiting s ≡ [] → Answers (tickAccepted [] s) accepted numbers
+  idle-answers : waiting s ≡ [] → ReplyMatches (tickAccepted [] s) accepted numbers
   unfolding tickAccepted
   idle-answers e =
       answers (rw none) (later-head [] (clientTable s) (omega (arith, no-one)))
@@ -104,7 +104,7 @@ module _ (s : State) (r : TickReady s) (gone : Request) where
       none = eq-eqb (s .head .waiting) 0 no-one
 
   served-answers : (w : Request) (ws : List Request) → waiting s ≡ w ∷ ws → gone ≡ w
-      → Answers (tickAccepted (w ∷ ws) s) accepted numbers
+      → ReplyMatches (tickAccepted (w ∷ ws) s) accepted numbers
   unfolding tickAccepted removeAt
   served-answers w ws e same-one =
       answers (rw (some, same-one)) (later-head ws cs (omega (arith, many)))
@@ -124,7 +124,7 @@ module _ (s : State) (r : TickReady s) (gone : Request) where
       all : Tidy clock (s .head .last) (s .head .setup .clients) (w ∷ ws) (clientTable s)
       all = rw e at (tidy s (r .ready))
 
-      ends : Ends oneMoreServed
+      ends : AddsOne oneMoreServed
       ends = record { submits = λ k. refl; ends = λ k. omega arith }
 
       counted : changedAt (oneMoreUnlessFull count.Served) (w .client) (s .clientNumbers) ≡ numbersOf cs
@@ -132,7 +132,7 @@ module _ (s : State) (r : TickReady s) (gone : Request) where
           ap (changedAt (oneMoreUnlessFull count.Served) (w .client)) (whole s (r .ready .shape))
           ∙ more-numbers count.Served (w .client) (clientTable s) (bounded all (w .client) (all .owned .0) .1)
 
-  accepted-answers : (ws : List Request) → waiting s ≡ ws → gone ≡ getD ws 0 gone → Answers (tickAccepted ws s) accepted numbers
+  accepted-answers : (ws : List Request) → waiting s ≡ ws → gone ≡ getD ws 0 gone → ReplyMatches (tickAccepted ws s) accepted numbers
   accepted-answers [] e g = idle-answers e
   accepted-answers (w ∷ ws) e g = served-answers w ws e g
 
@@ -142,7 +142,7 @@ tick-answers : (s : State) {gone : Request} {refusal : ℕ} {r : Reply} {xs : Li
     → (refusal ≡ 0 → gone ≡ getD (waiting s) 0 gone)
     → r ≡ tickReply refusal (s .head) gone
     → xs ≡ tickNumbers refusal (s .head) gone (s .clientNumbers)
-    → Answers (outcomeOf tick s) r xs
+    → ReplyMatches (outcomeOf tick s) r xs
 unfolding outcomeOf
 tick-answers s {gone} found g a b =
     unless-answers (tickRefusals s) s (tickAccepted (waiting s) s) found

@@ -3,7 +3,7 @@
 use Rattle.walk.proofs.Prelude.{ℕ, _≤_, refl, sym, _∙_, subst, List, [], _∷_, length, URA, w64, SProp, Memory, Routine, Heap, Tables, Atoms, Fun, tables, Given, _$_, !, of-opd, and-then, no-more, first, u32, u64, tripleOf, id⊢}
 use Rattle.walk.proofs.Prelude.{drop, number, lent, shown, so, Shape, Walk, proved, var, vars, field-var, sets, relends, gives, mut-of, passed-on, made, fit, of-number, of-nothing, taken, given, calls-for}
 use Rattle.spec.specs.declared.types.Request.{Request}
-use Rattle.table.proofs.Rows.{R}
+use Rattle.table.proofs.Requests.{RequestT}
 use Rattle.table.proofs.Heads.{the-head, waiting-fits, a-head, a-setup, setup-is}
 use Rattle.queue.proofs.Values.{ReplyT, a-reply}
 use Rattle.queue.proofs.Laws.Chart.{within, chart-gives, output-charted}
@@ -18,7 +18,7 @@ use Rattle.queue.proofs.chart as f
 module _ {M : Type 1} (𝓤 : URA M) (H : Heap 𝓤) (A : Atoms 𝓤) (W : Given 𝓤 H A) (mem : Memory → SProp 𝓤) (run : Routine → Fun 𝓤) where
   abbrev shape : Shape W
   shape = record {
-    params = taken a-head ∷ shown R ∷ shown u32 ∷ lent u64 ∷ [];
+    params = taken a-head ∷ shown RequestT ∷ shown u32 ∷ lent u64 ∷ [];
     result = ReplyT;
     clauses = f.clauses 𝓤 H A mem run;
     code = f.Code.function;

@@ -3,7 +3,7 @@
 use Rattle.walk.proofs.Prelude.{ℕ, refl, List, [], _∷_, length, URA, w64, SProp, Memory, Routine, Heap, Tables, Atoms, Fun, Given, _$_, !, of-opd, u32, tripleOf, id⊢}
 use Rattle.walk.proofs.Prelude.{drop, number, lent, taken, so, Shape, Walk, proved, vars, field-var, sets, relends, gives, mut-of, made, fit, of-number, of-nothing, given, calls-for, copies}
 use Rattle.spec.specs.declared.types.Request.{Request}
-use Rattle.table.proofs.Rows.{R}
+use Rattle.table.proofs.Requests.{RequestT}
 use Rattle.table.proofs.Heads.{the-head, a-head, a-setup}
 use Rattle.queue.proofs.Values.{ReplyT, a-reply}
 use Rattle.queue.proofs.Laws.Open.{opened, cleared-within}
@@ -17,7 +17,7 @@ use Rattle.queue.proofs.open as f
 module _ {M : Type 1} (𝓤 : URA M) (H : Heap 𝓤) (A : Atoms 𝓤) (W : Given 𝓤 H A) (mem : Memory → SProp 𝓤) (run : Routine → Fun 𝓤) where
   abbrev shape : Shape W
   shape = record {
-    params = taken a-head ∷ lent R ∷ lent u32 ∷ taken a-setup ∷ [];
+    params = taken a-head ∷ lent RequestT ∷ lent u32 ∷ taken a-setup ∷ [];
     result = ReplyT;
     clauses = f.clauses 𝓤 H A mem run;
     code = f.Code.function;

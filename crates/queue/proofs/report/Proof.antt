@@ -3,7 +3,7 @@
 use Rattle.walk.proofs.Prelude.{ℕ, refl, List, [], _∷_, URA, w64, SProp, Memory, Routine, Heap, Tables, Atoms, Fun, Given, _$_, !, u32, tripleOf, id⊢}
 use Rattle.walk.proofs.Prelude.{drop, number, shown, taken, so, Shape, Walk, proved, vars, gives, passed-on, made, of-number, calls-for}
 use Rattle.spec.specs.declared.types.Request.{Request}
-use Rattle.table.proofs.Rows.{R}
+use Rattle.table.proofs.Requests.{RequestT}
 use Rattle.table.proofs.Heads.{a-head, the-head}
 use Rattle.queue.proofs.Values.{ReplyT, a-reply}
 use Rattle.queue.proofs.Laws.Report.{reported}
@@ -15,7 +15,7 @@ use Rattle.queue.proofs.report as f
 module _ {M : Type 1} (𝓤 : URA M) (H : Heap 𝓤) (A : Atoms 𝓤) (W : Given 𝓤 H A) (mem : Memory → SProp 𝓤) (run : Routine → Fun 𝓤) where
   abbrev shape : Shape W
   shape = record {
-    params = taken a-head ∷ shown R ∷ shown u32 ∷ taken (of-number w64) ∷ [];
+    params = taken a-head ∷ shown RequestT ∷ shown u32 ∷ taken (of-number w64) ∷ [];
     result = ReplyT;
     clauses = f.clauses 𝓤 H A mem run;
     code = f.Code.function;

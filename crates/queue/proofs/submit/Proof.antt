@@ -6,7 +6,7 @@ use Rattle.queue.proofs.Laws.Submit.{submitted-gives}
 use Rattle.queue.proofs.Values.{ReplyT, a-reply, a-decision}
 use Rattle.spec.specs.declared.types.Request.{Request}
 use Rattle.table.proofs.Heads.{a-head, the-head}
-use Rattle.table.proofs.Rows.{R, request, a-request}
+use Rattle.table.proofs.Requests.{RequestT, request, a-request}
 use Rattle.queue.proofs.submission.submit_decision as submit-decision
 use Rattle.decide.proofs.submit.new_request as new-request
 use Rattle.queue.proofs.submission.put_in as put-in
@@ -17,7 +17,7 @@ use Rattle.queue.proofs.submit as f
 module _ {M : Type 1} (𝓤 : URA M) (H : Heap 𝓤) (A : Atoms 𝓤) (W : Given 𝓤 H A) (mem : Memory → SProp 𝓤) (run : Routine → Fun 𝓤) where
   abbrev shape : Shape W
   shape = record {
-    params = taken a-head ∷ lent R ∷ lent u32 ∷ taken (of-number w64) ∷ taken (of-number w64) ∷ [];
+    params = taken a-head ∷ lent RequestT ∷ lent u32 ∷ taken (of-number w64) ∷ taken (of-number w64) ∷ [];
     result = ReplyT;
     clauses = f.clauses 𝓤 H A mem run;
     code = f.Code.function;

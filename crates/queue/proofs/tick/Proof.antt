@@ -3,7 +3,7 @@
 use Rattle.walk.proofs.Prelude.{ℕ, refl, List, [], _∷_, lit<, URA, w64, SProp, id⊢, Memory, Routine, Heap, Tables, Atoms, Fun, tables, Given, _$_, !, lit, and-then, no-more, u32, tripleOf}
 use Rattle.walk.proofs.Prelude.{drop, number, lent, so, Shape, Walk, proved, var, vars, relends, gives, mut-of, shr-of, made, of-number, of-nothing, taken, calls-for}
 use Rattle.spec.specs.declared.types.Request.{Request}
-use Rattle.table.proofs.Rows.{R, a-request, request}
+use Rattle.table.proofs.Requests.{RequestT, a-request, request}
 use Rattle.table.proofs.Heads.{the-head, a-head}
 use Rattle.queue.proofs.Values.{ReplyT, a-reply}
 use Rattle.queue.proofs.Laws.Tick.{ticked}
@@ -18,7 +18,7 @@ use Rattle.queue.proofs.tick as f
 module _ {M : Type 1} (𝓤 : URA M) (H : Heap 𝓤) (A : Atoms 𝓤) (W : Given 𝓤 H A) (mem : Memory → SProp 𝓤) (run : Routine → Fun 𝓤) where
   abbrev shape : Shape W
   shape = record {
-    params = taken a-head ∷ lent R ∷ lent u32 ∷ [];
+    params = taken a-head ∷ lent RequestT ∷ lent u32 ∷ [];
     result = ReplyT;
     clauses = f.clauses 𝓤 H A mem run;
     code = f.Code.function;

@@ -19,7 +19,7 @@ use Rattle.session.specs.declared.types.Session.{Session}
 use Rattle.session.specs.Standing.{doFit, upTo}
 
 -- ---- tables that will do, as facts
-pub record Fits (s : Session) (waiting numbers starts : ℕ) : Type 0 where
+pub record TablesFit (s : Session) (waiting numbers starts : ℕ) : Type 0 where
   pub records : s .records ≤ mostRecords
   pub clients : s .head .setup .clients ≤ mostClients
   pub waiting-long : mostRecords ≤ waiting
@@ -27,7 +27,7 @@ pub record Fits (s : Session) (waiting numbers starts : ℕ) : Type 0 where
   pub numbers-long : width * mostClients ≤ numbers
 
 pub fit-facts : (s : Session) (waiting numbers starts : ℕ) → doFit s waiting numbers starts ≡ true
-    → Fits s waiting numbers starts
+    → TablesFit s waiting numbers starts
 unfolding doFit
 fit-facts s waiting numbers starts e =
     let p = simp and-eq-true-iff at e in

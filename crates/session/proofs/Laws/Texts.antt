@@ -11,10 +11,10 @@ use lib.ListN.{length, take, drop, length-take, length-drop}
 use lib.Seq.{take-add, take-suc, getD-take, getD-drop}
 use Rattle.spec.specs.Tables.{State}
 use Rattle.spec.specs.Lines.Frames.{lineFeed, frameOf}
-use Rattle.spec.specs.Lines.Session.{Text, inFront, read, textOf, reply, replies}
-use Rattle.spec.proofs.Lines.Digits.{Clean}
-use Rattle.spec.proofs.Lines.Printed.{text-first}
-use Rattle.frame.specs.Lines.{NoFeed, Ends, slice}
+use Rattle.spec.specs.Lines.Session.{Text, inFront, read, textOf, lineOutcome, replies}
+use Rattle.spec.proofs.Laws.Digits.{Clean}
+use Rattle.spec.proofs.Lists.Printed.{text-first}
+use Rattle.frame.specs.Lines.{NoFeed, FirstFeed, slice}
 use Rattle.session.specs.Standing.{stateAfter}
 
 -- ---- texts
@@ -119,7 +119,7 @@ module _ (input : List ℕ) (used end : ℕ) where
       h (used + k) (omega arith) (omega arith)
       (sym (getD-take (end - used) (drop used input) k 0 m ∙ getD-drop used input k 0) ∙ e)
 
-  slice-line : Ends input used end → slice used (end + 1) input ≡ slice used end input ++ (lineFeed ∷ [])
+  slice-line : FirstFeed input used end → slice used (end + 1) input ≡ slice used end input ++ (lineFeed ∷ [])
   slice-line h =
       let long : end + 1 - used ≡ suc (end - used) = omega (arith, h .from) in
       let at : used + (end - used) ≡ end = omega (arith, h .from) in
@@ -131,7 +131,7 @@ module _ (input : List ℕ) (used end : ℕ) where
       → textOf (p ++ slice used end input) ≡ begun (p ++ slice used end input)
   slice-goes-on p b h = text-goes-on p (slice used end input) b (slice-clean h)
 
-  pub slice-ends : (p : List ℕ) → textOf p ≡ begun p → Ends input used end
+  pub slice-ends : (p : List ℕ) → textOf p ≡ begun p → FirstFeed input used end
       → textOf (p ++ slice used (end + 1) input) ≡ ended (p ++ slice used end input)
   slice-ends p b h = rw (slice-line h) (text-ends p (slice used end input) b (slice-clean (h .before)))
 
@@ -139,11 +139,11 @@ module _ (input : List ℕ) (used end : ℕ) where
 pub state-append : (s : State) (ls ms : List (List ℕ)) → stateAfter s (ls ++ ms) ≡ stateAfter (stateAfter s ls) ms
 unfolding stateAfter
 state-append s [] ms = refl
-state-append s (l ∷ ls) ms = state-append (reply (frameOf l) s .after) ls ms
+state-append s (l ∷ ls) ms = state-append (lineOutcome (frameOf l) s .after) ls ms
 
 pub replies-append : (s : State) (ls ms : List (List ℕ)) → replies s (ls ++ ms) ≡ replies s ls ++ replies (stateAfter s ls) ms
 unfolding replies stateAfter
 replies-append s [] ms = refl
 replies-append s (l ∷ ls) ms =
-    let t : State = reply (frameOf l) s .after in
-    rw (replies-append t ls ms) (sym (append-assoc (reply (frameOf l) s .bytes) (replies t ls) (replies (stateAfter t ls) ms)))
+    let t : State = lineOutcome (frameOf l) s .after in
+    rw (replies-append t ls ms) (sym (append-assoc (lineOutcome (frameOf l) s .bytes) (replies t ls) (replies (stateAfter t ls) ms)))

@@ -16,29 +16,29 @@ use Rattle.spec.specs.declared.types.Request.{Request}
 use Rattle.frame.specs.Digits.{digitTable}
 use Rattle.frame.specs.Lines.{Behind, lineAt}
 use Rattle.frame.specs.declared.lines.Reader.{Reader}
-use Rattle.frame.proofs.Fields.{table-length}
-use Rattle.frame.proofs.Reader.{typed, Held as ReaderT, mach as reader-val, made as reader-of}
-use Rattle.frame.proofs.Reading.{reading, calls-reader, calls-part}
-use Rattle.table.proofs.Rows.{R}
+use Rattle.frame.proofs.FieldDigits.{table-length}
+use Rattle.frame.proofs.Reader.{typed, HeldReader as ReaderT, mach as reader-val, made as reader-of}
+use Rattle.frame.proofs.ReaderCalls.{reading, calls-reader, calls-part}
+use Rattle.table.proofs.Requests.{RequestT}
 use Rattle.session.specs.declared.types.Session.{Session}
 use Rattle.session.specs.declared.types.Fed.{Fed}
 use Rattle.session.specs.Standing.{Reserved, reservedOf}
 use Rattle.session.specs.Feeding.{HandsBack}
-use Rattle.session.proofs.Laws.Turning.{line-within}
+use Rattle.session.proofs.Laws.NextLine.{line-within}
 use Rattle.session.proofs.Values.{FedT, a-session, a-fed}
-use Rattle.session.proofs.Stepping.{Feeding, turnsLeft, fed-begins, fed-steps, fed-ends, turns-less}
-use Rattle.session.proofs.Going.{is-true, is-false}
+use Rattle.session.proofs.TurnsTogether.{Feeding, turnsLeft, fed-begins, fed-steps, fed-ends, turns-less}
+use Rattle.session.proofs.TurnWalk.{is-true, is-false}
 use Rattle.frame.proofs.values.digit_table as digit-table
 use Rattle.frame.proofs.lines.new as new
 use Rattle.frame.proofs.lines.next as next
 use Rattle.frame.proofs.lines.digits as digits
 use Rattle.session.proofs.turns.begin as begin
-use Rattle.session.proofs.step as step
+use Rattle.session.proofs.answer_line as step
 use Rattle.session.proofs.feed as f
 use Rattle.session.proofs.feed.Code.Mir as mir
 
 -- ---- where a turn of the loop stands
-record Turns (session : Session) (inp : List ℕ) (t₀ : Reserved) (st₀ out₀ : List ℕ) (Reader-is : ℕ → Type 0) : Type 0 where
+record LoopTurn (session : Session) (inp : List ℕ) (t₀ : Reserved) (st₀ out₀ : List ℕ) (Reader-is : ℕ → Type 0) : Type 0 where
   pub fed : Fed
   pub at : ℕ
   pub ws : List Request
@@ -54,7 +54,7 @@ record Turns (session : Session) (inp : List ℕ) (t₀ : Reserved) (st₀ out�
 module _ {M : Type 1} (𝓤 : URA M) (H : Heap 𝓤) (A : Atoms 𝓤) (W : Given 𝓤 H A) (mem : Memory → SProp 𝓤) (run : Routine → Fun 𝓤) where
   abbrev shape : Shape W
   shape = record {
-    params = taken a-session ∷ shown u8 ∷ lent R ∷ lent u32 ∷ lent u64 ∷ lent u8 ∷ [];
+    params = taken a-session ∷ shown u8 ∷ lent RequestT ∷ lent u32 ∷ lent u64 ∷ lent u8 ∷ [];
     result = FedT;
     clauses = f.clauses 𝓤 H A mem run;
     code = f.Code.function;
@@ -104,7 +104,7 @@ module _ {M : Type 1} (𝓤 : URA M) (H : Heap 𝓤) (A : Atoms 𝓤) (W : Given
       Reader-is n = Is (ReaderT κ) (reader n) (reader-val (reader n) ∷ [])
 
       Turn : Type 0
-      Turn = Turns session (input .list) (reservedOf (waiting .list) (clients .list)) (starts .list) (out .list) Reader-is
+      Turn = LoopTurn session (input .list) (reservedOf (waiting .list) (clients .list)) (starts .list) (out .list) Reader-is
 
       Nearer : Turn → Turn → Type 0
       Nearer u t = turnsLeft (input .list) (u .fed) < turnsLeft (input .list) (t .fed)
@@ -188,7 +188,7 @@ feed-spec 𝓤 H 𝓜 𝓖 𝓡 =
             (next.Symbol.routine, f.Code.calls-frame·lines·next, next.Met.met 𝓤 H 𝓜 𝓖 𝓡),
             (
               (digits.Symbol.routine, f.Code.calls-frame·lines·digits, digits.Met.met 𝓤 H 𝓜 𝓖 𝓡),
-              ((step.Symbol.routine, f.Code.calls-session·step, step.Met.met 𝓤 H 𝓜 𝓖 𝓡), tt),
+              ((step.Symbol.routine, f.Code.calls-session·answer-line, step.Met.met 𝓤 H 𝓜 𝓖 𝓡), tt),
             ),
           ),
         ),

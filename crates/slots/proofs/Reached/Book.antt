@@ -26,15 +26,15 @@ abbrev pub whose : ℕ → Entry → ℕ
 whose i w = one i (w .number)
 
 -- a number of one of n requests
-abbrev pub Known : ℕ → ℕ → Type 0
-Known n i = (0 < i) × (i ≤ n)
+abbrev pub IsNumber : ℕ → ℕ → Type 0
+IsNumber n i = (0 < i) × (i ≤ n)
 
 -- none is booked under a number that is not known
-pub none-above : {A : Type 0} (f : A → ℕ) (n : ℕ) (xs : List A) → All (λ (x : A). Known n (f x)) xs → (i : ℕ) → n < i
+pub none-above : {A : Type 0} (f : A → ℕ) (n : ℕ) (xs : List A) → All (λ (x : A). IsNumber n (f x)) xs → (i : ℕ) → n < i
     → total (λ (x : A). one i (f x)) xs ≡ 0
 none-above {A} f n xs a i h =
     total-zero (λ (x : A). one i (f x)) xs
-    (all-imp (λ (x : A). Known n (f x)) (λ (x : A). one i (f x) ≡ 0) xs (λ x k. one-no i (f x) (omega arith)) a)
+    (all-imp (λ (x : A). IsNumber n (f x)) (λ (x : A). one i (f x) ≡ 0) xs (λ x k. one-no i (f x) (omega arith)) a)
 
 -- ---- looking up
 pub lookup-yes : (i : ℕ) (b : Booking) (bs : List Booking) → i ≡ b .number → lookup i (b ∷ bs) ≡ at (b .slot)
@@ -71,7 +71,7 @@ module _ (f : Slot → ℕ) (zero-none : f none ≡ 0) where
   book-skip zero b bs h = refl
   book-skip (suc n) b bs h = omega (arith, ap f (lookup-no (suc n) b bs (omega arith)), book-skip n b bs (omega arith))
 
-  book-cons : (n : ℕ) (b : Booking) (bs : List Booking) → lookup (b .number) bs ≡ none → Known n (b .number)
+  book-cons : (n : ℕ) (b : Booking) (bs : List Booking) → lookup (b .number) bs ≡ none → IsNumber n (b .number)
       → total f (book n (b ∷ bs)) ≡ f (at (b .slot)) + total f (book n bs)
   unfolding total
   book-cons zero b bs e h = absurd (omega arith)
@@ -85,7 +85,7 @@ module _ (f : Slot → ℕ) (zero-none : f none ≡ 0) where
       go true (same-yes g) r = omega (arith, book-skip n b bs (omega arith), ap (λ (i : ℕ). f (lookup i bs)) g, ap f e)
       go false (same-no g) r = omega (arith, r (omega arith))
 
-  pub book-total : (n : ℕ) (bs : List Booking) → ((i : ℕ) → total (who i) bs ≤ 1) → All (λ (b : Booking). Known n (b .number)) bs
+  pub book-total : (n : ℕ) (bs : List Booking) → ((i : ℕ) → total (who i) bs ≤ 1) → All (λ (b : Booking). IsNumber n (b .number)) bs
       → total f (book n bs) ≡ total (λ (b : Booking). f (at (b .slot))) bs
   unfolding total
   book-total n [] u a = book-empty n

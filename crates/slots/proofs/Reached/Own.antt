@@ -15,20 +15,20 @@ use Rattle.slots.proofs.Queue.{withdrawing, discarded}
 use Rattle.slots.proofs.Laws.Count.{total-serve, isAt-yes, isAt-no}
 use Rattle.slots.proofs.Laws.Sorted.{Sorted, sorted-low}
 use Rattle.slots.proofs.Upper.{Inv}
-use Rattle.slots.proofs.Reached.Book.{all-serve, who, whose, Known, none-above, req, req-new, req-old, Good}
+use Rattle.slots.proofs.Reached.Book.{all-serve, who, whose, IsNumber, none-above, req, req-new, req-old, Good}
 use Rattle.slots.proofs.Reached.Seat.{sits, Roomy}
 
 -- a request that was served: in a slot that it can have, before the clock
 pub record Served (t : ℕ) (R : List Window) (b : Booking) : Type 0 where
   pub good : Good R b
-  pub known : Known (length R) (b .number)
+  pub known : IsNumber (length R) (b .number)
   pub past : b .slot < t
 
 -- one that waits
 pub record Waits (t : ℕ) (R : List Window) (w : Entry) : Type 0 where
   pub released : req (w .number) R .release ≤ t
   pub limit : req (w .number) R .deadline ≡ w .deadline
-  pub known : Known (length R) (w .number)
+  pub known : IsNumber (length R) (w .number)
 
 served-on : (t : ℕ) (r : Window) (R : List Window) (b : Booking) → Served t R b → Served t (r ∷ R) b
 served-on t r R b s =
@@ -107,12 +107,12 @@ module _ (heads : ℕ → ℕ) where
     log-above : (i : ℕ) → n < i → total (who i) (q .log) ≡ 0
     log-above =
         none-above (λ (b : Booking). b .number) n (q .log)
-        (all-imp (Served (q .clock) (q .asked)) (λ (b : Booking). Known n (b .number)) (q .log) (λ b h. h .known) (O .served))
+        (all-imp (Served (q .clock) (q .asked)) (λ (b : Booking). IsNumber n (b .number)) (q .log) (λ b h. h .known) (O .served))
 
     wait-above : (i : ℕ) → n < i → total (whose i) (q .waiting) ≡ 0
     wait-above =
         none-above (λ (w : Entry). w .number) n (q .waiting)
-        (all-imp (Waits (q .clock) (q .asked)) (λ (w : Entry). Known n (w .number)) (q .waiting) (λ w h. h .known) (O .waits))
+        (all-imp (Waits (q .clock) (q .asked)) (λ (w : Entry). IsNumber n (w .number)) (q .waiting) (λ w h. h .known) (O .waits))
 
     once-more : (i : ℕ) → total (who i) (q .log) + (whose i (arrival d q) + total (whose i) (q .waiting)) ≤ 1
     once-more i =

@@ -25,7 +25,7 @@ sits x b = isAt x (slotted b)
 
 module _ (heads : ℕ → ℕ) where
   -- the place x, before those of D, is one of the slot s
-  pub record Holds (D x s : ℕ) : Type 0 where
+  pub record SeatOf (D x s : ℕ) : Type 0 where
     pub early : s < D
     pub from : opens heads s ≤ x
     pub to : x < opens heads (suc s)
@@ -34,12 +34,12 @@ module _ (heads : ℕ → ℕ) where
   unfolding opens
   none-yet x h = omega arith
 
-  pub slot-of : (D x : ℕ) → x < opens heads D → Holds D x (slotOf heads D x)
+  pub slot-of : (D x : ℕ) → x < opens heads D → SeatOf D x (slotOf heads D x)
   slot-of zero x h = absurd (none-yet x h)
   slot-of (suc D) x h = go (leb (opens heads D) x) (test (opens heads D) x) (slot-of D x)
     where
-      go : (c : Bool) → Test (opens heads D) x c → (x < opens heads D → Holds D x (slotOf heads D x))
-          → Holds (suc D) x (cond c D (slotOf heads D x))
+      go : (c : Bool) → Test (opens heads D) x c → (x < opens heads D → SeatOf D x (slotOf heads D x))
+          → SeatOf (suc D) x (cond c D (slotOf heads D x))
       go true (holds g) r = record { early = omega arith; from = g; to = h }
       go false (fails g) r = let o = r g in record { early = omega arith; from = o .from; to = o .to }
 
@@ -76,7 +76,7 @@ module _ (heads : ℕ → ℕ) where
     record Seat (n D E x s : ℕ) : Type 0 where
       some : suc n + opens heads t ≤ E
       mark : suc x ≡ E
-      spot : Holds D x s
+      spot : SeatOf D x s
 
     seat : (n lo : ℕ) (w : Entry) (ws : List Entry) → Sorted lo (w ∷ ws) → Roomy n lo (w ∷ ws)
         → Seat n (w .deadline) (ends heads (w .deadline) ws) (place heads w ws) (slotOf heads (w .deadline) (place heads w ws))

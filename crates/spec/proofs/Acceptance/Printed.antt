@@ -14,7 +14,7 @@ use Rattle.spec.specs.Calls.Call.{Call, opening, submit, tick, report, c
 use Rattle.spec.specs.Lists.{Event, isOpened, ticks, Asked, asked, bookings, victims, servedRequests, waitingRequests}
 use Rattle.spec.specs.Lines.Frames.{digitOf, characterOf, numberFrom, digits, frameWith, frameOf, fieldDigits, lineOf}
 use Rattle.spec.specs.Lines.Frames.{segmentLines}
-use Rattle.spec.specs.Lines.Session.{textOf, atStart, blank, reply, replies, session}
+use Rattle.spec.specs.Lines.Session.{textOf, atStart, blank, lineOutcome, replies, session}
 use Rattle.spec.specs.Lines.Printed.{answerWith, answersIn, eventsFrom, eventsIn, sinceOpen, setupIn}
 use Rattle.spec.proofs.Acceptance.Computed.{setting, calls}
 
@@ -42,7 +42,7 @@ input =
     ++ digits 2 0x03
 
 -- ---- what is read off it
-pub record Shown : Type 0 where
+pub record Printout : Type 0 where
   pub opened : Bool
   pub setup : Setup
   pub list : List Event
@@ -52,7 +52,7 @@ pub record Shown : Type 0 where
 abbrev numbers : List Asked → List ℕ
 numbers rs = map (λ (a : Asked). a .request .number) rs
 
-abbrev shown : List Event → Shown
+abbrev shown : List Event → Printout
 shown es =
     record {
       opened = exists isOpened es;
@@ -65,7 +65,7 @@ shown es =
 abbrev answered : Call → Answer → Event
 answered c a = record { call = c; answers = a ∷ [] }
 
-abbrev expected : Shown
+abbrev expected : Printout
 expected =
     record {
       opened = true;
@@ -88,5 +88,5 @@ unfolding digits characterOf digitOf numberFrom frameWith frameOf fieldDigits li
 lines = tt
 
 pub read-off : shown (eventsIn input (session input)) ≡ expected
-unfolding calls chartOutput lines atStart reply replies session answerWith answersIn eventsFrom eventsIn sinceOpen setupIn exists select ticks asked bookings victims servedRequests waitingRequests
+unfolding calls chartOutput lines atStart lineOutcome replies session answerWith answersIn eventsFrom eventsIn sinceOpen setupIn exists select ticks asked bookings victims servedRequests waitingRequests
 read-off = refl

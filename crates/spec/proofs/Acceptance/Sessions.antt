@@ -13,7 +13,7 @@ use Rattle.spec.specs.Calls.Readings.{kindOf, valuesOf}
 use Rattle.spec.specs.Calls.Chart.{chartOutput}
 use Rattle.spec.specs.Lines.Frames.{answerLine, digitOf, characterOf, numberFrom, digits, frameWith, frameOf}
 use Rattle.spec.specs.Lines.Frames.{fieldDigits, lineOf, segmentLines}
-use Rattle.spec.specs.Lines.Session.{textOf, atStart, reply, replies, session}
+use Rattle.spec.specs.Lines.Session.{textOf, atStart, lineOutcome, replies, session}
 use Rattle.spec.specs.declared.types.Answer.{Answer}
 use Rattle.spec.specs.declared.types.Answer.the-variants.{Opened, Kept, Dropped, Served, Idle, Reported, Charted, Refused}
 use Rattle.spec.proofs.Acceptance.Computed.{setting, calls}
@@ -151,7 +151,7 @@ unfolding every digits characterOf digitOf numberFrom frameWith frameOf fieldDig
 frames = tt
 
 pub worked-sessions : map given dialogues ≡ map said dialogues
-unfolding calls chartOutput frames textOf atStart reply replies session
+unfolding calls chartOutput frames textOf atStart lineOutcome replies session
 worked-sessions = refl
 
 -- ---- lines in

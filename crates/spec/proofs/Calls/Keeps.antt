@@ -34,7 +34,7 @@ use Rattle.spec.proofs.Laws.Every.{all-two, Value, is-true, is-false, v
 use Rattle.spec.proofs.Laws.Every.{length-remove}
 use Rattle.spec.proofs.Laws.Order.{InOrder, Before, before-deadline, order-put, order-remove, all-put, length-put}
 use Rattle.spec.proofs.Laws.Feasible.{FeasibleAt, Feasible, feasible-facts, due-yes, dueBy-cons, dueBy-none, dueBy-self}
-use Rattle.spec.proofs.Laws.Sound.{Shaped, Ahead, Given, Owned, Balanced}
+use Rattle.spec.proofs.Laws.Sound.{Shaped, Ahead, Given, ClientExists, Balanced}
 use Rattle.spec.proofs.Laws.Accepted.{Decided, accepts, refuses, Ready, OpenReady, open-ready, SubmitReady, submit-ready}
 use Rattle.spec.proofs.Laws.Accepted.{TickReady, tick-ready, report-ready, chart-ready, waiting-length, next-waiting}
 use Rattle.spec.proofs.Laws.Accepted.{next-behind, next-length}
@@ -47,7 +47,7 @@ pub record Tidy (clock last clients : ℕ) (ws : List Request) (cs : List Counts
   pub ordered : InOrder ws
   pub ahead : All (Ahead clock) ws
   pub given : All (Given last) ws
-  pub owned : All (Owned clients) ws
+  pub owned : All (ClientExists clients) ws
   pub counted : length cs ≡ clients
   pub balanced : (c : ℕ) → c < length cs → Balanced ws c (getD cs c zeroCounts)
 
@@ -162,7 +162,7 @@ tidy-put client deadline s r =
       given =
           all-put (Given (suc last)) new (waiting s) (omega arith, omega arith)
           (all-imp (Given last) (Given (suc last)) (waiting s) (λ w h. (h .0, omega arith)) (t .given));
-      owned = all-put (Owned (s .head .setup .clients)) new (waiting s) (r .exists) (t .owned);
+      owned = all-put (ClientExists (s .head .setup .clients)) new (waiting s) (r .exists) (t .owned);
       counted = same-length ∙ t .counted;
       balanced =
           λ c h. let l : c < length (clientTable s) = omega (arith, same-length) in
@@ -177,12 +177,12 @@ tidy-put client deadline s r =
     same-length = length-change oneMoreSubmitted client (clientTable s)
 
 -- a change of counts that adds 1 to served or dropped
-pub record Ends (f : Counts → Counts) : Type 0 where
+pub record AddsOne (f : Counts → Counts) : Type 0 where
   pub submits : (k : Counts) → f k .submitted ≡ k .submitted
   pub ends : (k : Counts) → f k .served + f k .dropped ≡ suc (k .served + k .dropped)
 
 -- a client's counts stay balanced where a request is taken out and counted as served or dropped
-balanced-remove : (f : Counts → Counts) → Ends f → (k : ℕ) (ws : List Request) (cs : List Counts) → k < length ws → (c : ℕ)
+balanced-remove : (f : Counts → Counts) → AddsOne f → (k : ℕ) (ws : List Request) (cs : List Counts) → k < length ws → (c : ℕ)
     {j : Counts} → Changed f (getD ws k zeroRequest .client) cs c j → Balanced ws c (getD cs c zeroCounts)
     → Balanced (removeAt k ws) c j
 balanced-remove f E k ws cs n c (changes e) b =
@@ -195,7 +195,7 @@ balanced-remove f E k ws cs n c (stays e) b =
     (omega (arith, waitingOf-remove c k zeroRequest ws n, of-no c (getD ws k zeroRequest) e), b .1)
 
 -- a request taken out, and counted as served or dropped
-pub tidy-remove : (f : Counts → Counts) → Ends f → (k clock last clients : ℕ) (ws : List Request) (cs : List Counts)
+pub tidy-remove : (f : Counts → Counts) → AddsOne f → (k clock last clients : ℕ) (ws : List Request) (cs : List Counts)
     → k < length ws → Tidy clock last clients ws cs
     → Tidy clock last clients (removeAt k ws) (change f (getD ws k zeroRequest .client) cs)
 tidy-remove f E k clock last clients ws cs n t =
@@ -204,17 +204,17 @@ tidy-remove f E k clock last clients ws cs n t =
       ordered = order-remove k ws (t .ordered);
       ahead = all-remove (Ahead clock) k ws (t .ahead);
       given = all-remove (Given last) k ws (t .given);
-      owned = all-remove (Owned clients) k ws (t .owned);
+      owned = all-remove (ClientExists clients) k ws (t .owned);
       counted = length-change f client cs ∙ t .counted;
       balanced =
           λ c h. let l : c < length cs = omega (arith, length-change f client cs) in
           balanced-remove f E k ws cs n c (changed f client cs c l) (t .balanced c l);
     }
 
-served-ends : Ends oneMoreServed
+served-ends : AddsOne oneMoreServed
 served-ends = record { submits = λ k. refl; ends = λ k. omega arith }
 
-dropped-ends : Ends oneMoreDropped
+dropped-ends : AddsOne oneMoreDropped
 dropped-ends = record { submits = λ k. refl; ends = λ k. omega arith }
 
 module _ (client deadline : ℕ) (s : State) (r : SubmitReady client deadline s) where

@@ -27,7 +27,7 @@ use Rattle.spec.proofs.Laws.Clients.{waiting-self}
 use Rattle.spec.proofs.Laws.Every.{all-at}
 use Rattle.spec.proofs.Laws.Order.{all-put, length-put, place-most, remove-put}
 use Rattle.spec.proofs.Laws.Feasible.{feasible-test}
-use Rattle.spec.proofs.Laws.Sound.{Owned}
+use Rattle.spec.proofs.Laws.Sound.{ClientExists}
 use Rattle.spec.proofs.Laws.Accepted.{SubmitReady}
 
 -- ---- the candidates: what holds of the places of all candidates holds of each in the list, and the other way round
@@ -155,14 +155,14 @@ module _ (cs : List Counts) (ws : List Request) where
   at = countsAt cs ws
 
   -- the place j has no smaller ratio than v, and if it has the same, it stands there or before
-  abbrev Wins : ℕ → ℕ → Type 0
-  Wins v j = AtMost (at v) (at j) × (AtMost (at j) (at v) → j ≤ v)
+  abbrev Beats : ℕ → ℕ → Type 0
+  Beats v j = AtMost (at v) (at j) × (AtMost (at j) (at v) → j ≤ v)
 
-  abbrev Counted : ℕ → Type 0
-  Counted j = 1 ≤ at j .submitted
+  abbrev CountedIn : ℕ → Type 0
+  CountedIn j = 1 ≤ at j .submitted
 
-  smallest-wins : (k : ℕ) (ks : List ℕ) → Ascending (k ∷ ks) → All Counted (k ∷ ks)
-      → All (Wins (smallestOf cs ws (k ∷ ks))) (k ∷ ks)
+  smallest-wins : (k : ℕ) (ks : List ℕ) → Ascending (k ∷ ks) → All CountedIn (k ∷ ks)
+      → All (Beats (smallestOf cs ws (k ∷ ks))) (k ∷ ks)
   unfolding smallestOf
   smallest-wins k [] o c = ((omega arith, λ h. omega arith), tt)
   smallest-wins k (j ∷ ks) o c =
@@ -174,13 +174,13 @@ module _ (cs : List Counts) (ws : List Request) where
       behind : k < v
       behind = smallest-among (λ (y : ℕ). k < y) j ks (o .0)
 
-      positive : Counted v
-      positive = smallest-among Counted j ks (c .1)
+      positive : CountedIn v
+      positive = smallest-among CountedIn j ks (c .1)
 
-      go : (x : Bool) → Rated (at k) (at v) x → All (Wins v) (j ∷ ks) → All (Wins (cond x k v)) (k ∷ j ∷ ks)
+      go : (x : Bool) → Rated (at k) (at v) x → All (Beats v) (j ∷ ks) → All (Beats (cond x k v)) (k ∷ j ∷ ks)
       go true (smaller h) a = ((omega arith, λ g. omega arith), later (j ∷ ks) (c .1) a)
         where
-          later : (ys : List ℕ) → All Counted ys → All (Wins v) ys → All (Wins k) ys
+          later : (ys : List ℕ) → All CountedIn ys → All (Beats v) ys → All (Beats k) ys
           later [] d a = tt
           later (y ∷ ys) d a = (
             (
@@ -205,14 +205,14 @@ module _
       go [] a none = absurd (none tt)
       go (x ∷ xs) a none = smallest-among cs ws p x xs a
 
-  victim-wins : ((j : ℕ) → j < length ws → 1 ≤ countsAt cs ws j .submitted) → Wins cs ws (victimOf head cs ws) k
+  victim-wins : ((j : ℕ) → j < length ws → 1 ≤ countsAt cs ws j .submitted) → Beats cs ws (victimOf head cs ws) k
   unfolding victimOf
   victim-wins c =
-      candidates-are (Wins cs ws (smallestOf cs ws (candidates head ws))) head ws .1
-      (go (candidates head ws) (candidates-ascending head ws) (candidates-are (Counted cs ws) head ws .0 (λ j h e. c j h)))
+      candidates-are (Beats cs ws (smallestOf cs ws (candidates head ws))) head ws .1
+      (go (candidates head ws) (candidates-ascending head ws) (candidates-are (CountedIn cs ws) head ws .0 (λ j h e. c j h)))
       k inside fit
     where
-      go : (xs : List ℕ) → Ascending xs → All (Counted cs ws) xs → All (Wins cs ws (smallestOf cs ws xs)) xs
+      go : (xs : List ℕ) → Ascending xs → All (CountedIn cs ws) xs → All (Beats cs ws (smallestOf cs ws xs)) xs
       go [] o a = tt
       go (x ∷ xs) o a = smallest-wins cs ws x xs o a
 
@@ -274,7 +274,7 @@ counted-some client deadline s r j h =
     mine : some (newRequest client deadline s)
     mine = unfold change in rw (getD-set-same cs client more zeroCounts (inside client (r .exists))) (omega arith)
 
-    one : (w : Request) → Owned (s .head .setup .clients) w → 1 ≤ waitingOf (w .client) (waiting s) → some w
+    one : (w : Request) → ClientExists (s .head .setup .clients) w → 1 ≤ waitingOf (w .client) (waiting s) → some w
     one w o n = go (eqb (w .client) client) (same (w .client) client)
       where
         go : (x : Bool) → Same (w .client) client x → some w
@@ -284,7 +284,7 @@ counted-some client deadline s r j h =
             rw (getD-set-other cs client (w .client) more zeroCounts e)
             (omega (arith, r .ready .sound .balanced (w .client) (inside (w .client) o) .0))
 
-    each : (ws : List Request) → All (Owned (s .head .setup .clients)) ws
+    each : (ws : List Request) → All (ClientExists (s .head .setup .clients)) ws
         → All (λ (w : Request). 1 ≤ waitingOf (w .client) (waiting s)) ws → All some ws
     each [] a b = tt
     each (w ∷ ws) a b = (one w (a .0) (b .0), each ws (a .1) (b .1))

@@ -30,15 +30,15 @@ use Rattle.spec.proofs.Laws.Accepted.{Decided, accepts, refuses, Ready,
 use Rattle.spec.proofs.Laws.Accepted.{report-ready, chart-ready, waiting-length}
 use Rattle.spec.proofs.Calls.Refused.{length-starts, outcome-decided, first-holds, first-listed, listed}
 use Rattle.spec.proofs.Calls.Victim.{victim-place}
-use Rattle.spec.proofs.Calls.Latest.{ready-chart, segments-all}
+use Rattle.spec.proofs.Calls.LatestSlots.{ready-chart, segments-all}
 use Rattle.spec.proofs.Calls.Keeps.{tidy-put}
 
-abbrev Fit : List Answer → Type 0
-Fit answers = All (λ (a : Answer). All FitsField (valuesOf a)) answers
+abbrev AllFit : List Answer → Type 0
+AllFit answers = All (λ (a : Answer). All FitsField (valuesOf a)) answers
 
 -- ---- submit
 module _ (client deadline : ℕ) (s : State) (r : SubmitReady client deadline s) where
-  kept-fits : Fit (kept client deadline s .answers)
+  kept-fits : AllFit (kept client deadline s .answers)
   unfolding kept
   kept-fits =
       omega (
@@ -51,7 +51,7 @@ module _ (client deadline : ℕ) (s : State) (r : SubmitReady client deadline s)
         r .ready .shape .most-records,
       )
 
-  dropped-fits : (k : ℕ) → k < length (withNew client deadline s) → Fit (droppedAt k client deadline s .answers)
+  dropped-fits : (k : ℕ) → k < length (withNew client deadline s) → AllFit (droppedAt k client deadline s .answers)
   unfolding droppedAt
   dropped-fits k h =
       let t = tidy-put client deadline s r in
@@ -65,31 +65,31 @@ module _ (client deadline : ℕ) (s : State) (r : SubmitReady client deadline s)
         all-at (λ (w : Request). w .client < s .head .setup .clients) (withNew client deadline s) k zeroRequest h (t .owned),
       )
 
-  submit-fits : Fit (submitAccepted client deadline s .answers)
+  submit-fits : AllFit (submitAccepted client deadline s .answers)
   unfolding submitAccepted
   submit-fits =
       go (hasNoOverfull (s .head) (withNew client deadline s)) kept-fits
       (dropped-fits (victimPlace client deadline s) (victim-place client deadline s r .0))
     where
-      go : (x : Bool) → Fit (kept client deadline s .answers)
-          → Fit (droppedAt (victimPlace client deadline s) client deadline s .answers)
-          → Fit (cond x (kept client deadline s) (droppedAt (victimPlace client deadline s) client deadline s) .answers)
+      go : (x : Bool) → AllFit (kept client deadline s .answers)
+          → AllFit (droppedAt (victimPlace client deadline s) client deadline s .answers)
+          → AllFit (cond x (kept client deadline s) (droppedAt (victimPlace client deadline s) client deadline s) .answers)
       go true a b = a
       go false a b = b
 
 -- ---- tick
-tick-fits : (s : State) → Ready s → Fit (tickAccepted (waiting s) s .answers)
+tick-fits : (s : State) → Ready s → AllFit (tickAccepted (waiting s) s .answers)
 unfolding tickAccepted
 tick-fits s r = go (waiting s) (r .sound .given) (r .sound .owned)
   where
     go : (ws : List Request) → All (λ (w : Request). (1 ≤ w .number) × (w .number ≤ s .head .last)) ws
-        → All (λ (w : Request). w .client < s .head .setup .clients) ws → Fit (tickAccepted ws s .answers)
+        → All (λ (w : Request). w .client < s .head .setup .clients) ws → AllFit (tickAccepted ws s .answers)
     go [] g o = omega (arith, r .sound .headed .clock)
     go (w ∷ ws) g o =
         omega (arith, r .sound .headed .clock, r .sound .headed .last, r .sound .headed .setup .most-clients, g .0, o .0)
 
 -- ---- report
-report-fits : (client : ℕ) (s : State) → Ready s → client < s .head .setup .clients → Fit (reportAccepted client s .answers)
+report-fits : (client : ℕ) (s : State) → Ready s → client < s .head .setup .clients → AllFit (reportAccepted client s .answers)
 unfolding reportAccepted
 report-fits client s r h =
     omega (
@@ -106,7 +106,7 @@ report-fits client s r h =
     waits-most = unfold waitingOf in count-most (λ w. eqb (w .client) client) (waiting s)
 
 -- ---- every call, refused ones too
-accepted-fits : (c : Call) (s : State) → firstMatch (refusalsOf c s) ≡ 0 → Fit (acceptedOf c s .answers)
+accepted-fits : (c : Call) (s : State) → firstMatch (refusalsOf c s) ≡ 0 → AllFit (acceptedOf c s .answers)
 unfolding openAccepted chartAccepted
 accepted-fits (opening setup) s e = (tt, tt)
 accepted-fits (submit client deadline) s e = submit-fits client deadline s (submit-ready client deadline s e)
@@ -116,10 +116,10 @@ accepted-fits (report client) s e =
 accepted-fits (chart output) s e =
     let r = chart-ready output s e .ready in omega (arith, r .shape .waits, r .shape .most-records)
 
-pub call-fits : (c : Call) (s : State) → Fit (outcomeOf c s .answers)
+pub call-fits : (c : Call) (s : State) → AllFit (outcomeOf c s .answers)
 call-fits c s = go (outcome-decided c s)
   where
-    go : {o : Outcome} → Decided (refusalsOf c s) s (acceptedOf c s) o → Fit (o .answers)
+    go : {o : Outcome} → Decided (refusalsOf c s) s (acceptedOf c s) o → AllFit (o .answers)
     go (accepts e) = accepted-fits c s e
     go (refuses n) = omega (arith, first-listed (first-holds (refusalsOf c s) n) (listed c s))
 

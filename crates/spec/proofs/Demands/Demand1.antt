@@ -39,7 +39,7 @@ use Rattle.spec.proofs.Calls.Refused.{first-holds, first-match, first-l
 use Rattle.spec.proofs.Calls.Refused.{written, output-written}
 use Rattle.spec.proofs.Calls.Keeps.{same-lengths, keeps}
 use Rattle.spec.proofs.Calls.Widths.{call-fits, segment-fits, count-fits}
-use Rattle.spec.proofs.Calls.Latest.{latest-start, ready-chart, starts-latest, starts-drop, longest-runs}
+use Rattle.spec.proofs.Calls.LatestSlots.{latest-start, ready-chart, starts-latest, starts-drop, longest-runs}
 use Rattle.spec.proofs.Lists.Trace.{traced}
 use Rattle.spec.proofs.Lists.Counts.{counted, reported-counts}
 use Rattle.spec.proofs.Lists.Passing.{WithPassing, refused-pass, none-opened, same-waits, same-counts}
@@ -205,7 +205,7 @@ chart-written output s p = go (output-written output s)
 
 -- "From the last record to the first, a request ends at the smaller of its deadline and the start of the record behind it, and starts
 -- one slot earlier."
-pub record Latest (s : State) : Type 0 where
+pub record ChartIsLatest (s : State) : Type 0 where
   -- the start slots ascend from the clock on, each ended by its request's deadline
   pub fits : ChartFits (s .head .clock) (waiting s) (startsOf (s .head .setup) (waiting s))
   -- each is the latest slot from which on the request at k and all later ones can finish
@@ -217,7 +217,7 @@ pub record Latest (s : State) : Type 0 where
   -- "Segments are the longest runs of touching intervals": these are the runs of the start slots, and no other list is
   pub segments : (gs : List Segment) → LongestRuns (startsOf (s .head .setup) (waiting s)) gs ↔ (gs ≡ segmentsOf (s .head .setup) (startsOf (s .head .setup) (waiting s)))
 
-pub chart-latest : (output : List ℕ) (s : State) → isRefused (outcomeOf (chart output) s .answers) ≡ false → Latest s
+pub chart-latest : (output : List ℕ) (s : State) → isRefused (outcomeOf (chart output) s .answers) ≡ false → ChartIsLatest s
 unfolding outcomeOf
 chart-latest output s e =
     let r = chart-ready output s (accepted-none (chart output) s e) .ready in

@@ -17,8 +17,8 @@ use Rattle.spec.proofs.Demands.Words.{FromOpen}
 use Rattle.spec.proofs.Demands.Demand1.{CountsGiven, counts-passing}
 use Rattle.spec.proofs.Demands.Demand3.{Largest, largest-passing}
 use Rattle.spec.proofs.Lists.Passing.{WithPassing}
-use Rattle.spec.proofs.Lines.Printed.{session-answered}
-use Rattle.spec.proofs.Lines.SinceOpen.{since-opened, printed-pass}
+use Rattle.spec.proofs.Lists.Printed.{session-answered}
+use Rattle.spec.proofs.Lists.SinceOpen.{since-opened, printed-pass}
 
 -- "One frame a line": each line gets one answer, and so does "a last line without its line feed"
 pub each-answered : (input : List ℕ)

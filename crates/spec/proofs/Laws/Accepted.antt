@@ -48,13 +48,13 @@ decided rs s o = go (eqb (firstMatch rs) 0) (same (firstMatch rs) 0)
     go false (same-no e) = refuses e
 
 -- ---- the conditions as facts
-pub record Lengths (clients : ℕ) (s : State) : Type 0 where
+pub record RightLengths (clients : ℕ) (s : State) : Type 0 where
   pub some-records : 1 ≤ length (s .waitingTable)
   pub most-records : length (s .waitingTable) ≤ mostRecords
   pub numbers-length : length (s .clientNumbers) ≡ width * clients
   pub clients-length : length (clientTable s) ≡ clients
 
-lengths : (clients : ℕ) (s : State) → isMisshapen clients s ≡ false → Lengths clients s
+lengths : (clients : ℕ) (s : State) → isMisshapen clients s ≡ false → RightLengths clients s
 lengths clients s e =
     let p = or-none (not (isWithin 1 mostRecords (length (s .waitingTable)))) (not (eqb (length (s .clientNumbers)) (width * clients))) e in
     let w = within-refused 1 mostRecords (length (s .waitingTable)) (p .0) in
@@ -106,7 +106,7 @@ ready-passes s rs r = rw (shaped-test s (r .shape), sound-test s (r .sound))
 -- ---- each call
 pub record OpenReady (setup : Setup) (s : State) : Type 0 where
   pub within : SetupWithin setup
-  pub lengths : Lengths (setup .clients) s
+  pub lengths : RightLengths (setup .clients) s
 
 pub open-ready : (setup : Setup) (s : State) → firstMatch (openRefusals setup s) ≡ 0 → OpenReady setup s
 unfolding openRefusals

@@ -101,15 +101,15 @@ unfolding isOverfull
 overfull-test head ws D h = lt-ltb (roomTo head D) (dueBy D ws) h
 
 -- of those that are due by D one is the last, and all of those are due by its deadline; p holds of it
-pub data Last (p : Request → Type 0) (D : ℕ) (ws : List Request) : Type 0 where
-  none-due : dueBy D ws ≡ 0 → Last p D ws
-  last-due : (w : Request) → p w → w .deadline ≤ D → dueBy D ws ≤ dueBy (w .deadline) ws → Last p D ws
+pub data LastDue (p : Request → Type 0) (D : ℕ) (ws : List Request) : Type 0 where
+  none-due : dueBy D ws ≡ 0 → LastDue p D ws
+  last-due : (w : Request) → p w → w .deadline ≤ D → dueBy D ws ≤ dueBy (w .deadline) ws → LastDue p D ws
 
-pub last : (p : Request → Type 0) (D : ℕ) (ws : List Request) → All p ws → Last p D ws
+pub last : (p : Request → Type 0) (D : ℕ) (ws : List Request) → All p ws → LastDue p D ws
 last p D [] a = none-due (dueBy-none D [] tt)
 last p D (w ∷ ws) a = go (last p D ws (a .1))
   where
-    go : Last p D ws → Last p D (w ∷ ws)
+    go : LastDue p D ws → LastDue p D (w ∷ ws)
     go (none-due h) =
         elim (order (w .deadline) D) [
           | le g ↦ last-due w (a .0) g (omega (
@@ -148,7 +148,7 @@ last p D (w ∷ ws) a = go (last p D ws (a .1))
 
 -- where the last that is due by D has room, D has
 roomy-last : (head : Head) (D : ℕ) (ws : List Request)
-    → Last (λ (w : Request). dueBy (w .deadline) ws ≤ roomTo head (w .deadline)) D ws
+    → LastDue (λ (w : Request). dueBy (w .deadline) ws ≤ roomTo head (w .deadline)) D ws
     → dueBy D ws ≤ roomTo head D
 roomy-last head D ws (none-due h) = omega arith
 roomy-last head D ws (last-due w p l h) = omega (arith, room-mono (head .setup) (head .clock) (w .deadline) D l)
@@ -211,7 +211,7 @@ verdict head ws o = go (scan head ws ws o)
     ok : Request → Type 0
     ok w = dueBy (w .deadline) ws ≤ roomTo head (w .deadline)
 
-    below : (D x : ℕ) → x < D → Last (λ (w : Request). w .deadline < D → ok w) x ws → Last ok x ws
+    below : (D x : ℕ) → x < D → LastDue (λ (w : Request). w .deadline < D → ok w) x ws → LastDue ok x ws
     below D x h (none-due e) = none-due e
     below D x h (last-due w p l e) = last-due w (p (omega arith)) l e
 

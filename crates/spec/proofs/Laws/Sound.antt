@@ -141,8 +141,8 @@ Ahead clock w = (suc clock ≤ w .deadline) × (w .deadline ≤ clock + mostAhea
 abbrev pub Given : ℕ → Request → Type 0
 Given last w = (1 ≤ w .number) × (w .number ≤ last)
 
-abbrev pub Owned : ℕ → Request → Type 0
-Owned clients w = w .client < clients
+abbrev pub ClientExists : ℕ → Request → Type 0
+ClientExists clients w = w .client < clients
 
 abbrev pub Balanced : List Request → ℕ → Counts → Type 0
 Balanced ws client k = (k .submitted ≡ k .served + k .dropped + waitingOf client ws) × (k .submitted ≤ mostCounted)
@@ -152,7 +152,7 @@ pub record Sound (s : State) : Type 0 where
   pub ordered : InOrder (waiting s)
   pub ahead : All (Ahead (s .head .clock)) (waiting s)
   pub given : All (Given (s .head .last)) (waiting s)
-  pub owned : All (Owned (s .head .setup .clients)) (waiting s)
+  pub owned : All (ClientExists (s .head .setup .clients)) (waiting s)
   pub feasible : Feasible (s .head) (waiting s)
   pub zeros : behind s ≡ replicate (length (behind s)) zeroRequest
   pub balanced : (c : ℕ) → c < length (clientTable s) → Balanced (waiting s) c (getD (clientTable s) c zeroCounts)
@@ -187,7 +187,7 @@ sound-facts s e =
           (λ w h. within-facts 1 (s .head .last) (w .number) h)
           (every-facts (λ w. isGiven (s .head .last) (w .number)) (waiting s) (p .0 .0 .0 .0 .1));
       owned =
-          all-imp (λ (w : Request). isClient (s .head .setup .clients) (w .client) ≡ true) (Owned (s .head .setup .clients)) (waiting s)
+          all-imp (λ (w : Request). isClient (s .head .setup .clients) (w .client) ≡ true) (ClientExists (s .head .setup .clients)) (waiting s)
           (λ w h. ltb-true (w .client) (s .head .setup .clients) h)
           (every-facts (λ w. isClient (s .head .setup .clients) (w .client)) (waiting s) (p .0 .0 .0 .1));
       feasible = feasible-facts (s .head) (waiting s) (p .0 .0 .1);
@@ -210,7 +210,7 @@ sound-test s f =
           (all-imp (Given (s .head .last)) (λ (w : Request). isGiven (s .head .last) (w .number) ≡ true) (waiting s)
           (λ w h. within-test 1 (s .head .last) (w .number) (h .0) (h .1)) (f .given)),
       every-test (λ w. isClient (s .head .setup .clients) (w .client)) (waiting s)
-          (all-imp (Owned (s .head .setup .clients)) (λ (w : Request). isClient (s .head .setup .clients) (w .client) ≡ true) (waiting s)
+          (all-imp (ClientExists (s .head .setup .clients)) (λ (w : Request). isClient (s .head .setup .clients) (w .client) ≡ true) (waiting s)
           (λ w h. lt-ltb (w .client) (s .head .setup .clients) h) (f .owned)),
       feasible-test (s .head) (waiting s) (f .feasible),
       zeros-all (behind s) (f .zeros),

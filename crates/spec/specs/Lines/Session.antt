@@ -87,13 +87,13 @@ lent (l ∷ ls) s =
     }
 
 -- the bytes that a line is answered, and the state after it
-pub record Reply : Type 0 where
+pub record LineOutcome : Type 0 where
   pub bytes : List ℕ
   pub after : State
 
 -- "An accepted open starts a new session."; a refused call leaves the session as it was
-abbrev pub replyOf : State → Outcome → List ℕ → Reply
-replyOf s o output =
+abbrev pub lineOutcomeOf : State → Outcome → List ℕ → LineOutcome
+lineOutcomeOf s o output =
     record {
       bytes = gather (answerLines (o .after .head .setup) output) (o .answers);
       after = cond (isRefused (o .answers)) s (o .after);
@@ -103,22 +103,22 @@ replyOf s o output =
 abbrev pub blank : List ℕ
 blank = replicate mostRecords 0
 
-unfoldable pub reply : Frame → State → Reply
-reply frame s =
+unfoldable pub lineOutcome : Frame → State → LineOutcome
+lineOutcome frame s =
     let calls = task frame .calls blank in
     let t = lent (task frame .named) s in
-    replyOf s (outcomeBy calls t) (outputBy calls blank t)
+    lineOutcomeOf s (outcomeBy calls t) (outputBy calls blank t)
 
 -- ---- the whole session
 -- each line's answer in turn
 unfoldable pub replies : State → List (List ℕ) → List ℕ
 replies s [] = []
-replies s (line ∷ lines) = let r = reply (frameOf line) s in r .bytes ++ replies (r .after) lines
+replies s (line ∷ lines) = let r = lineOutcome (frameOf line) s in r .bytes ++ replies (r .after) lines
 
 -- the state after each line's answer
 unfoldable pub stateAfter : State → List (List ℕ) → State
 stateAfter s [] = s
-stateAfter s (line ∷ lines) = stateAfter (reply (frameOf line) s .after) lines
+stateAfter s (line ∷ lines) = stateAfter (lineOutcome (frameOf line) s .after) lines
 
 -- "a last line without its line feed gets refusal 1"
 abbrev pub atEnd : List ℕ → List ℕ

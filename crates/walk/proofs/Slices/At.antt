@@ -27,7 +27,7 @@ use Rattle.walk.proofs.Enter.{Slice}
 use Rattle.walk.proofs.Locals.{back, puts}
 use Rattle.walk.proofs.Slices.Lent.{Elements, of-slice}
 use Rattle.walk.proofs.Slices.Parts.{part-lent, part-shared, room-less}
-use Rattle.walk.proofs.Slices.Loans.{Param, value, loan, relent, shared, passed, Choices, Lasts, Knowns, machine, Asked, Told, Operands, sources, backs, calls-with}
+use Rattle.walk.proofs.Slices.Loans.{Param, value, loan, relent, shared, passed, Choices, Lasts, Knowns, machine, Requires, Ensures, Operands, sources, backs, calls-with}
 
 module _ {M : Type 1} {𝓤 : URA M} (H : Heap 𝓤) (A : Atoms 𝓤) where
   -- the entries π; the context without them; and with what comes back
@@ -101,7 +101,7 @@ module _ {M : Type 1} {𝓤 : URA M} (H : Heap 𝓤) (A : Atoms 𝓤) where
 
 module _ {M : Type 1} {𝓤 : URA M} {H : Heap 𝓤} {A : Atoms 𝓤} {K : Type 0} {W : Given 𝓤 H A} {Γ : List (Item 𝓤)} {E : Env 𝓤 H} {C : Calls 𝓤 H} {f : Name} {xs : List Operand} {Λ : Loops 𝓤 H} {q : Post 𝓤 H} {d : Place} {rest : Body} where
   pub calls-at : K → FmC 𝓤 H (W .laws) C → (π : List ℕ) (ps : List (Param 𝓤 H A)) (Pre : SProp 𝓤) → ent 𝓤 (emp 𝓤) Pre → (S : RattleType) (ψ : S .Denot → Lasts ps → Type 0)
-      → ((c : Choices ps) → ent 𝓤 (Asked ps c Pre) (C f (machine ps) (Told ps c S ψ)))
+      → ((c : Choices ps) → ent 𝓤 (Requires ps c Pre) (C f (machine ps) (Ensures ps c S ψ)))
       → items H A π Γ ≡ sourced H A ps
       → Operands K W (holes H A π Γ) E xs ps Pre
       → ((w : Val) (r : S .Denot) (ws : Lasts ps) → ψ r ws → Knowns ps ws → Seq K W (‵ (S .own r (w ∷ [])) ∷ fills H A ps π ws (holes H A π Γ)) (lands C Λ E d w rest q))

@@ -24,7 +24,7 @@ use Rattle.walk.proofs.Plain.{PlainType, made}
 use Rattle.walk.proofs.Frees.{heldIn, cell, order, helds, behind, cells}
 use Rattle.walk.proofs.Steps.{lands-told}
 use Rattle.walk.proofs.Locals.{back, front, many, held, lands-in, gives-within}
-use Rattle.walk.proofs.Slices.Loans.{Param, Choices, Lasts, Knowns, Bound, machine, bound, Asked, Told, Operands}
+use Rattle.walk.proofs.Slices.Loans.{Param, Choices, Lasts, Knowns, Bound, machine, bound, Requires, Ensures, Operands}
 use Rattle.walk.proofs.Slices.At.{items, holes, fills, sourced, calls-at}
 
 -- the context once the loans are back
@@ -36,7 +36,7 @@ Takes {𝓤 = 𝓤} H A Γ E x S = _≡_ {A = Item 𝓤 × List Ty} (nth 𝓤 H 
 
 module _ {M : Type 1} {𝓤 : URA M} {H : Heap 𝓤} {A : Atoms 𝓤} {K : Type 0} {W : Given 𝓤 H A} {Γ : List (Item 𝓤)} {E : Env 𝓤 H} {f : Name} {xs : List Operand} {q : Post 𝓤 H} {x : ℕ} {rest : Body} (t : K) (𝓣 : Tables 𝓤 H) (π : List ℕ) (ps : List (Param 𝓤 H A)) {S : RattleType} (s : PlainType S) where
   pub calls-for : {ψ : S .Denot → Lasts ps → Type 0} {Pre : SProp 𝓤} {P : (c : Choices ps) → Bound ps c → Type 1} → ((c : Choices ps) (y : Bound ps c) → P c y)
-      → ((c : Choices ps) → P c (bound W ps c) → ent 𝓤 (Asked ps c Pre) (𝓣 .C f (machine ps) (Told ps c S ψ))) → ent 𝓤 (emp 𝓤) Pre
+      → ((c : Choices ps) → P c (bound W ps c) → ent 𝓤 (Requires ps c Pre) (𝓣 .C f (machine ps) (Ensures ps c S ψ))) → ent 𝓤 (emp 𝓤) Pre
       → items H A π Γ ≡ sourced H A ps → Operands K W (holes H A π Γ) E xs ps Pre → ((ws : Lasts ps) → Takes H A (restored H A Γ π ps ws) E x S)
       → ((r : S .Denot) (ws : Lasts ps) → ψ r ws → Knowns ps ws → Is S r (s .val r ∷ []) → Seq K W (held H A (restored H A Γ π ps ws) E x (s .val r)) (runs (𝓣 .C) (𝓣 .Λ) E rest q))
       → Seq K W Γ (runs (𝓣 .C) (𝓣 .Λ) E (seq (call f xs (place x [])) rest) q)
@@ -45,7 +45,7 @@ module _ {M : Type 1} {𝓤 : URA M} {H : Heap 𝓤} {A : Atoms 𝓤} {K : Type 
       lands-in t (ap (λ p. p .0) (at ws)) (subst (λ (τs : List Ty). Typed τs (s .val r ∷ [])) (ap (λ p. p .1) (at ws)) (s .lawful 𝓤 H A W .typed r (s .val r ∷ []) is) .0) $ k r ws told kept is))
 
   pub calls-giving : (m : S .Denot) {Pre : SProp 𝓤} {P : (c : Choices ps) → Bound ps c → Type 1} → ((c : Choices ps) (y : Bound ps c) → P c y)
-      → ((c : Choices ps) → P c (bound W ps c) → ent 𝓤 (Asked ps c Pre) (𝓣 .C f (machine ps) (Told ps c S (λ r ws. r ≡ m)))) → ent 𝓤 (emp 𝓤) Pre
+      → ((c : Choices ps) → P c (bound W ps c) → ent 𝓤 (Requires ps c Pre) (𝓣 .C f (machine ps) (Ensures ps c S (λ r ws. r ≡ m)))) → ent 𝓤 (emp 𝓤) Pre
       → items H A π Γ ≡ sourced H A ps → Operands K W (holes H A π Γ) E xs ps Pre → ((ws : Lasts ps) → Takes H A (restored H A Γ π ps ws) E x S)
       → ((ws : Lasts ps) → Is S m (s .val m ∷ []) → Seq K W (held H A (restored H A Γ π ps ws) E x (s .val m)) (runs (𝓣 .C) (𝓣 .Λ) E rest q))
       → Seq K W Γ (runs (𝓣 .C) (𝓣 .Λ) E (seq (call f xs (place x [])) rest) q)
@@ -66,7 +66,7 @@ module _ {M : Type 1} {𝓤 : URA M} (H : Heap 𝓤) (A : Atoms 𝓤) (E : Env �
 
 module _ {M : Type 1} {𝓤 : URA M} {H : Heap 𝓤} {A : Atoms 𝓤} {K : Type 0} {W : Given 𝓤 H A} {Γ : List (Item 𝓤)} {E : Env 𝓤 H} {f : Name} {xs : List Operand} {q : Post 𝓤 H} (t : K) (𝓣 : Tables 𝓤 H) (π : List ℕ) (ps : List (Param 𝓤 H A)) {S : RattleType} (s : PlainType S) where
   pub hands-on : {ψ : S .Denot → Lasts ps → Type 0} {Pre : SProp 𝓤} {P : (c : Choices ps) → Bound ps c → Type 1} → ((c : Choices ps) (y : Bound ps c) → P c y)
-      → ((c : Choices ps) → P c (bound W ps c) → ent 𝓤 (Asked ps c Pre) (𝓣 .C f (machine ps) (Told ps c S ψ))) → ent 𝓤 (emp 𝓤) Pre
+      → ((c : Choices ps) → P c (bound W ps c) → ent 𝓤 (Requires ps c Pre) (𝓣 .C f (machine ps) (Ensures ps c S ψ))) → ent 𝓤 (emp 𝓤) Pre
       → items H A π Γ ≡ sourced H A ps → Operands K W (holes H A π Γ) E xs ps Pre → ((ws : Lasts ps) → Takes H A (restored H A Γ π ps ws) E 0 S)
       → (Q : Val → SProp 𝓤) → post 𝓤 H q returnsᴼ ≡ atReturn 𝓤 H E Q returnsᴼ
       → ((r : S .Denot) (ws : Lasts ps) → Returns H A E (held H A (restored H A Γ π ps ws) E 0 (s .val r)) (s .val r))

@@ -7,20 +7,20 @@ use Rattle.spec.specs.declared.types.Head.{Head}
 use Rattle.spec.specs.Tables.{stateOf}
 use Rattle.spec.specs.Calls.Chart.{chartOutput}
 use Rattle.spec.specs.Calls.Call as calls
-use Rattle.table.proofs.Rows.{R}
+use Rattle.table.proofs.Requests.{RequestT}
 use Rattle.table.proofs.Heads.{the-head, a-head}
 use Rattle.walk.proofs.Prelude.{lent, shown, shown-one, lent-one}
 use Rattle.walk.proofs.Prelude.{Shape, Walk, proved}
 use Rattle.walk.proofs.Prelude.{mut-one, passed-on-one, relends-one}
-use Rattle.welsbell.proofs.Calls.{head-array, values-array, Exports, cites-numbers}
-use Rattle.welsbell.proofs.Exporting.{chart-stays, exports-read}
+use Rattle.welsbell.proofs.ExportedCalls.{head-array, values-array, Exports, cites-numbers}
+use Rattle.welsbell.proofs.ExportLaws.{chart-stays, exports-read}
 use Rattle.queue.proofs.chart as chart
 use Rattle.welsbell.proofs.welsbell_chart as f
 
 module _ {M : Type 1} (𝓤 : URA M) (H : Heap 𝓤) (A : Atoms 𝓤) (W : Given 𝓤 H A) (mem : Memory → SProp 𝓤) (run : Routine → Fun 𝓤) where
   abbrev shape : Shape W
   shape =
-      Exports W mem run (shown-one head-array ∷ shown R ∷ shown u32 ∷ lent u64 ∷ lent-one values-array ∷ []) (f.clauses 𝓤 H A mem run) f.Code.function (λ κs a. refl)
+      Exports W mem run (shown-one head-array ∷ shown RequestT ∷ shown u32 ∷ lent u64 ∷ lent-one values-array ∷ []) (f.clauses 𝓤 H A mem run) f.Code.function (λ κs a. refl)
       ((chart.Symbol.name, tripleOf 𝓤 H A chart.signature (chart.spec 𝓤 H A mem run)) ∷ [])
 
   walk : (𝓣 : Tables 𝓤 H) → Walk shape 𝓣

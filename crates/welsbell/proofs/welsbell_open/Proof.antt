@@ -5,11 +5,11 @@ use Rattle.walk.proofs.Prelude.{drop, so, vars, relends, gives, made, of-number
 use Rattle.queue.proofs.Values.{a-reply}
 use Rattle.spec.specs.Calls.Call as calls
 use Rattle.spec.specs.Tables.{setupOf}
-use Rattle.table.proofs.Rows.{R}
+use Rattle.table.proofs.Requests.{RequestT}
 use Rattle.table.proofs.Heads.{the-head, a-head, a-setup}
 use Rattle.walk.proofs.Prelude.{lent, lent-one, shown-one, Shape, Walk, proved, mut-one, shr-one, passed-on-one, relends-one}
-use Rattle.welsbell.proofs.Calls.{setup-array, head-array, values-array, Exports, WriteHead, cites-numbers, cites-write-head}
-use Rattle.welsbell.proofs.Exporting.{exports-given}
+use Rattle.welsbell.proofs.ExportedCalls.{setup-array, head-array, values-array, Exports, WriteHead, cites-numbers, cites-write-head}
+use Rattle.welsbell.proofs.ExportLaws.{exports-given}
 use Rattle.queue.proofs.open as library
 use Rattle.welsbell.proofs.numbers.setup_of as setup-of
 use Rattle.welsbell.proofs.welsbell_open as f
@@ -17,7 +17,7 @@ use Rattle.welsbell.proofs.welsbell_open as f
 module _ {M : Type 1} (𝓤 : URA M) (H : Heap 𝓤) (A : Atoms 𝓤) (W : Given 𝓤 H A) (mem : Memory → SProp 𝓤) (run : Routine → Fun 𝓤) where
   abbrev shape : Shape W
   shape =
-      Exports W mem run (lent-one head-array ∷ lent R ∷ lent u32 ∷ shown-one setup-array ∷ lent-one values-array ∷ []) (f.clauses 𝓤 H A mem run) f.Code.function (λ κs a. refl)
+      Exports W mem run (lent-one head-array ∷ lent RequestT ∷ lent u32 ∷ shown-one setup-array ∷ lent-one values-array ∷ []) (f.clauses 𝓤 H A mem run) f.Code.function (λ κs a. refl)
       ((setup-of.Symbol.name, tripleOf 𝓤 H A setup-of.signature (setup-of.spec 𝓤 H A mem run)) ∷ (library.Symbol.name, tripleOf 𝓤 H A library.signature (library.spec 𝓤 H A mem run)) ∷ WriteHead W mem run ∷ [])
 
   walk : (𝓣 : Tables 𝓤 H) → Walk shape 𝓣

@@ -4,20 +4,20 @@ use Rattle.walk.proofs.Prelude.{refl, [], _∷_, URA, w64, vint, SProp, Memory,
 use Rattle.walk.proofs.Prelude.{drop, so, vars, relends, gives, made, of-number, of-nothing, calls-for, given, mut-own}
 use Rattle.queue.proofs.Values.{a-reply}
 use Rattle.spec.specs.Calls.Call as calls
-use Rattle.table.proofs.Rows.{R}
+use Rattle.table.proofs.Requests.{RequestT}
 use Rattle.table.proofs.Heads.{the-head, a-head}
 use Rattle.walk.proofs.Prelude.{lent, lent-one}
 use Rattle.walk.proofs.Prelude.{Shape, Walk, proved}
 use Rattle.walk.proofs.Prelude.{mut-one, shr-one, relends-one}
-use Rattle.welsbell.proofs.Calls.{head-array, values-array, Exports, WriteHead, cites-numbers, cites-write-head}
-use Rattle.welsbell.proofs.Exporting.{exports-given}
+use Rattle.welsbell.proofs.ExportedCalls.{head-array, values-array, Exports, WriteHead, cites-numbers, cites-write-head}
+use Rattle.welsbell.proofs.ExportLaws.{exports-given}
 use Rattle.queue.proofs.tick as tick
 use Rattle.welsbell.proofs.welsbell_tick as f
 
 module _ {M : Type 1} (𝓤 : URA M) (H : Heap 𝓤) (A : Atoms 𝓤) (W : Given 𝓤 H A) (mem : Memory → SProp 𝓤) (run : Routine → Fun 𝓤) where
   abbrev shape : Shape W
   shape =
-      Exports W mem run (lent-one head-array ∷ lent R ∷ lent u32 ∷ lent-one values-array ∷ []) (f.clauses 𝓤 H A mem run) f.Code.function (λ κs a. refl)
+      Exports W mem run (lent-one head-array ∷ lent RequestT ∷ lent u32 ∷ lent-one values-array ∷ []) (f.clauses 𝓤 H A mem run) f.Code.function (λ κs a. refl)
       ((tick.Symbol.name, tripleOf 𝓤 H A tick.signature (tick.spec 𝓤 H A mem run)) ∷ WriteHead W mem run ∷ [])
 
   walk : (𝓣 : Tables 𝓤 H) → Walk shape 𝓣

@@ -1,7 +1,7 @@
 -- `frame::answers::put_answer` meets its contract. Assumes nothing.
 use borrow.Author.Needs.{needs}
 use Rattle.spec.specs.Calls.Readings.{kindOf, valuesOf}
-use Rattle.frame.proofs.Written.{put-ends}
+use Rattle.frame.proofs.LinesPut.{put-ends}
 use Rattle.frame.proofs.answers.put_answer.Statement.{statement}
 use Rattle.frame.proofs.answers.put_answer.Tie as tie
 

@@ -5,7 +5,7 @@ use lib.ListN.{length, take}
 use Rattle.spec.specs.Chart.{segmentsOf}
 use Rattle.spec.specs.Calls.Readings.{field}
 use Rattle.spec.specs.Lines.Frames.{lineOf, segmentLines}
-use Rattle.frame.proofs.Written.{joined}
+use Rattle.frame.proofs.LinesPut.{joined}
 use Rattle.frame.proofs.answers.put_chart.Statement.{statement}
 use Rattle.frame.proofs.answers.put_chart.Tie as tie
 

@@ -1,7 +1,7 @@
 -- `frame::answers::put_reply` meets its contract. Assumes nothing.
 use native.Mathlib.Omega.{arith}
 use borrow.Author.Needs.{needs}
-use Rattle.frame.proofs.Written.{put-ends, line-alone}
+use Rattle.frame.proofs.LinesPut.{put-ends, line-alone}
 use Rattle.frame.proofs.answers.put_reply.Statement.{statement}
 use Rattle.frame.proofs.answers.put_reply.Tie as tie
 

@@ -8,8 +8,8 @@ use borrow.Author.Needs.{needs}
 use lib.ListN.{length, take, drop}
 use Rattle.spec.specs.Chart.{segmentsOf}
 use Rattle.spec.specs.Lines.Frames.{segmentLines}
-use Rattle.frame.specs.Written.{segmentLength}
-use Rattle.frame.proofs.Written.{segment-put, segments-end}
+use Rattle.frame.specs.LineLengths.{segmentLength}
+use Rattle.frame.proofs.LinesPut.{segment-put, segments-end}
 use Rattle.frame.proofs.answers.put_segments.Statement.{statement}
 use Rattle.frame.proofs.answers.put_segments.Tie as tie
 

@@ -1,7 +1,7 @@
 -- `frame::answers::put_value` meets its contract. Assumes nothing.
 use borrow.Author.Needs.{needs}
 use lib.ListN.{take}
-use Rattle.frame.proofs.Written.{none, _▸_, line-put}
+use Rattle.frame.proofs.LinesPut.{none, _▸_, line-put}
 use Rattle.frame.proofs.answers.put_value.Statement.{statement}
 use Rattle.frame.proofs.answers.put_value.Tie as tie
 

@@ -6,7 +6,7 @@ use borrow.Author.Needs.{needs}
 use lib.ListN.{length, drop}
 use Rattle.spec.specs.Every.{every}
 use Rattle.spec.specs.Lines.Frames.{isDigit}
-use Rattle.frame.proofs.Fields.{digits-more, digits-stop, digits-end}
+use Rattle.frame.proofs.FieldDigits.{digits-more, digits-stop, digits-end}
 use Rattle.frame.proofs.digits.are_digits.Statement.{statement}
 use Rattle.frame.proofs.digits.are_digits.Tie as tie
 

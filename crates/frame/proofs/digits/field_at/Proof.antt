@@ -6,7 +6,7 @@ use native.Mathlib.Omega.{arith}
 use borrow.Author.Needs.{needs}
 use lib.ListN.{take, drop}
 use Rattle.spec.specs.Lines.Frames.{numberFrom, fieldAt}
-use Rattle.frame.proofs.Fields.{digit-below, number-start, number-more, number-end, number-below, number-fits}
+use Rattle.frame.proofs.FieldDigits.{digit-below, number-start, number-more, number-end, number-below, number-fits}
 use Rattle.frame.proofs.digits.field_at.Statement.{statement}
 use Rattle.frame.proofs.digits.field_at.Tie as tie
 

@@ -8,7 +8,7 @@ use borrow.Author.Needs.{needs}
 use lib.ListN.{length, take, drop, length-set}
 use lib.Seq.{take-set-le}
 use Rattle.spec.specs.Lines.Frames.{digits}
-use Rattle.frame.proofs.Fields.{put-start, put-more, put-end}
+use Rattle.frame.proofs.FieldDigits.{put-start, put-more, put-end}
 use Rattle.frame.proofs.digits.put_field.Statement.{statement}
 use Rattle.frame.proofs.digits.put_field.Tie as tie
 

@@ -1,6 +1,6 @@
 -- `frame::digits::value_of` meets its contract: every character has its entry. Assumes nothing.
 use native.Mathlib.Omega.{arith}
-use Rattle.frame.proofs.Fields.{table-length, table-at}
+use Rattle.frame.proofs.FieldDigits.{table-length, table-at}
 use Rattle.frame.proofs.digits.value_of.Statement.{statement}
 use Rattle.frame.proofs.digits.value_of.Tie as tie
 

@@ -13,7 +13,7 @@ use Rattle.spec.specs.Lines.Frames.{isDigit, fieldAt, frameOf}
 use Rattle.frame.specs.declared.frames.Kind.{Kind}
 use Rattle.frame.specs.Digits.{digitTable}
 use Rattle.frame.specs.Kinds.{kindBy}
-use Rattle.frame.proofs.Framing.{lengthOf, frameAs, kind-length, frame-digits, frame-other, frame-length}
+use Rattle.frame.proofs.FrameKinds.{lengthOf, frameAs, kind-length, frame-digits, frame-other, frame-length}
 use Rattle.frame.proofs.frames.frame_of.Statement.{statement}
 use Rattle.frame.proofs.frames.frame_of.Tie as tie
 
@@ -35,15 +35,15 @@ module _ (c : tie.Else3) where
   abbrev line : List ℕ
   line = now (c .before .before .before .before .before .before .args .line)
 
-  abbrev CanRead : ℕ → ℕ → Type 0
-  CanRead end width =
+  abbrev FieldFits : ℕ → ℕ → Type 0
+  FieldFits end width =
       (now (c .before .before .before .before .before .before .args .table) ≡ digitTable)
       × ((end ≤ length line) × (width ≤ 8) × (every isDigit line ≡ true))
 
   all-digits : every isDigit line ≡ true
   all-digits = sym (c .before .are-digits .ensures) ∙ not-false _ (c .if3 .left)
 
-  can-read : {end width : ℕ} → end ≤ length line → width ≤ 8 → CanRead end width
+  can-read : {end width : ℕ} → end ≤ length line → width ≤ 8 → FieldFits end width
   can-read h w = (c .before .before .before .before .before .before .pre, (h, w, all-digits))
 
 field-at-requires : tie.Need-field-at-requires
@@ -58,7 +58,7 @@ module _ (c : tie.After-kind-of) {x : Kind} (e : c .kind-of .result ≡ x) where
   is-kind = rw (← c .before .field-at .ensures) (sym (c .kind-of .ensures) ∙ e)
 
   can-read-at : {end width : ℕ} → end ≤ lengthOf x (length (line (c .before .before))) → width ≤ 8
-      → CanRead (c .before .before) end width
+      → FieldFits (c .before .before) end width
   can-read-at h w =
       let l = line (c .before .before) in
       can-read (c .before .before) (omega (arith, rw is-kind at (kind-length (fieldAt 0 1 l) (length l)))) w

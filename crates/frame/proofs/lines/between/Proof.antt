@@ -4,7 +4,7 @@ use mathlib.Core.Logic.{⊎-elim}
 use mathlib.Core.Path.{sym}
 use borrow.Author.Needs.{needs}
 use borrow.Author.Tests.{le-leb, lt-leb}
-use Rattle.frame.proofs.Parts.{part-is}
+use Rattle.frame.proofs.LineParts.{part-is}
 use Rattle.frame.proofs.lines.between.Statement.{statement}
 use Rattle.frame.proofs.lines.between.Tie as tie
 

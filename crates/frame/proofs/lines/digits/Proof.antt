@@ -6,13 +6,13 @@ use Rattle.walk.proofs.Prelude.{uint-tells, now, plain, shr-slice-lawful, Meets
 use Rattle.walk.proofs.Frees.{frees-all}
 use Rattle.frame.specs.Lines.{lineAt}
 use Rattle.frame.specs.declared.lines.Reader.{Reader}
-use Rattle.frame.proofs.Reader.{Word, machine, bound, Bytes, slice, Held, mach, tells, typed, buffer-out, taken, calls-on, leaves}
+use Rattle.frame.proofs.Reader.{Word, machine, bound, Bytes, slice, HeldReader, mach, tells, typed, buffer-out, taken, calls-on, leaves}
 use Rattle.frame.proofs.lines.Reader.Laws as T′
 use Rattle.frame.proofs.lines.line_at as step
 use Rattle.frame.proofs.lines.digits as f
 
 abbrev stayed : Stays (f.ended .signature .params) (f.ended .kept)
-stayed = (stay-dropped (plain (λ κs. Held (κs .0))) yes, (stay-dropped (plain (λ _. usize)) yes, tt))
+stayed = (stay-dropped (plain (λ κs. HeldReader (κs .0))) yes, (stay-dropped (plain (λ _. usize)) yes, tt))
 
 abbrev LineAt : {M : Type 1} (𝓤 : URA M) (H : Heap 𝓤) (A : Atoms 𝓤) (mem : Memory → SProp 𝓤) (run : Routine → Fun 𝓤) → Contract 𝓤
 LineAt 𝓤 H A mem run = tripleOf 𝓤 H A step.signature (step.spec 𝓤 H A mem run)
@@ -22,9 +22,9 @@ module _ {M : Type 1} (𝓤 : URA M) (H : Heap 𝓤) (A : Atoms 𝓤) (W : Given
     abbrev Post : Val → SProp 𝓤
     Post = walkOf 𝓤 H A f.ended stayed (f.clauses 𝓤 H A mem run) .post (bound κ q d (mach d) (n ∷ []))
 
-    walk : Holds (hasTy (T′.mir (named 0)) (mach d)) × WT (mach d) → ent 𝓤 (⋆ 𝓤 H A (‵ (Held κ .own d (mach d ∷ [])) ∷ ‵ (flft κ q) ∷ [])) (WpFn 𝓤 H (𝓣 .C) (𝓣 .Λ) f.Code.function (mach d ∷ machine (n ∷ [])) Post)
+    walk : Holds (hasTy (T′.mir (named 0)) (mach d)) × WT (mach d) → ent 𝓤 (⋆ 𝓤 H A (‵ (HeldReader κ .own d (mach d ∷ [])) ∷ ‵ (flft κ q) ∷ [])) (WpFn 𝓤 H (𝓣 .C) (𝓣 .Λ) f.Code.function (mach d ∷ machine (n ∷ [])) Post)
     walk wt =
-        qed W (‵ (Held κ .own d (mach d ∷ [])) ∷ ‵ (flft κ q) ∷ []) ∵ enter ! (𝓣 .C) (𝓣 .Λ) f.Code.function (mach d ∷ machine (n ∷ [])) _ $
+        qed W (‵ (HeldReader κ .own d (mach d ∷ [])) ∷ ‵ (flft κ q) ∷ []) ∵ enter ! (𝓣 .C) (𝓣 .Λ) f.Code.function (mach d ∷ machine (n ∷ [])) _ $
         alloc1 ! (λ l₀. alloc1 ! (λ l₁. alloc1 ! (λ l₂. alloc1 ! (λ l₃. alloc1 ! (λ l₄. alloc0 ! $ params1 ! $ pass1 ! (init ! 6 refl wt) $ pass1 ! (init ! 4 refl (tt, record { fits = n .1 })) $ pass0 ! $
         assigns ! (of-opd ! (load ! (from ! (fld ! refl (stop !))) (look-in ! 6 (sub ! 0 refl (whole !))))) (from ! (stop !)) (init ! 2 refl (tt, wt .1 .0)) $
         assigns ! (of-opd ! (load ! (from ! (fld ! refl (stop !))) (look-in ! 6 (sub ! 1 refl (whole !))))) (from ! (stop !)) (init ! 0 refl (tt, wt .1 .1 .0)) $
@@ -40,9 +40,9 @@ module _ {M : Type 1} (𝓤 : URA M) (H : Heap 𝓤) (A : Atoms 𝓤) (W : Given
 
   meets : Triple 𝓤 (𝓣 .C step.Symbol.name) (LineAt 𝓤 H A mem run) → Meets 𝓤 H A f.signature (WpFn 𝓤 H (𝓣 .C) (𝓣 .Λ) f.Code.function) (f.spec 𝓤 H A mem run)
   meets known =
-      walk-meets 𝓤 H A f.ended stayed W (goes-dropped 𝓤 H A W 1 (plain (λ κs. Held (κs .0))) yes (λ κs x f. refl), (goes-dropped 𝓤 H A W 1 (plain (λ _. usize)) yes (λ κs x f. refl), tt)) (f.clauses 𝓤 H A mem run) (WpFn 𝓤 H (𝓣 .C) (𝓣 .Λ) f.Code.function) (WpFn-mono 𝓤 H (W .laws) 𝓣 f.Code.function)
+      walk-meets 𝓤 H A f.ended stayed W (goes-dropped 𝓤 H A W 1 (plain (λ κs. HeldReader (κs .0))) yes (λ κs x f. refl), (goes-dropped 𝓤 H A W 1 (plain (λ _. usize)) yes (λ κs x f. refl), tt)) (f.clauses 𝓤 H A mem run) (WpFn 𝓤 H (𝓣 .C) (𝓣 .Λ) f.Code.function) (WpFn-mono 𝓤 H (W .laws) 𝓣 f.Code.function)
       (walked 𝓤 H A f.ended stayed (f.clauses 𝓤 H A mem run) (WpFn 𝓤 H (𝓣 .C) (𝓣 .Λ) f.Code.function) (λ κs. (λ d. mach d ∷ [], (uint-vals w64, tt))) (λ κs. (tells (κs .0), (uint-tells w64, tt)))
-      (λ κs qs bounds a g are. via 𝓤 _ (taken W (κs .0) (qs .0) (Held (κs .0)) (a .0) (mach (a .0)) ((a .1 .0, are .1 .0 .1) ∷ [])) (walk known (κs .0) (qs .0) (a .0) (a .1 .0, are .1 .0 .1) (typed W (κs .0) (a .0) (named 0) (are .0)))))
+      (λ κs qs bounds a g are. via 𝓤 _ (taken W (κs .0) (qs .0) (HeldReader (κs .0)) (a .0) (mach (a .0)) ((a .1 .0, are .1 .0 .1) ∷ [])) (walk known (κs .0) (qs .0) (a .0) (a .1 .0, are .1 .0 .1) (typed W (κs .0) (a .0) (named 0) (are .0)))))
 
 pub digits-spec : {M : Type 1} → f.Statement.statement M
 unfolding f.Code.routine tablesOf

@@ -5,7 +5,7 @@ use Rattle.walk.proofs.Prelude.{look, init, stop, from, load, and-then, no-more
 use Rattle.walk.proofs.Prelude.{shr-slice-tells, shr-slice-lawful, Meets, tripleOf, entered, says, Stays, stay-dropped, walkOf, goes-dropped, ends-at, walked, walk-meets}
 use Rattle.walk.proofs.Frees.{frees-all}
 use Rattle.frame.specs.declared.lines.Reader.{Reader}
-use Rattle.frame.proofs.Reader.{Word, machine, bound, Bytes, slice, Held, mach, made, buffer-in, taken, leaves}
+use Rattle.frame.proofs.Reader.{Word, machine, bound, Bytes, slice, HeldReader, mach, made, buffer-in, taken, leaves}
 use Rattle.frame.proofs.lines.new as f
 
 abbrev stayed : Stays (f.ended .signature .params) (f.ended .kept)
@@ -24,8 +24,8 @@ module _ {M : Type 1} (𝓤 : URA M) (H : Heap 𝓤) (A : Atoms 𝓤) (W : Given
         -- [_2; …; _1; …; room for _0; …; what the slice owns; the token]
         assigns ! (agg ! (and-then ! (load ! (from ! (stop !)) (look ! 2 refl)) (and-then ! (load ! (from ! (stop !)) (look ! 0 refl)) (no-more !)))) (from ! (stop !)) (init ! 4 refl (tt, (shr-slice-lawful 𝓤 H A W (named 0) κ u8 .typed s _ is .0 .1, (record { fits = n .1 }, tt)))) $
         returns ! (look ! 4 refl) $ frees-all ! 0 3 refl $
-        use1 W (‵ (Held κ .own r (mach r ∷ []))) (buffer-in W κ r (n .1)) $
-        suffices ! _ (ends-at 𝓤 H A f.ended stayed (f.clauses 𝓤 H A mem run) W (bound κ q s (slice s) (n ∷ [])) (mach r) r (tt, (tt, tt)) (tt, (tt, tt))) $ says ! (refl, refl) $ by ! (leaves W κ q (Held κ) r (mach r) (n ∷ [])))))
+        use1 W (‵ (HeldReader κ .own r (mach r ∷ []))) (buffer-in W κ r (n .1)) $
+        suffices ! _ (ends-at 𝓤 H A f.ended stayed (f.clauses 𝓤 H A mem run) W (bound κ q s (slice s) (n ∷ [])) (mach r) r (tt, (tt, tt)) (tt, (tt, tt))) $ says ! (refl, refl) $ by ! (leaves W κ q (HeldReader κ) r (mach r) (n ∷ [])))))
 
   meets : Meets 𝓤 H A f.signature (WpFn 𝓤 H (𝓣 .C) (𝓣 .Λ) f.Code.function) (f.spec 𝓤 H A mem run)
   meets =

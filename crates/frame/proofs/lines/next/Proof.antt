@@ -11,13 +11,13 @@ use Rattle.walk.proofs.Steps.{lands-told}
 use Rattle.walk.proofs.Frees.{frees-all}
 use Rattle.frame.specs.Lines.{Behind}
 use Rattle.frame.specs.declared.lines.Reader.{Reader}
-use Rattle.frame.proofs.Reader.{bound, Bytes, slice, Held, mach, made, buffer-out, buffer-in, taken, calls-on, leaves, tells, typed}
+use Rattle.frame.proofs.Reader.{bound, Bytes, slice, HeldReader, mach, made, buffer-out, buffer-in, taken, calls-on, leaves, tells, typed}
 use Rattle.frame.proofs.lines.Reader.Laws as T′
 use Rattle.frame.proofs.lines.behind as step
 use Rattle.frame.proofs.lines.next as f
 
 abbrev stayed : Stays (f.ended .signature .params) (f.ended .kept)
-stayed = (stay-dropped (plain (λ κs. Held (κs .0))) yes, tt)
+stayed = (stay-dropped (plain (λ κs. HeldReader (κs .0))) yes, tt)
 
 abbrev Read : {M : Type 1} (𝓤 : URA M) (H : Heap 𝓤) (A : Atoms 𝓤) (mem : Memory → SProp 𝓤) (run : Routine → Fun 𝓤) → Contract 𝓤
 Read 𝓤 H A mem run = tripleOf 𝓤 H A step.signature (step.spec 𝓤 H A mem run)
@@ -27,10 +27,10 @@ module _ {M : Type 1} (𝓤 : URA M) (H : Heap 𝓤) (A : Atoms 𝓤) (W : Given
     abbrev Post : Val → SProp 𝓤
     Post = walkOf 𝓤 H A f.ended stayed (f.clauses 𝓤 H A mem run) .post (bound κ q d (mach d) [])
 
-    walk : Holds (hasTy (T′.mir (named 0)) (mach d)) × WT (mach d) → ent 𝓤 (⋆ 𝓤 H A (‵ (Held κ .own d (mach d ∷ [])) ∷ ‵ (flft κ q) ∷ [])) (WpFn 𝓤 H (𝓣 .C) (𝓣 .Λ) f.Code.function (mach d ∷ []) Post)
+    walk : Holds (hasTy (T′.mir (named 0)) (mach d)) × WT (mach d) → ent 𝓤 (⋆ 𝓤 H A (‵ (HeldReader κ .own d (mach d ∷ [])) ∷ ‵ (flft κ q) ∷ [])) (WpFn 𝓤 H (𝓣 .C) (𝓣 .Λ) f.Code.function (mach d ∷ []) Post)
     walk wt =
         let buf : Fml = Bytes κ .own (d .buffer) (slice (d .buffer) ∷ []) in
-        qed W (‵ (Held κ .own d (mach d ∷ [])) ∷ ‵ (flft κ q) ∷ []) ∵ enter ! (𝓣 .C) (𝓣 .Λ) f.Code.function (mach d ∷ []) _ $
+        qed W (‵ (HeldReader κ .own d (mach d ∷ [])) ∷ ‵ (flft κ q) ∷ []) ∵ enter ! (𝓣 .C) (𝓣 .Λ) f.Code.function (mach d ∷ []) _ $
         alloc1 ! (λ l₀. alloc1 ! (λ l₁. alloc1 ! (λ l₂. alloc1 ! (λ l₃. alloc1 ! (λ l₄. alloc1 ! (λ l₅. alloc0 ! $ params1 ! $ pass1 ! (init ! 8 refl wt) $ pass0 ! $
         assigns ! (of-opd ! (load ! (from ! (fld ! refl (stop !))) (look-in ! 8 (sub ! 0 refl (whole !))))) (from ! (stop !)) (init ! 4 refl (tt, wt .1 .0)) $
         assigns ! (of-opd ! (load ! (from ! (fld ! refl (stop !))) (look-in ! 8 (sub ! 1 refl (whole !))))) (from ! (stop !)) (init ! 2 refl (tt, wt .1 .1 .0)) $
@@ -45,13 +45,13 @@ module _ {M : Type 1} (𝓤 : URA M) (H : Heap 𝓤) (A : Atoms 𝓤) (W : Given
         assigns ! (of-opd ! (load ! (from ! (fld ! refl (stop !))) (look-in ! 10 (sub ! 0 refl (whole !))))) (from ! (stop !)) (init ! 2 refl (tt, wt .1 .0)) $
         assigns ! (agg ! (and-then ! (load ! (from ! (stop !)) (look ! 2 refl)) (and-then ! (load ! (from ! (stop !)) (look ! 8 refl)) (no-more !)))) (from ! (stop !)) (init ! 12 refl (tt, (wt .1 .0, (record { fits = is .1 }, tt)))) $
         returns ! (look ! 12 refl) $ frees-all ! 2 6 refl $ move ! (1 ∷ 0 ∷ []) $
-        use1 W (‵ (Held κ .own r (mach r ∷ []))) (buffer-in W κ r (is .1)) $
-        suffices ! _ (ends-at 𝓤 H A f.ended stayed (f.clauses 𝓤 H A mem run) W (bound κ q d (mach d) []) (mach r) r (tt, tt) (tt, tt)) $ says ! (refl, read) $ by ! (leaves W κ q (Held κ) r (mach r) [])))))))))
+        use1 W (‵ (HeldReader κ .own r (mach r ∷ []))) (buffer-in W κ r (is .1)) $
+        suffices ! _ (ends-at 𝓤 H A f.ended stayed (f.clauses 𝓤 H A mem run) W (bound κ q d (mach d) []) (mach r) r (tt, tt) (tt, tt)) $ says ! (refl, read) $ by ! (leaves W κ q (HeldReader κ) r (mach r) [])))))))))
 
   meets : Triple 𝓤 (𝓣 .C step.Symbol.name) (Read 𝓤 H A mem run) → Meets 𝓤 H A f.signature (WpFn 𝓤 H (𝓣 .C) (𝓣 .Λ) f.Code.function) (f.spec 𝓤 H A mem run)
-  meets known = walk-meets 𝓤 H A f.ended stayed W (goes-dropped 𝓤 H A W 1 (plain (λ κs. Held (κs .0))) yes (λ κs x f. refl), tt) (f.clauses 𝓤 H A mem run) (WpFn 𝓤 H (𝓣 .C) (𝓣 .Λ) f.Code.function) (WpFn-mono 𝓤 H (W .laws) 𝓣 f.Code.function)
+  meets known = walk-meets 𝓤 H A f.ended stayed W (goes-dropped 𝓤 H A W 1 (plain (λ κs. HeldReader (κs .0))) yes (λ κs x f. refl), tt) (f.clauses 𝓤 H A mem run) (WpFn 𝓤 H (𝓣 .C) (𝓣 .Λ) f.Code.function) (WpFn-mono 𝓤 H (W .laws) 𝓣 f.Code.function)
       (walked 𝓤 H A f.ended stayed (f.clauses 𝓤 H A mem run) (WpFn 𝓤 H (𝓣 .C) (𝓣 .Λ) f.Code.function) (λ κs. (λ d. mach d ∷ [], tt)) (λ κs. (tells (κs .0), tt))
-      (λ κs qs bounds a g are. via 𝓤 _ (taken W (κs .0) (qs .0) (Held (κs .0)) (a .0) (mach (a .0)) []) (walk known (κs .0) (qs .0) (a .0) (typed W (κs .0) (a .0) (named 0) (are .0)))))
+      (λ κs qs bounds a g are. via 𝓤 _ (taken W (κs .0) (qs .0) (HeldReader (κs .0)) (a .0) (mach (a .0)) []) (walk known (κs .0) (qs .0) (a .0) (typed W (κs .0) (a .0) (named 0) (are .0)))))
 
 pub next-spec : {M : Type 1} → f.Statement.statement M
 unfolding f.Code.routine tablesOf

@@ -5,10 +5,10 @@ use Rattle.walk.proofs.Prelude.{_≡_, refl, _∙_, ℕ, _+_, _<_, _≤_, _-_, 
 use Rattle.walk.proofs.Prelude.{heard, shown, taken, so, Shape, Walk, proved, var, vars, field-var, sets, sets-last, gives, iterates, fit, of-number, calls-giving, tests, number, passed-on, made, copies, computes}
 use Rattle.spec.specs.declared.types.Request.{Request}
 use Rattle.spec.specs.Tables.{zeroRequest, deadlinesOf}
-use Rattle.table.proofs.Rows.{R, a-request}
+use Rattle.table.proofs.Requests.{RequestT, a-request}
 use Rattle.table.proofs.waiting.get as get
 use Rattle.occupancy.specs.Scans.{middle, placeBy}
-use Rattle.occupancy.proofs.Scanning.{leftBetween, halves-low, halves-high, halves-end}
+use Rattle.occupancy.proofs.Searches.{leftBetween, halves-low, halves-high, halves-end}
 use Rattle.occupancy.proofs.overfull.due_by as f
 
 -- ---- where a turn of the loop stands: what is left between its places gives the whole
@@ -57,7 +57,7 @@ module _ (ys : List Request) (n d : ℕ) where
 module _ {M : Type 1} (𝓤 : URA M) (H : Heap 𝓤) (A : Atoms 𝓤) (W : Given 𝓤 H A) (mem : Memory → SProp 𝓤) (run : Routine → Fun 𝓤) where
   abbrev shape : Shape W
   shape = record {
-    params = shown R ∷ taken (of-number w64) ∷ taken (of-number w64) ∷ [];
+    params = shown RequestT ∷ taken (of-number w64) ∷ taken (of-number w64) ∷ [];
     result = usize;
     clauses = f.clauses 𝓤 H A mem run;
     code = f.Code.function;

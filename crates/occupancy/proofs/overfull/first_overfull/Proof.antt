@@ -9,13 +9,13 @@ use Rattle.spec.specs.declared.types.Head.{Head}
 use Rattle.spec.specs.declared.types.Request.{Request}
 use Rattle.spec.specs.Tables.{mostRecords, clockEnd, zeroRequest, deadlinesOf}
 use Rattle.spec.specs.Chart.{roomTo}
-use Rattle.table.proofs.Rows.{R, a-request, deadline-fits}
+use Rattle.table.proofs.Requests.{RequestT, a-request, deadline-fits}
 use Rattle.table.proofs.Heads.{a-head, the-head}
-use Rattle.table.proofs.Laws.{not-not}
+use Rattle.table.proofs.MovedRecords.{not-not}
 use Rattle.table.proofs.waiting.get as get
 use Rattle.occupancy.proofs.room.has_room as has-room
 use Rattle.occupancy.specs.Scans.{overfullFrom}
-use Rattle.occupancy.proofs.Scanning.{overfull-here, overfull-next, overfull-none}
+use Rattle.occupancy.proofs.Searches.{overfull-here, overfull-next, overfull-none}
 use Rattle.occupancy.proofs.overfull.first_overfull as f
 
 -- what the search finds from a deadline d at the place i on
@@ -33,7 +33,7 @@ record Turn (head : Head) (ys : List Request) (n place deadline : ℕ) : Type 0 
 module _ {M : Type 1} (𝓤 : URA M) (H : Heap 𝓤) (A : Atoms 𝓤) (W : Given 𝓤 H A) (mem : Memory → SProp 𝓤) (run : Routine → Fun 𝓤) where
   abbrev shape : Shape W
   shape = record {
-    params = taken a-head ∷ shown R ∷ taken (of-number w64) ∷ taken (of-number w64) ∷ taken (of-number w64) ∷ [];
+    params = taken a-head ∷ shown RequestT ∷ taken (of-number w64) ∷ taken (of-number w64) ∷ taken (of-number w64) ∷ [];
     result = u64;
     clauses = f.clauses 𝓤 H A mem run;
     code = f.Code.function;

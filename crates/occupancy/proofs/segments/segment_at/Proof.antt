@@ -6,7 +6,7 @@ use borrow.Author.Needs.{needs}
 use lib.ListN.{take, drop}
 use Rattle.spec.specs.declared.types.Setup.{Setup}
 use Rattle.spec.specs.Chart.{segmentsOf}
-use Rattle.occupancy.proofs.Drawing.{glue, run-begins, run-more, run-ends, run-last}
+use Rattle.occupancy.proofs.StartsAndSegments.{glue, run-begins, run-more, run-ends, run-last}
 use Rattle.occupancy.proofs.segments.segment_at.Statement.{statement}
 use Rattle.occupancy.proofs.segments.segment_at.Tie as tie
 

@@ -9,7 +9,7 @@ use Rattle.spec.specs.declared.types.Setup.{Setup}
 use Rattle.spec.specs.Tables.{zeroSetup}
 use Rattle.occupancy.specs.Charted.{startSlots}
 use Rattle.table.specs.Widths.{largest64}
-use Rattle.occupancy.proofs.Drawing.{starts-none, starts-more, set-last, last-same}
+use Rattle.occupancy.proofs.StartsAndSegments.{starts-none, starts-more, set-last, last-same}
 use Rattle.occupancy.proofs.starts.write_starts.Statement.{statement}
 use Rattle.occupancy.proofs.starts.write_starts.Tie as tie
 

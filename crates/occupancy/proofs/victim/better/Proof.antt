@@ -2,7 +2,7 @@
 use mathlib.Core.Path.{sym, _∙_}
 use native.Mathlib.Omega.{arith}
 use borrow.Author.Needs.{needs}
-use Rattle.occupancy.proofs.Choosing.{better-none, better-first, better-second, better-earlier, better-later}
+use Rattle.occupancy.proofs.BestClient.{better-none, better-first, better-second, better-earlier, better-later}
 use Rattle.occupancy.proofs.victim.better.Statement.{statement}
 use Rattle.occupancy.proofs.victim.better.Tie as tie
 

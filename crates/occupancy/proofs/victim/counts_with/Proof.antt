@@ -6,7 +6,7 @@ use borrow.Author.Needs.{needs}
 use lib.ListN.{getD}
 use Rattle.spec.specs.declared.types.Counts.{Counts}
 use Rattle.spec.specs.Tables.{zeroCounts, recordsOf}
-use Rattle.occupancy.proofs.Counted.{counted-other, counted-none, counted-same}
+use Rattle.occupancy.proofs.Ratios.{counted-other, counted-none, counted-same}
 use Rattle.occupancy.proofs.victim.counts_with.Statement.{statement}
 use Rattle.occupancy.proofs.victim.counts_with.Tie as tie
 

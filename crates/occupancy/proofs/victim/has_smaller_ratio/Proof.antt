@@ -2,7 +2,7 @@
 use native.Mathlib.Omega.{arith}
 use borrow.Author.Needs.{needs}
 use Rattle.spec.specs.Chart.{hasSmallerRatio}
-use Rattle.occupancy.proofs.Counted.{product-fits}
+use Rattle.occupancy.proofs.Ratios.{product-fits}
 use Rattle.occupancy.proofs.victim.has_smaller_ratio.Statement.{statement}
 use Rattle.occupancy.proofs.victim.has_smaller_ratio.Tie as tie
 

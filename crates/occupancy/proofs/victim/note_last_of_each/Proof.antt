@@ -7,11 +7,11 @@ use Rattle.walk.proofs.Prelude.{_≡_, refl, _∙_, ap, ℕ, _+_, _<_, _≤_, _
 use Rattle.walk.proofs.Prelude.{heard, lent, shown, taken, so, Shape, Walk, proved, Lent-at, var, vars, field-var, sets, sets-last, relends, gives, iterates, fit, of-nothing, calls-for, calls-giving, tests, number, mut-of, passed-on, made, of-number, copies, computes}
 use Rattle.spec.specs.declared.types.Request.{Request}
 use Rattle.spec.specs.Tables.{mostClients, zeroRequest, clientsOf}
-use Rattle.table.proofs.Rows.{R, a-request, client-fits}
+use Rattle.table.proofs.Requests.{RequestT, a-request, client-fits}
 use Rattle.table.proofs.waiting.get as get
 use Rattle.table.specs.Widths.{largest16}
 use Rattle.occupancy.specs.Scans.{latestOf}
-use Rattle.occupancy.proofs.Scanning.{latest-next, latest-all}
+use Rattle.occupancy.proofs.Searches.{latest-next, latest-all}
 use Rattle.occupancy.proofs.victim.note as note
 use Rattle.occupancy.proofs.victim.note_last_of_each as f
 
@@ -29,7 +29,7 @@ record Turn (ys : List Request) (known₀ : List ℕ) (start end more : ℕ) : T
 module _ {M : Type 1} (𝓤 : URA M) (H : Heap 𝓤) (A : Atoms 𝓤) (W : Given 𝓤 H A) (mem : Memory → SProp 𝓤) (run : Routine → Fun 𝓤) where
   abbrev shape : Shape W
   shape = record {
-    params = shown R ∷ lent u16 ∷ taken (of-number w64) ∷ taken (of-number w64) ∷ taken (of-number w64) ∷ [];
+    params = shown RequestT ∷ lent u16 ∷ taken (of-number w64) ∷ taken (of-number w64) ∷ taken (of-number w64) ∷ [];
     result = Nothing;
     clauses = f.clauses 𝓤 H A mem run;
     code = f.Code.function;

@@ -5,7 +5,7 @@ use native.Mathlib.Omega.{arith}
 use borrow.Author.Needs.{needs}
 use Rattle.spec.specs.Tables.{recordsOf}
 use Rattle.occupancy.specs.Scans.{countsWith, bestOf}
-use Rattle.occupancy.proofs.Choosing.{best-none, best-next, best-last}
+use Rattle.occupancy.proofs.BestClient.{best-none, best-next, best-last}
 use Rattle.occupancy.proofs.victim.smallest_ratio_place.Statement.{statement}
 use Rattle.occupancy.proofs.victim.smallest_ratio_place.Tie as tie
 

@@ -8,12 +8,12 @@ use Rattle.table.specs.Widths.{largest16}
 use Rattle.spec.specs.Tables.{stateOf, mostRecords}
 use Rattle.spec.specs.Setup.{firstMatch}
 use Rattle.spec.specs.Calls.Submit.{submitRefusals}
-use Rattle.queue.proofs.Laws.Chosen.{choice-found}
-use Rattle.queue.proofs.Laws.Shown.{waits, few, clock, clients as clients-most, rises, placed-within, candidates-within, found-all}
+use Rattle.queue.proofs.Laws.Victim.{choice-found}
+use Rattle.queue.proofs.Laws.Searches.{waits, few, clock, clients as clients-most, rises, placed-within, candidates-within, found-all}
 use Rattle.queue.proofs.Values.{DecisionT, a-decision}
 use Rattle.spec.specs.declared.types.Request.{Request}
 use Rattle.table.proofs.Heads.{a-head, the-head, waiting-fits}
-use Rattle.table.proofs.Rows.{R}
+use Rattle.table.proofs.Requests.{RequestT}
 use Rattle.occupancy.proofs.overfull.due_by as due-by
 use Rattle.occupancy.proofs.overfull.first_overfull as first-overfull
 use Rattle.occupancy.proofs.victim.candidates as candidates
@@ -37,7 +37,7 @@ fits k n h l = (omega arith, omega arith)
 module _ {M : Type 1} (𝓤 : URA M) (H : Heap 𝓤) (A : Atoms 𝓤) (W : Given 𝓤 H A) (mem : Memory → SProp 𝓤) (run : Routine → Fun 𝓤) where
   abbrev shape : Shape W
   shape = record {
-    params = shown R ∷ shown u32 ∷ taken a-head ∷ taken (of-number w64) ∷ taken (of-number w64) ∷ [];
+    params = shown RequestT ∷ shown u32 ∷ taken a-head ∷ taken (of-number w64) ∷ taken (of-number w64) ∷ [];
     result = DecisionT;
     clauses = f.clauses 𝓤 H A mem run;
     code = f.Code.function;

@@ -5,9 +5,9 @@ use Rattle.walk.proofs.Prelude.{refl, _∙_, List, [], _∷_, eqb, eqb→eq, UR
 use Rattle.walk.proofs.Prelude.{drop, lent, taken, so, Shape, Walk, proved, var, vars, relends, gives-within, hands-on, calls-giving, branches-out, number, mut-own, made, of-number, copies, computes}
 use lib.Dec.{eqb-refl, T-not}
 use Rattle.spec.specs.declared.types.Request.{Request}
-use Rattle.table.proofs.Rows.{R, mach, lawful, a-request, request}
+use Rattle.table.proofs.Requests.{RequestT, mach, lawful, a-request, request}
 use Rattle.decide.specs.Submit.{placeWithout}
-use Rattle.queue.proofs.Laws.Placed.{drops-new, drops-other}
+use Rattle.queue.proofs.Laws.Placement.{drops-new, drops-other}
 use Rattle.decide.proofs.submit.place_without as place-without
 use Rattle.table.proofs.waiting.replace as replace
 use Rattle.queue.proofs.submission.drop_at as f
@@ -15,8 +15,8 @@ use Rattle.queue.proofs.submission.drop_at as f
 module _ {M : Type 1} (𝓤 : URA M) (H : Heap 𝓤) (A : Atoms 𝓤) (W : Given 𝓤 H A) (mem : Memory → SProp 𝓤) (run : Routine → Fun 𝓤) where
   abbrev shape : Shape W
   shape = record {
-    params = lent R ∷ taken (of-number w64) ∷ taken (of-number w64) ∷ taken a-request ∷ [];
-    result = R;
+    params = lent RequestT ∷ taken (of-number w64) ∷ taken (of-number w64) ∷ taken a-request ∷ [];
+    result = RequestT;
     clauses = f.clauses 𝓤 H A mem run;
     code = f.Code.function;
     lies = λ κs a. refl;

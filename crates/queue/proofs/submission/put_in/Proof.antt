@@ -8,7 +8,7 @@ use denote.Enum.Laws as LE
 use Rattle.spec.specs.declared.types.Head.{Head}
 use Rattle.spec.specs.declared.types.Request.{Request}
 use Rattle.table.proofs.Heads.{HeadT, head-vals, a-head, waiting-fits}
-use Rattle.table.proofs.Rows.{R, mach, vals, lawful, a-request, request}
+use Rattle.table.proofs.Requests.{RequestT, mach, vals, lawful, a-request, request}
 use Rattle.decide.specs.declared.submit.Decision.{Decision}
 use Rattle.decide.specs.declared.submit.Decision.the-variants.{Refuse, Keep, Drop}
 use Rattle.decide.proofs.submit.Decision as TD
@@ -27,17 +27,17 @@ module _ {M : Type 1} (𝓤 : URA M) (H : Heap 𝓤) (A : Atoms 𝓤) (W : Given
 
   abbrev shape : Shape W
   shape = record {
-    params = lent R ∷ taken a-decision ∷ taken a-head ∷ taken a-request ∷ [];
-    result = R;
+    params = lent RequestT ∷ taken a-decision ∷ taken a-head ∷ taken a-request ∷ [];
+    result = RequestT;
     clauses = f.clauses 𝓤 H A mem run;
     code = f.Code.function;
     lies = λ κs a. refl;
     callees = inserting ∷ dropping ∷ [];
   }
 
-  module _ (𝓣 : Tables 𝓤 H) (κs : Lfts 1) (qs : Shares 1) (waiting : Slice R (κs .0) (qs .0)) (head : Head) (head-is : Is HeadT head (head-vals head)) (new : Request) (new-is : Is R new (vals new)) where
+  module _ (𝓣 : Tables 𝓤 H) (κs : Lfts 1) (qs : Shares 1) (waiting : Slice RequestT (κs .0) (qs .0)) (head : Head) (head-is : Is HeadT head (head-vals head)) (new : Request) (new-is : Is RequestT new (vals new)) where
     abbrev Arm : Decision → Type 2
-    Arm d = Is DecisionT d (a-decision .val d ∷ []) → (g : Unit {0}) → Runs (shape .params) R W (shape .clauses) κs qs (ref waiting, (d, (head, (new, tt)))) g (𝓣 .C) (𝓣 .Λ) f.Code.function
+    Arm d = Is DecisionT d (a-decision .val d ∷ []) → (g : Unit {0}) → Runs (shape .params) RequestT W (shape .clauses) κs qs (ref waiting, (d, (head, (new, tt)))) g (𝓣 .C) (𝓣 .Λ) f.Code.function
 
     abbrev Known : Name × Contract 𝓤 → Type 1
     Known k = Triple 𝓤 (𝓣 .C (k .0)) (k .1)

@@ -6,13 +6,13 @@ use Rattle.walk.proofs.Steps.{into-call}
 use Rattle.spec.specs.Tables.{stateOf}
 use Rattle.spec.specs.Setup.{firstMatch}
 use Rattle.spec.specs.Calls.Submit.{submitRefusals}
-use Rattle.queue.proofs.Laws.Told.{submit-told}
-use Rattle.queue.proofs.Laws.Decided.{submit-refused, submit-goes}
+use Rattle.queue.proofs.Laws.Refusals.{submit-told}
+use Rattle.queue.proofs.Laws.Decision.{submit-refused, submit-goes}
 use Rattle.queue.proofs.Values.{DecisionT, a-decision}
-use Rattle.sound.proofs.Laws.{not-zero, is-zero}
+use Rattle.sound.proofs.RecordTests.{not-zero, is-zero}
 use Rattle.spec.specs.declared.types.Request.{Request}
 use Rattle.table.proofs.Heads.{the-head, a-head}
-use Rattle.table.proofs.Rows.{R}
+use Rattle.table.proofs.Requests.{RequestT}
 use Rattle.sound.proofs.check.tables_refusal as tables-refusal
 use Rattle.decide.proofs.submit.refusal as submit-refusal
 use Rattle.decide.proofs.submit.refuse as refuse
@@ -22,7 +22,7 @@ use Rattle.queue.proofs.submission.submit_decision as f
 module _ {M : Type 1} (𝓤 : URA M) (H : Heap 𝓤) (A : Atoms 𝓤) (W : Given 𝓤 H A) (mem : Memory → SProp 𝓤) (run : Routine → Fun 𝓤) where
   abbrev shape : Shape W
   shape = record {
-    params = shown R ∷ shown u32 ∷ taken a-head ∷ taken (of-number w64) ∷ taken (of-number w64) ∷ [];
+    params = shown RequestT ∷ shown u32 ∷ taken a-head ∷ taken (of-number w64) ∷ taken (of-number w64) ∷ [];
     result = DecisionT;
     clauses = f.clauses 𝓤 H A mem run;
     code = f.Code.function;

@@ -1,7 +1,7 @@
 -- `session::turns::begun` meets its contract. Assumes nothing.
 use mathlib.Core.Path.{refl}
 use borrow.Author.Needs.{needs}
-use Rattle.session.proofs.Laws.Turning.{none-past, none-left}
+use Rattle.session.proofs.Laws.NextLine.{none-past, none-left}
 use Rattle.session.proofs.turns.begun.Statement.{statement}
 use Rattle.session.proofs.turns.begun.Tie as tie
 

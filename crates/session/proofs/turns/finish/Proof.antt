@@ -7,9 +7,9 @@ use native.Mathlib.Omega.{arith}
 use borrow.Author.Needs.{needs}
 use borrow.Author.Tests.{le-leb, lt-leb}
 use lib.ListN.{length}
-use Rattle.frame.specs.Written.{longestLine}
+use Rattle.frame.specs.LineLengths.{longestLine}
 use Rattle.session.specs.Feeding.{owed, owedIn}
-use Rattle.session.proofs.Laws.Turning.{owed-none, owed-line}
+use Rattle.session.proofs.Laws.NextLine.{owed-none, owed-line}
 use Rattle.session.proofs.turns.finish.Statement.{statement}
 use Rattle.session.proofs.turns.finish.Tie as tie
 

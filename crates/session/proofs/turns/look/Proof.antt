@@ -4,7 +4,7 @@ use native.Mathlib.Omega.{arith}
 use mathlib.Core.Bool.{true, false}
 use borrow.Author.Needs.{needs}
 use borrow.Author.Tests.{not-true, not-false}
-use Rattle.session.proofs.Laws.Turning.{next-as}
+use Rattle.session.proofs.Laws.NextLine.{next-as}
 use Rattle.session.proofs.turns.look.Statement.{statement}
 use Rattle.session.proofs.turns.look.Tie as tie
 

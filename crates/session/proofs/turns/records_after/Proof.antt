@@ -2,7 +2,7 @@
 use mathlib.Core.Path.{sym}
 use borrow.Author.Needs.{needs}
 use Rattle.session.specs.Standing.{recordsAfter}
-use Rattle.session.proofs.Laws.Turning.{after-other}
+use Rattle.session.proofs.Laws.NextLine.{after-other}
 use Rattle.session.proofs.turns.records_after.Statement.{statement}
 use Rattle.session.proofs.turns.records_after.Tie as tie
 

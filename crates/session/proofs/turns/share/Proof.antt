@@ -4,7 +4,7 @@ use borrow.Author.Needs.{needs}
 use Rattle.spec.specs.Tables.{mostClients}
 use Rattle.session.specs.Standing.{recordsFor, numbersFor}
 use Rattle.session.proofs.Laws.Lending.{up-most}
-use Rattle.session.proofs.Laws.Turning.{share-other}
+use Rattle.session.proofs.Laws.NextLine.{share-other}
 use Rattle.session.proofs.turns.share.Statement.{statement}
 use Rattle.session.proofs.turns.share.Tie as tie
 

@@ -1,7 +1,7 @@
 -- `session::turns::whole` meets its contract. Assumes nothing.
 use mathlib.Core.Path.{refl}
 use borrow.Author.Needs.{needs}
-use Rattle.session.proofs.Laws.Turning.{whole-past, whole-alone}
+use Rattle.session.proofs.Laws.NextLine.{whole-past, whole-alone}
 use Rattle.session.proofs.turns.whole.Statement.{statement}
 use Rattle.session.proofs.turns.whole.Tie as tie
 

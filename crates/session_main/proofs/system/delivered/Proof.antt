@@ -5,7 +5,7 @@ use lib.IntN.{ℤ}
 use mir.Syntax.{w64}
 use mir.Val.{toZ, ofZ}
 use mir.Facts.{toZ-ofZ}
-use Rattle.session_main.proofs.Reading.{above-zero, not-above-zero}
+use Rattle.session_main.proofs.ReadAnswers.{above-zero, not-above-zero}
 use Rattle.session_main.proofs.system.delivered.Statement.{statement}
 use Rattle.session_main.proofs.system.delivered.Tie as tie
 

@@ -2,7 +2,7 @@
 use lib.IntN.{ℤ}
 use mir.Syntax.{w64}
 use mir.Facts.{toZ-ofZ}
-use Rattle.session_main.proofs.Reading.{below-zero}
+use Rattle.session_main.proofs.ReadAnswers.{below-zero}
 use Rattle.session_main.proofs.system.is_failed.Statement.{statement}
 use Rattle.session_main.proofs.system.is_failed.Tie as tie
 

@@ -11,8 +11,8 @@ use mir.Syntax.{w64}
 use mir.Val.{toZ, ofZ}
 use mir.Facts.{toZ-ofZ}
 use Rattle.libc.specs.Io.{Moved}
-use Rattle.session_main.specs.Flowing.{bufferLength}
-use Rattle.session_main.proofs.Reading.{moved-fits}
+use Rattle.session_main.specs.Program.{bufferLength}
+use Rattle.session_main.proofs.ReadAnswers.{moved-fits}
 use Rattle.session_main.proofs.system.read_behind.Statement.{statement}
 use Rattle.session_main.proofs.system.read_behind.Tie as tie
 

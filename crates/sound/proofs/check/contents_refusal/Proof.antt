@@ -4,7 +4,7 @@ use Rattle.walk.proofs.Prelude.{ℕ, _≡_, refl, sym, _∙_, subst, List, [], 
 use Rattle.walk.proofs.Prelude.{shown, so, Shape, Walk, heard, var, vars, field-var, inner-var, gives, takes-out, passed-on, big-lit, Param, number, flag, loan, fit, of-flag, of-number, proved, sets, calls-for, made, taken}
 use Rattle.walk.proofs.Slices.Arrays.{ends-array, array-lent, array-shared, repeats}
 use Rattle.spec.specs.declared.types.Request.{Request}
-use Rattle.table.proofs.Rows.{R}
+use Rattle.table.proofs.Requests.{RequestT}
 use Rattle.table.proofs.Heads.{the-head, clients-fit, waiting-fits, a-head}
 use Rattle.sound.proofs.Contents.{next-asked, balanced-asked, contents-told}
 use Rattle.sound.proofs.tables.are_next as are-next
@@ -22,7 +22,7 @@ zeros-long = length-replicate {A = ℕ} 1024 0
 module _ {M : Type 1} (𝓤 : URA M) (H : Heap 𝓤) (A : Atoms 𝓤) (W : Given 𝓤 H A) (mem : Memory → SProp 𝓤) (run : Routine → Fun 𝓤) where
   abbrev shape : Shape W
   shape = record {
-    params = shown R ∷ shown u32 ∷ taken a-head ∷ [];
+    params = shown RequestT ∷ shown u32 ∷ taken a-head ∷ [];
     result = u64;
     clauses = f.clauses 𝓤 H A mem run;
     code = f.Code.function;

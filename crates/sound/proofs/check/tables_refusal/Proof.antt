@@ -3,9 +3,9 @@
 use Rattle.walk.proofs.Prelude.{ℕ, _≡_, refl, sym, _∙_, List, [], _∷_, length, URA, w64, vint, SProp, emp, id⊢, Memory, Routine, Heap, Tables, Atoms, Fun, Given, _$_, !, lit, of-opd, bin, first, u32, u64, tripleOf}
 use Rattle.walk.proofs.Prelude.{shown, so, Shape, Walk, drop, var, vars, field-var, gives, gives-within, passed-on, branches-then, into-assign, skips-then, number, fit, of-number, proved, sets, copies, calls-for, made, taken}
 use Rattle.spec.specs.declared.types.Request.{Request}
-use Rattle.table.proofs.Rows.{R}
+use Rattle.table.proofs.Requests.{RequestT}
 use Rattle.table.proofs.Heads.{the-head, a-head}
-use Rattle.sound.proofs.Laws.{not-zero, is-zero}
+use Rattle.sound.proofs.RecordTests.{not-zero, is-zero}
 use Rattle.sound.proofs.Contents.{Headed, refused}
 use Rattle.sound.proofs.check.head_refusal as head-refusal
 use Rattle.sound.proofs.check.contents_refusal as contents-refusal
@@ -14,7 +14,7 @@ use Rattle.sound.proofs.check.tables_refusal as f
 module _ {M : Type 1} (𝓤 : URA M) (H : Heap 𝓤) (A : Atoms 𝓤) (W : Given 𝓤 H A) (mem : Memory → SProp 𝓤) (run : Routine → Fun 𝓤) where
   abbrev shape : Shape W
   shape = record {
-    params = shown R ∷ shown u32 ∷ taken a-head ∷ [];
+    params = shown RequestT ∷ shown u32 ∷ taken a-head ∷ [];
     result = u64;
     clauses = f.clauses 𝓤 H A mem run;
     code = f.Code.function;

@@ -1,5 +1,5 @@
 -- `sound::record::are_zero_four` meets its contract. Assumes nothing.
-use Rattle.sound.proofs.Laws.{bits-zero-four}
+use Rattle.sound.proofs.RecordTests.{bits-zero-four}
 use Rattle.sound.proofs.record.are_zero_four.Statement.{statement}
 use Rattle.sound.proofs.record.are_zero_four.Tie as tie
 

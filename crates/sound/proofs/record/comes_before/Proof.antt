@@ -1,7 +1,7 @@
 -- `sound::record::comes_before` meets its contract. Assumes nothing.
 use native.Mathlib.Omega.{arith}
 use borrow.Author.Needs.{needs}
-use Rattle.sound.proofs.Laws.{one-comparison, one-at-most}
+use Rattle.sound.proofs.RecordTests.{one-comparison, one-at-most}
 use Rattle.sound.proofs.record.comes_before.Statement.{statement}
 use Rattle.sound.proofs.record.comes_before.Tie as tie
 

@@ -4,7 +4,7 @@ use mathlib.Core.Path.{_≡_, ap, _∙_}
 use native.Mathlib.Omega.{arith}
 use borrow.Author.Needs.{needs}
 use Rattle.sound.specs.Checks.{doesBalance}
-use Rattle.sound.proofs.Laws.{cut-balance}
+use Rattle.sound.proofs.RecordTests.{cut-balance}
 use Rattle.sound.proofs.record.does_balance.Statement.{statement}
 use Rattle.sound.proofs.record.does_balance.Tie as tie
 

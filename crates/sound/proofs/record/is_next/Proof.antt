@@ -5,7 +5,7 @@ use native.Mathlib.Omega.{arith}
 use borrow.Author.Needs.{needs}
 use borrow.Author.Tests.{ltb-true, le-ltb, lt-leb, not-true, not-false}
 use Rattle.sound.specs.Checks.{isNext}
-use Rattle.sound.proofs.Laws.{room-some, next-order}
+use Rattle.sound.proofs.RecordTests.{room-some, next-order}
 use Rattle.sound.proofs.record.is_next.Statement.{statement}
 use Rattle.sound.proofs.record.is_next.Tie as tie
 

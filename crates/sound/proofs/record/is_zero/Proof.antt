@@ -1,5 +1,5 @@
 -- `sound::record::is_zero` meets its contract. Assumes nothing.
-use Rattle.sound.proofs.Laws.{bits-zero}
+use Rattle.sound.proofs.RecordTests.{bits-zero}
 use Rattle.sound.proofs.record.is_zero.Statement.{statement}
 use Rattle.sound.proofs.record.is_zero.Tie as tie
 

@@ -5,7 +5,7 @@ use native.Mathlib.Nat.{zero-add}
 use native.Mathlib.Omega.{arith}
 use borrow.Author.Needs.{needs}
 use denote.Ref.{now}
-use Rattle.sound.proofs.Laws.{clients-parts}
+use Rattle.sound.proofs.RecordTests.{clients-parts}
 use Rattle.sound.proofs.tables.are_balanced.Statement.{statement}
 use Rattle.sound.proofs.tables.are_balanced.Tie as tie
 

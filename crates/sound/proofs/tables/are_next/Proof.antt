@@ -1,20 +1,20 @@
--- `sound::tables::are_next` meets its contract: a walk of two calls, `fours` and `rest`, on both slices.
+-- `sound::tables::are_next` meets its contract: a walk of two calls, `check_fours` and `check_rest`, on both slices.
 -- Assumes nothing.
 use Rattle.walk.proofs.Prelude.{refl, _∙_, true, ℕ, _*_, _/_, _<_, _≤_, _^_, lt-of-le-of-lt, arith, List, [], _∷_, lit<, URA, w64, vbool, SProp, Memory, Routine, Heap, Tables, Atoms, Fun, Given, _$_, !, lit, bin, u16, bool, tripleOf}
 use Rattle.walk.proofs.Prelude.{shown, lent, taken, so, Shape, Walk, heard, var, vars, relends, gives, passed-on, mut-of, number, flag, fit, of-flag, proved, sets, calls-for, made, of-number}
 use Rattle.spec.specs.declared.types.Request.{Request}
-use Rattle.table.proofs.Rows.{R}
+use Rattle.table.proofs.Requests.{RequestT}
 use Rattle.table.proofs.Heads.{a-head, the-head}
 use Rattle.sound.proofs.Turns.{fewer-bounded, sets-out, turns-on, pass-told}
 use Rattle.sound.proofs.Tally.{fewer-countable}
-use Rattle.sound.proofs.tables.fours as fours
-use Rattle.sound.proofs.tables.rest as rest-of
+use Rattle.sound.proofs.tables.check_fours as fours
+use Rattle.sound.proofs.tables.check_rest as rest-of
 use Rattle.sound.proofs.tables.are_next as f
 
 module _ {M : Type 1} (𝓤 : URA M) (H : Heap 𝓤) (A : Atoms 𝓤) (W : Given 𝓤 H A) (mem : Memory → SProp 𝓤) (run : Routine → Fun 𝓤) where
   abbrev shape : Shape W
   shape = record {
-    params = shown R ∷ lent u16 ∷ taken a-head ∷ taken (of-number w64) ∷ [];
+    params = shown RequestT ∷ lent u16 ∷ taken a-head ∷ taken (of-number w64) ∷ [];
     result = bool;
     clauses = f.clauses 𝓤 H A mem run;
     code = f.Code.function;
@@ -52,4 +52,4 @@ pub are-next-spec : {M : Type 1} → f.Statement.statement M
 unfolding f.Code.routine
 are-next-spec 𝓤 H 𝓜 𝓖 𝓡 =
     proved 𝓤 H 𝓜 𝓖 𝓡 (shape 𝓤 H) (walk 𝓤 H) f.Code.env f.Key.name (f.Code.unfolded 𝓤 H 𝓜 𝓡)
-    ((fours.Symbol.routine, f.Code.calls-sound·tables·fours, fours.Met.met 𝓤 H 𝓜 𝓖 𝓡), ((rest-of.Symbol.routine, f.Code.calls-sound·tables·rest, rest-of.Met.met 𝓤 H 𝓜 𝓖 𝓡), tt))
+    ((fours.Symbol.routine, f.Code.calls-sound·tables·check-fours, fours.Met.met 𝓤 H 𝓜 𝓖 𝓡), ((rest-of.Symbol.routine, f.Code.calls-sound·tables·check-rest, rest-of.Met.met 𝓤 H 𝓜 𝓖 𝓡), tt))

@@ -6,7 +6,7 @@ use Rattle.walk.proofs.Prelude.{shown, taken, so, Shape, Walk, heard, var, vars
 use Rattle.spec.specs.declared.types.Request.{Request}
 use Rattle.spec.specs.Every.{every}
 use Rattle.spec.specs.Sound.{isZeroRequest}
-use Rattle.table.proofs.Rows.{R}
+use Rattle.table.proofs.Requests.{RequestT}
 use Rattle.sound.proofs.Zeros.{areZero, parts}
 use Rattle.sound.proofs.tables.zero_fours as zero-fours
 use Rattle.sound.proofs.tables.zero_rest as zero-rest
@@ -15,7 +15,7 @@ use Rattle.sound.proofs.tables.are_zero as f
 module _ {M : Type 1} (𝓤 : URA M) (H : Heap 𝓤) (A : Atoms 𝓤) (W : Given 𝓤 H A) (mem : Memory → SProp 𝓤) (run : Routine → Fun 𝓤) where
   abbrev shape : Shape W
   shape = record {
-    params = shown R ∷ taken (of-number w64) ∷ [];
+    params = shown RequestT ∷ taken (of-number w64) ∷ [];
     result = bool;
     clauses = f.clauses 𝓤 H A mem run;
     code = f.Code.function;

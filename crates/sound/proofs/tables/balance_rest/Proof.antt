@@ -9,9 +9,9 @@ use lib.Dec.{ltb}
 use Rattle.spec.specs.Every.{everyFrom}
 use Rattle.spec.specs.Tables.{recordsOf}
 use Rattle.spec.proofs.Laws.Every.{and-left, and-right}
-use Rattle.table.proofs.Rest.{rest-none}
+use Rattle.table.proofs.Remaining.{rest-none}
 use Rattle.sound.specs.Checks.{talliedOf, doesBalance, areBalancedFrom}
-use Rattle.sound.proofs.Laws.{verdict-end, stops, one-more}
+use Rattle.sound.proofs.RecordTests.{verdict-end, stops, one-more}
 use Rattle.sound.proofs.tables.balance_rest.Statement.{statement}
 use Rattle.sound.proofs.tables.balance_rest.Tie as tie
 

@@ -4,12 +4,12 @@ use Rattle.walk.proofs.Prelude.{_≡_, refl, not, ℕ, _<_, _≤_, _-_, lt-tran
 use Rattle.walk.proofs.Prelude.{shown, taken, so, Shape, Walk, heard, var, gives, gives-within, branches-then, into-assign, skips-then, fit, proved, sets, made, of-number}
 use Rattle.spec.specs.declared.types.Request.{Request}
 use Rattle.spec.specs.Tables.{zeroRequest}
-use Rattle.table.proofs.Rows.{R, a-request, mach, lawful, zero-is}
+use Rattle.table.proofs.Requests.{RequestT, a-request, mach, lawful, zero-is}
 use Rattle.table.proofs.waiting.get as get
 use Rattle.sound.specs.Checks.{recordBefore}
-use Rattle.sound.proofs.Calls.{Get, reads}
+use Rattle.sound.proofs.PassWalks.{Get, reads}
 use Rattle.sound.proofs.Turns.{comes-next}
-use Rattle.sound.proofs.Laws.{not-zero}
+use Rattle.sound.proofs.RecordTests.{not-zero}
 use Rattle.sound.proofs.tables.previous as f
 
 none-before : (ys : List Request) (i : ℕ) → T (eqb i 0) → zeroRequest ≡ recordBefore ys i
@@ -21,8 +21,8 @@ some-before i h = omega (arith, not-zero i h)
 module _ {M : Type 1} (𝓤 : URA M) (H : Heap 𝓤) (A : Atoms 𝓤) (W : Given 𝓤 H A) (mem : Memory → SProp 𝓤) (run : Routine → Fun 𝓤) where
   abbrev shape : Shape W
   shape = record {
-    params = shown R ∷ taken (of-number w64) ∷ [];
-    result = R;
+    params = shown RequestT ∷ taken (of-number w64) ∷ [];
+    result = RequestT;
     clauses = f.clauses 𝓤 H A mem run;
     code = f.Code.function;
     lies = λ κs a. refl;

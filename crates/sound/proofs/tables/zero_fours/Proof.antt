@@ -5,17 +5,17 @@ use Rattle.walk.proofs.Prelude.{_≡_, refl, Bool, true, ℕ, _+_, _<_, _-_, _^
 use Rattle.walk.proofs.Prelude.{shown, taken, so, Shape, Walk, heard, var, vars, gives, tests, fit, of-flag, iterates, proved, sets, copies, computes, adds, adds-last, calls-giving, made, of-number}
 use Rattle.spec.specs.declared.types.Request.{Request}
 use Rattle.spec.specs.Tables.{zeroRequest}
-use Rattle.table.proofs.Rows.{R, request}
+use Rattle.table.proofs.Requests.{RequestT, request}
 use Rattle.table.proofs.waiting.get as get
 use Rattle.sound.proofs.Zeros.{areFourZero, areZero, Turn, goes-on, ended, four-on}
-use Rattle.sound.proofs.Calls.{Get, reads}
+use Rattle.sound.proofs.PassWalks.{Get, reads}
 use Rattle.sound.proofs.record.are_zero_four as four
 use Rattle.sound.proofs.tables.zero_fours as f
 
 module _ {M : Type 1} (𝓤 : URA M) (H : Heap 𝓤) (A : Atoms 𝓤) (W : Given 𝓤 H A) (mem : Memory → SProp 𝓤) (run : Routine → Fun 𝓤) where
   abbrev shape : Shape W
   shape = record {
-    params = shown R ∷ taken (of-number w64) ∷ taken (of-number w64) ∷ [];
+    params = shown RequestT ∷ taken (of-number w64) ∷ taken (of-number w64) ∷ [];
     result = bool;
     clauses = f.clauses 𝓤 H A mem run;
     code = f.Code.function;

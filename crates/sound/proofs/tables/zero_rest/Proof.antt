@@ -8,17 +8,17 @@ use Rattle.spec.specs.declared.types.Request.{Request}
 use Rattle.spec.specs.Every.{every}
 use Rattle.spec.specs.Tables.{zeroRequest}
 use Rattle.spec.specs.Sound.{isZeroRequest}
-use Rattle.table.proofs.Rows.{R, request}
+use Rattle.table.proofs.Requests.{RequestT, request}
 use Rattle.table.proofs.waiting.get as get
 use Rattle.sound.proofs.Zeros.{Turn, goes-on, ended, one-on}
-use Rattle.sound.proofs.Calls.{Get, reads}
+use Rattle.sound.proofs.PassWalks.{Get, reads}
 use Rattle.sound.proofs.record.is_zero as is-zero
 use Rattle.sound.proofs.tables.zero_rest as f
 
 module _ {M : Type 1} (𝓤 : URA M) (H : Heap 𝓤) (A : Atoms 𝓤) (W : Given 𝓤 H A) (mem : Memory → SProp 𝓤) (run : Routine → Fun 𝓤) where
   abbrev shape : Shape W
   shape = record {
-    params = shown R ∷ taken (of-number w64) ∷ taken of-flag ∷ [];
+    params = shown RequestT ∷ taken (of-number w64) ∷ taken of-flag ∷ [];
     result = bool;
     clauses = f.clauses 𝓤 H A mem run;
     code = f.Code.function;

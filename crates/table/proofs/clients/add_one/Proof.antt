@@ -2,7 +2,7 @@
 use mathlib.Core.Path.{_∙_, ap}
 use borrow.Author.Needs.{needs}
 use Rattle.table.specs.Clients as clients
-use Rattle.table.proofs.Changed.{changedAt-same}
+use Rattle.table.proofs.ChangedCounts.{changedAt-same}
 use Rattle.table.proofs.clients.add_one.Statement.{statement}
 use Rattle.table.proofs.clients.add_one.Tie as tie
 

@@ -5,7 +5,7 @@ use mathlib.Core.List.{_++_}
 use native.Mathlib.Omega.{arith}
 use borrow.Author.Needs.{needs}
 use lib.ListN.{length, drop, replicate, length-set}
-use Rattle.table.proofs.Changed.{cleared-turn, cleared-end}
+use Rattle.table.proofs.ChangedCounts.{cleared-turn, cleared-end}
 use Rattle.table.proofs.clients.clear.Statement.{statement}
 use Rattle.table.proofs.clients.clear.Tie as tie
 

@@ -2,7 +2,7 @@
 use Prim.Native.Nat.{ℕ}
 use borrow.Author.Needs.{needs}
 use Rattle.spec.specs.Tables.{recordOf}
-use Rattle.table.proofs.Changed.{next-record}
+use Rattle.table.proofs.ChangedCounts.{next-record}
 use Rattle.table.proofs.clients.one_more.Statement.{statement}
 use Rattle.table.proofs.clients.one_more.Tie as tie
 

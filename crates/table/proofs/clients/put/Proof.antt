@@ -2,7 +2,7 @@
 use native.Mathlib.Omega.{arith}
 use borrow.Author.Needs.{needs}
 use lib.ListN.{length-set}
-use Rattle.table.proofs.Changed.{put-changed}
+use Rattle.table.proofs.ChangedCounts.{put-changed}
 use Rattle.table.proofs.clients.put.Statement.{statement}
 use Rattle.table.proofs.clients.put.Tie as tie
 

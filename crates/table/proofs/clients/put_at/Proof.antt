@@ -3,7 +3,7 @@ use mathlib.Core.Path.{sym}
 use native.Mathlib.Omega.{arith}
 use borrow.Author.Needs.{needs}
 use Rattle.spec.proofs.Laws.Layout.{length-records}
-use Rattle.table.proofs.Changed.{changedAt-none}
+use Rattle.table.proofs.ChangedCounts.{changedAt-none}
 use Rattle.table.proofs.clients.put_at.Statement.{statement}
 use Rattle.table.proofs.clients.put_at.Tie as tie
 

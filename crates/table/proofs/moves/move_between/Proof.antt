@@ -8,40 +8,40 @@ use Rattle.walk.proofs.Locals.{cell-of}
 use Rattle.walk.proofs.Slices.Lent.{of-slice}
 use Rattle.walk.proofs.Slices.Parts.{rest-from, whole-long, room-less, rest-lent}
 use Rattle.spec.specs.declared.types.Request.{Request}
-use Rattle.table.proofs.Rows.{R, place-fits}
-use Rattle.table.proofs.Laws.{far-within, moved}
+use Rattle.table.proofs.Requests.{RequestT, place-fits}
+use Rattle.table.proofs.MovedRecords.{far-within, moved}
 use Rattle.table.proofs.moves.rotate as rotate
 use Rattle.table.proofs.moves.move_between as f
 
 -- of n records, the part from a on, which i is in
-record Part (n a i : ℕ) : Type 0 where
+record InPart (n a i : ℕ) : Type 0 where
   apart : a ≤ i
   within : i < n
   below : a ≤ n
   place : a * 24 < 2 ^ 64
-  left : Room R (n - a)
+  left : Room RequestT (n - a)
   way : i - a < 2 ^ 64
 
-part-of : (n a i : ℕ) → Room R n → a ≤ i → i < n → Part n a i
+part-of : (n a i : ℕ) → Room RequestT n → a ≤ i → i < n → InPart n a i
 part-of n a i room h k =
     record {
       apart = h;
       within = k;
       below = omega arith;
       place = place-fits n a room (lt-of-le-of-lt h k);
-      left = room-less R room (sub-le n a);
+      left = room-less RequestT room (sub-le n a);
       way = omega (arith, room .0);
     }
 
 -- what is passed to `rotate`: the records from a on, how far i is from a, and the way
-abbrev turning : {M : Type 1} {𝓤 : URA M} {H : Heap 𝓤} {A : Atoms 𝓤} (W : Given 𝓤 H A) {κ : Lft} {q : Share} (t : Slice R κ q) (a i : ℕ) → Part (length (t .list)) a i → Bool → List (Param 𝓤 H A)
+abbrev turning : {M : Type 1} {𝓤 : URA M} {H : Heap 𝓤} {A : Atoms 𝓤} (W : Given 𝓤 H A) {κ : Lft} {q : Share} (t : Slice RequestT κ q) (a i : ℕ) → InPart (length (t .list)) a i → Bool → List (Param 𝓤 H A)
 turning W {κ} {q} t a i p up =
-    loan (rest-lent W (of-slice W R (named 0) κ q (t .ghost) (t .block) (t .offset) (t .list) (length (t .list)) (t .room) refl) a (p .below) (p .left)) ∷ number W (i - a) (p .way) ∷ flag W up ∷ []
+    loan (rest-lent W (of-slice W RequestT (named 0) κ q (t .ghost) (t .block) (t .offset) (t .list) (length (t .list)) (t .room) refl) a (p .below) (p .left)) ∷ number W (i - a) (p .way) ∷ flag W up ∷ []
 
 module _ {M : Type 1} (𝓤 : URA M) (H : Heap 𝓤) (A : Atoms 𝓤) (W : Given 𝓤 H A) (mem : Memory → SProp 𝓤) (run : Routine → Fun 𝓤) where
   abbrev shape : Shape W
   shape = record {
-    params = lent R ∷ taken (of-number w64) ∷ taken (of-number w64) ∷ [];
+    params = lent RequestT ∷ taken (of-number w64) ∷ taken (of-number w64) ∷ [];
     result = Nothing;
     clauses = f.clauses 𝓤 H A mem run;
     code = f.Code.function;
@@ -57,7 +57,7 @@ module _ {M : Type 1} (𝓤 : URA M) (H : Heap 𝓤) (A : Atoms 𝓤) (W : Given
       branches-out ! (var ! refl)
       -- rotate(&mut t[at..], out - at, true)
       (λ goes-up.
-      let p : Part (length ys) at out = part-of (length ys) at out (t .room) (le-of-lt (ltb→lt at out goes-up)) (within .0) in
+      let p : InPart (length ys) at out = part-of (length ys) at out (t .room) (le-of-lt (ltb→lt at out goes-up)) (within .0) in
       sets ! (bin ! (var ! refl) (lit ! tt) (fit (p .place))) refl (tt, fit (p .place)) $
       sets ! (bin ! (field-var ! refl refl refl) (var ! refl) tt) refl (tt, tt) $
       sets ! (bin ! (field-var ! refl refl refl) (var ! refl) (p .below)) refl (tt, fit (p .left .0)) $
@@ -70,7 +70,7 @@ module _ {M : Type 1} (𝓤 : URA M) (H : Heap 𝓤) (A : Atoms 𝓤) (W : Given
       leaves vunit tt (take at ys ++ zs .0, tt) (whole-long (rest-from at ys) (zs .0) (len .0), tt) (made W of-nothing tt refl) (so 𝓤 (moved at out ys (p .apart) (p .within) true (zs .0) turned))))
       -- rotate(&mut t[out..], at - out, false)
       (λ goes-down.
-      let p : Part (length ys) out at = part-of (length ys) out at (t .room) (nltb→le at out goes-down) (within .1) in
+      let p : InPart (length ys) out at = part-of (length ys) out at (t .room) (nltb→le at out goes-down) (within .1) in
       sets ! (bin ! (var ! refl) (lit ! tt) (fit (p .place))) refl (tt, fit (p .place)) $
       sets ! (bin ! (field-var ! refl refl refl) (var ! refl) tt) refl (tt, tt) $
       sets ! (bin ! (field-var ! refl refl refl) (var ! refl) (p .below)) refl (tt, fit (p .left .0)) $

@@ -2,8 +2,8 @@
 -- the test says (`Laws.antt`'s `turned`). Assumes nothing.
 use Rattle.walk.proofs.Prelude.{refl, _<_, true, false, List, [], _∷_, length, URA, w64, vunit, SProp, Memory, Routine, Heap, Tables, Atoms, Fun, Given, _$_, !, unit-lit, of-opd, Nothing, tripleOf}
 use Rattle.walk.proofs.Prelude.{heard, lent, taken, so, Shape, Walk, proved, var, vars, sets, relends, gives, gives-within, of-nothing, calls-for, branches-out, Param, number, made, of-number, of-flag, mut-own, copies}
-use Rattle.table.proofs.Rows.{R}
-use Rattle.table.proofs.Laws.{turned}
+use Rattle.table.proofs.Requests.{RequestT}
+use Rattle.table.proofs.MovedRecords.{turned}
 use Rattle.table.proofs.moves.to_front as to-front
 use Rattle.table.proofs.moves.to_back as to-back
 use Rattle.table.proofs.moves.rotate as f
@@ -11,7 +11,7 @@ use Rattle.table.proofs.moves.rotate as f
 module _ {M : Type 1} (𝓤 : URA M) (H : Heap 𝓤) (A : Atoms 𝓤) (W : Given 𝓤 H A) (mem : Memory → SProp 𝓤) (run : Routine → Fun 𝓤) where
   abbrev shape : Shape W
   shape = record {
-    params = lent R ∷ taken (of-number w64) ∷ taken of-flag ∷ [];
+    params = lent RequestT ∷ taken (of-number w64) ∷ taken of-flag ∷ [];
     result = Nothing;
     clauses = f.clauses 𝓤 H A mem run;
     code = f.Code.function;

@@ -6,8 +6,8 @@ use Rattle.walk.proofs.Prelude.{_≡_, refl, sym, subst, ℕ, _+_, _-_, _<_, _^
 use Rattle.walk.proofs.Prelude.{heard, lent, taken, so, fit, of-number, of-nothing, calls-for, calls-giving, Shape, Walk, proved, Lent-at, var, vars, sets, sets-last, relends, gives, iterates, tests, number, flag, mut-of, shr-of, made, of-flag, copies, computes}
 use Rattle.spec.specs.declared.types.Request.{Request}
 use Rattle.spec.specs.Tables.{zeroRequest}
-use Rattle.table.proofs.Rows.{R, request, a-request}
-use Rattle.table.proofs.Laws.{Step, Going, Asked, sets-out, steps, goes-on, arrives}
+use Rattle.table.proofs.Requests.{RequestT, request, a-request}
+use Rattle.table.proofs.MovedRecords.{NextPlace, Going, ShiftBounds, sets-out, steps, goes-on, arrives}
 use Rattle.table.proofs.moves.next as next
 use Rattle.table.proofs.waiting.get as get
 use Rattle.table.proofs.waiting.put as put
@@ -16,7 +16,7 @@ use Rattle.table.proofs.moves.shift as f
 module _ {M : Type 1} (𝓤 : URA M) (H : Heap 𝓤) (A : Atoms 𝓤) (W : Given 𝓤 H A) (mem : Memory → SProp 𝓤) (run : Routine → Fun 𝓤) where
   abbrev shape : Shape W
   shape = record {
-    params = lent R ∷ taken (of-number w64) ∷ taken (of-number w64) ∷ taken of-flag ∷ [];
+    params = lent RequestT ∷ taken (of-number w64) ∷ taken (of-number w64) ∷ taken of-flag ∷ [];
     result = Nothing;
     clauses = f.clauses 𝓤 H A mem run;
     code = f.Code.function;
@@ -31,7 +31,7 @@ module _ {M : Type 1} (𝓤 : URA M) (H : Heap 𝓤) (A : Atoms 𝓤) (W : Given
   walk : (𝓣 : Tables 𝓤 H) → Walk shape 𝓣
   walk 𝓣 known-next known-get known-put κs qs t a a-is z z-is up up-is g Q leaves bs =
       let ys : List Request = t .list in
-      heard ! (Asked up a z (length ys)) (λ within.
+      heard ! (ShiftBounds up a z (length ys)) (λ within.
       copies ! refl refl (tt, fit (a-is .1)) $
       iterates ! 𝓣 {X = (i : ℕ) × (zs : List Request) × Going up a z ys i zs} (λ v. (v .0 - z) + (z - v .0)) (λ v. (0, ‵ (Lent-at t (v .1))) ∷ []) (λ v. (5, vint w64 (v .0)) ∷ []) (a, ys, sets-out up a z ys within) refl (λ v turn.
       let i : ℕ = v .0 in
@@ -43,7 +43,7 @@ module _ {M : Type 1} (𝓤 : URA M) (H : Heap 𝓤) (A : Atoms 𝓤) (W : Given
       tests ! (var ! refl)
       (λ apart.
       let j : ℕ = cond up (i - 1) (i + 1) in
-      let s : Step up (length ys) z i j = steps i zs g (t .room .0) (within .1) apart in
+      let s : NextPlace up (length ys) z i j = steps i zs g (t .room .0) (within .1) apart in
       -- let j = next(i, up);
       calls-giving ! 𝓣 [] (number W i fits ∷ flag W up ∷ []) (of-number w64) j (λ c. known-next) (λ c h. h) (so 𝓤 (s .asked)) refl (λ c. vars ! (refl, (refl, tt))) (λ ws. refl) (λ last j-is.
       -- let w = get(t, j);

@@ -7,7 +7,7 @@ use lib.ListN.{length}
 use Rattle.table.specs.Clients.{restartedCounts}
 use Rattle.table.specs.Clients.{changedAt, changedAll}
 use Rattle.spec.proofs.Laws.Layout.{length-records}
-use Rattle.table.proofs.Changed.{length-changedAt, changedAt-same, changedFrom, changed-start, changed-turn, changed-end}
+use Rattle.table.proofs.ChangedCounts.{length-changedAt, changedAt-same, changedFrom, changed-start, changed-turn, changed-end}
 use Rattle.table.proofs.period.restart.Statement.{statement}
 use Rattle.table.proofs.period.restart.Tie as tie
 

@@ -6,8 +6,8 @@ use Rattle.walk.proofs.Prelude.{heard, lent, taken, so, Shape, Walk, proved, Le
 use Rattle.walk.proofs.Steps.{Upto}
 use Rattle.spec.specs.declared.types.Request.{Request}
 use Rattle.spec.specs.Tables.{zeroRequest}
-use Rattle.table.proofs.Rows.{R, a-request, request}
-use Rattle.table.proofs.Laws.{filled, fills, length-filled, filled-all}
+use Rattle.table.proofs.Requests.{RequestT, a-request, request}
+use Rattle.table.proofs.MovedRecords.{filled, fills, length-filled, filled-all}
 use Rattle.table.proofs.waiting.zero as zero
 use Rattle.table.proofs.waiting.put as put
 use Rattle.table.proofs.waiting.clear as f
@@ -15,7 +15,7 @@ use Rattle.table.proofs.waiting.clear as f
 module _ {M : Type 1} (𝓤 : URA M) (H : Heap 𝓤) (A : Atoms 𝓤) (W : Given 𝓤 H A) (mem : Memory → SProp 𝓤) (run : Routine → Fun 𝓤) where
   abbrev shape : Shape W
   shape = record {
-    params = lent R ∷ taken (of-number w64) ∷ [];
+    params = lent RequestT ∷ taken (of-number w64) ∷ [];
     result = Nothing;
     clauses = f.clauses 𝓤 H A mem run;
     code = f.Code.function;

@@ -6,8 +6,8 @@ use Rattle.walk.proofs.Prelude.{heard, lent, shown, taken, so, Shape, Walk, pro
 use Rattle.walk.proofs.Steps.{Upto}
 use Rattle.spec.specs.declared.types.Request.{Request}
 use Rattle.spec.specs.Tables.{zeroRequest, deadlinesOf}
-use Rattle.table.proofs.Rows.{R, a-request, request}
-use Rattle.table.proofs.Laws.{filled, fills, length-filled, filled-all, length-column, getD-column}
+use Rattle.table.proofs.Requests.{RequestT, a-request, request}
+use Rattle.table.proofs.MovedRecords.{filled, fills, length-filled, filled-all, length-column, getD-column}
 use Rattle.table.proofs.waiting.get as get
 use Rattle.table.proofs.waiting.put_deadline as put-deadline
 use Rattle.table.proofs.waiting.deadlines as f
@@ -15,7 +15,7 @@ use Rattle.table.proofs.waiting.deadlines as f
 module _ {M : Type 1} (𝓤 : URA M) (H : Heap 𝓤) (A : Atoms 𝓤) (W : Given 𝓤 H A) (mem : Memory → SProp 𝓤) (run : Routine → Fun 𝓤) where
   abbrev shape : Shape W
   shape = record {
-    params = shown R ∷ lent u64 ∷ taken (of-number w64) ∷ [];
+    params = shown RequestT ∷ lent u64 ∷ taken (of-number w64) ∷ [];
     result = Nothing;
     clauses = f.clauses 𝓤 H A mem run;
     code = f.Code.function;

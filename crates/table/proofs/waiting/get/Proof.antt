@@ -7,14 +7,14 @@ use Rattle.walk.proofs.Locals.{cell-of, revalues}
 use Rattle.walk.proofs.Slices.Inside.{looks-shown, shuts-shown}
 use Rattle.spec.specs.declared.types.Request.{Request}
 use Rattle.spec.specs.Tables.{zeroRequest}
-use Rattle.table.proofs.Rows.{R, mach, vals, tells, copy, lawful, makes, place-fits}
+use Rattle.table.proofs.Requests.{RequestT, mach, vals, tells, copy, lawful, makes, place-fits}
 use Rattle.table.proofs.waiting.get as f
 
 module _ {M : Type 1} (𝓤 : URA M) (H : Heap 𝓤) (A : Atoms 𝓤) (W : Given 𝓤 H A) (mem : Memory → SProp 𝓤) (run : Routine → Fun 𝓤) where
   abbrev shape : Shape W
   shape = record {
-    params = shown R ∷ taken (of-number w64) ∷ [];
-    result = R;
+    params = shown RequestT ∷ taken (of-number w64) ∷ [];
+    result = RequestT;
     clauses = f.clauses 𝓤 H A mem run;
     code = f.Code.function;
     lies = λ κs a. refl;
@@ -29,11 +29,11 @@ module _ {M : Type 1} (𝓤 : URA M) (H : Heap 𝓤) (A : Atoms 𝓤) (W : Given
       sets ! (bin ! (var ! refl) (lit ! tt) (fit (place-fits (length ys) i (t .room) l))) refl (tt, fit (place-fits (length ys) i (t .room) l)) $
       sets ! (bin ! (field-var ! refl refl refl) (var ! refl) tt) refl (tt, tt) $
       revalues ! 4 (λ (p : ℕ). vptr (t .block) p) (sym (place-is 24 (t .offset) i)) refl $
-      looks-shown ! tt t vals tells (copy 𝓤 H A W) (λ p. elem-out ! R (Is R) (shows 𝓤 H A R) vals tells p ys i zeroRequest (t .block) (t .offset) l (λ e-is.
+      looks-shown ! tt t vals tells (copy 𝓤 H A W) (λ p. elem-out ! RequestT (Is RequestT) (shows 𝓤 H A RequestT) vals tells p ys i zeroRequest (t .block) (t .offset) l (λ e-is.
       -- [t[i]; what it owns; the others; t looked into; the locals]
       sets ! (of-opd ! (load ! (from ! (hop ! (cell-of ! 4 refl) (stop !))) (look-raw ! 0 refl))) refl (lawful 𝓤 H A W .typed elem _ e-is .0) $
       copies ! refl refl (lawful 𝓤 H A W .typed elem _ e-is .0) $
-      elem-back ! R p ys i zeroRequest (vals elem) (t .block) (t .offset) l $ shuts-shown ! tt t p $
+      elem-back ! RequestT p ys i zeroRequest (vals elem) (t .block) (t .offset) l $ shuts-shown ! tt t p $
       gives ! refl refl $ leaves (mach elem) elem tt tt (makes 𝓤 H A W elem (vals elem) e-is) (so 𝓤 refl))))
 
 pub get-spec : {M : Type 1} → f.Statement.statement M

@@ -4,15 +4,15 @@
 use Rattle.walk.proofs.Prelude.{refl, _∙_, List, [], _∷_, ltb→lt, nltb→le, URA, w64, vunit, SProp, Memory, Routine, Heap, Tables, Atoms, Fun, Given, _$_, !, unit-lit, of-opd, id⊢, Nothing, tripleOf}
 use Rattle.walk.proofs.Prelude.{drop, lent, taken, so, Shape, Walk, proved, var, vars, sets, relends, gives, gives-within, of-nothing, calls-for, branches-out, number, mut-own, made, of-number, computes}
 use Rattle.spec.specs.declared.types.Request.{Request}
-use Rattle.table.proofs.Rows.{R, a-request, request}
-use Rattle.table.proofs.Laws.{not-inserted, inserts}
+use Rattle.table.proofs.Requests.{RequestT, a-request, request}
+use Rattle.table.proofs.MovedRecords.{not-inserted, inserts}
 use Rattle.table.proofs.waiting.replace as replace
 use Rattle.table.proofs.waiting.insert as f
 
 module _ {M : Type 1} (𝓤 : URA M) (H : Heap 𝓤) (A : Atoms 𝓤) (W : Given 𝓤 H A) (mem : Memory → SProp 𝓤) (run : Routine → Fun 𝓤) where
   abbrev shape : Shape W
   shape = record {
-    params = lent R ∷ taken (of-number w64) ∷ taken (of-number w64) ∷ taken a-request ∷ [];
+    params = lent RequestT ∷ taken (of-number w64) ∷ taken (of-number w64) ∷ taken a-request ∷ [];
     result = Nothing;
     clauses = f.clauses 𝓤 H A mem run;
     code = f.Code.function;

@@ -7,13 +7,13 @@ use Rattle.walk.proofs.Locals.{cell-of, revalues}
 use Rattle.walk.proofs.Slices.Inside.{opens-lent, closes-lent}
 use Rattle.spec.specs.declared.types.Request.{Request}
 use Rattle.spec.specs.Tables.{zeroRequest}
-use Rattle.table.proofs.Rows.{R, a-request, vals, tells, lawful, makes, place-fits}
+use Rattle.table.proofs.Requests.{RequestT, a-request, vals, tells, lawful, makes, place-fits}
 use Rattle.table.proofs.waiting.put as f
 
 module _ {M : Type 1} (𝓤 : URA M) (H : Heap 𝓤) (A : Atoms 𝓤) (W : Given 𝓤 H A) (mem : Memory → SProp 𝓤) (run : Routine → Fun 𝓤) where
   abbrev shape : Shape W
   shape = record {
-    params = lent R ∷ taken (of-number w64) ∷ taken a-request ∷ [];
+    params = lent RequestT ∷ taken (of-number w64) ∷ taken a-request ∷ [];
     result = Nothing;
     clauses = f.clauses 𝓤 H A mem run;
     code = f.Code.function;
@@ -28,10 +28,10 @@ module _ {M : Type 1} (𝓤 : URA M) (H : Heap 𝓤) (A : Atoms 𝓤) (W : Given
       sets ! (bin ! (var ! refl) (lit ! tt) (fit (place-fits (length ys) i (t .room) l))) refl (tt, fit (place-fits (length ys) i (t .room) l)) $
       sets ! (bin ! (field-var ! refl refl refl) (var ! refl) tt) refl (tt, tt) $
       revalues ! 5 (λ (p : ℕ). vptr (t .block) p) (sym (place-is 24 (t .offset) i)) refl $
-      opens-lent ! tt t ys $ elem-out ! R (Is R) (shows 𝓤 H A R) vals tells fullShare ys i zeroRequest (t .block) (t .offset) l (λ _.
+      opens-lent ! tt t ys $ elem-out ! RequestT (Is RequestT) (shows 𝓤 H A RequestT) vals tells fullShare ys i zeroRequest (t .block) (t .offset) l (λ _.
       -- [t[i]; what it owns; the others; t opened; the locals]
       assigns ! (of-opd ! (var ! refl)) (from ! (hop ! (cell-of ! 5 refl) (stop !))) (store-raw ! 0 refl (lawful 𝓤 H A W .typed r _ r-is .0)) $
-      move ! (1 ∷ []) $ drop ! $ owned ! R (Is R) (makes 𝓤 H A W) r _ r-is $ move ! (1 ∷ 0 ∷ []) $ elem-put ! R fullShare ys i r (vals r) (t .block) (t .offset) l $
+      move ! (1 ∷ []) $ drop ! $ owned ! RequestT (Is RequestT) (makes 𝓤 H A W) r _ r-is $ move ! (1 ∷ 0 ∷ []) $ elem-put ! RequestT fullShare ys i r (vals r) (t .block) (t .offset) l $
       closes-lent ! tt t ys refl (set ys i r) (length-set ys i r) $
       sets ! (of-opd ! (unit-lit !)) refl (tt, tt) $ gives ! refl refl $
       leaves vunit tt (set ys i r, tt) (length-set ys i r, tt) (made W of-nothing tt refl) (so 𝓤 refl)))

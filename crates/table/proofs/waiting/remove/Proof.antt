@@ -5,8 +5,8 @@ use Rattle.walk.proofs.Prelude.{refl, _∙_, _-_, _<_, _^_, lt-of-le-of-lt, sub
 use Rattle.walk.proofs.Prelude.{drop, lent, taken, so, Shape, Walk, proved, var, vars, sets, relends, gives-within, hands-on, fit, calls-giving, branches-out, number, mut-own, made, of-number, copies, computes}
 use Rattle.spec.specs.declared.types.Request.{Request}
 use Rattle.spec.specs.Tables.{zeroRequest}
-use Rattle.table.proofs.Rows.{R, mach, lawful, a-request, request}
-use Rattle.table.proofs.Laws.{not-removed, removes}
+use Rattle.table.proofs.Requests.{RequestT, mach, lawful, a-request, request}
+use Rattle.table.proofs.MovedRecords.{not-removed, removes}
 use Rattle.table.proofs.waiting.zero as zero
 use Rattle.table.proofs.waiting.replace as replace
 use Rattle.table.proofs.waiting.remove as f
@@ -14,8 +14,8 @@ use Rattle.table.proofs.waiting.remove as f
 module _ {M : Type 1} (𝓤 : URA M) (H : Heap 𝓤) (A : Atoms 𝓤) (W : Given 𝓤 H A) (mem : Memory → SProp 𝓤) (run : Routine → Fun 𝓤) where
   abbrev shape : Shape W
   shape = record {
-    params = lent R ∷ taken (of-number w64) ∷ taken (of-number w64) ∷ [];
-    result = R;
+    params = lent RequestT ∷ taken (of-number w64) ∷ taken (of-number w64) ∷ [];
+    result = RequestT;
     clauses = f.clauses 𝓤 H A mem run;
     code = f.Code.function;
     lies = λ κs a. refl;

@@ -6,8 +6,8 @@ use Rattle.walk.proofs.Prelude.{drop, lent, taken, so, Shape, Walk, proved, Len
 use Rattle.spec.specs.declared.types.Request.{Request}
 use Rattle.spec.specs.Tables.{zeroRequest}
 use Rattle.table.specs.Records.{areIn}
-use Rattle.table.proofs.Rows.{R, mach, lawful, a-request, request}
-use Rattle.table.proofs.Laws.{not-not, untouched, both-in, puts-for}
+use Rattle.table.proofs.Requests.{RequestT, mach, lawful, a-request, request}
+use Rattle.table.proofs.MovedRecords.{not-not, untouched, both-in, puts-for}
 use Rattle.table.proofs.waiting.get as get
 use Rattle.table.proofs.moves.move_between as move-between
 use Rattle.table.proofs.waiting.put as put
@@ -16,8 +16,8 @@ use Rattle.table.proofs.waiting.replace as f
 module _ {M : Type 1} (𝓤 : URA M) (H : Heap 𝓤) (A : Atoms 𝓤) (W : Given 𝓤 H A) (mem : Memory → SProp 𝓤) (run : Routine → Fun 𝓤) where
   abbrev shape : Shape W
   shape = record {
-    params = lent R ∷ taken (of-number w64) ∷ taken (of-number w64) ∷ taken a-request ∷ [];
-    result = R;
+    params = lent RequestT ∷ taken (of-number w64) ∷ taken (of-number w64) ∷ taken a-request ∷ [];
+    result = RequestT;
     clauses = f.clauses 𝓤 H A mem run;
     code = f.Code.function;
     lies = λ κs a. refl;

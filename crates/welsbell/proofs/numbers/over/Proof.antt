@@ -5,7 +5,7 @@ use native.Mathlib.Omega.{arith}
 use borrow.Author.Needs.{needs}
 use lib.ListN.{length, take, length-set}
 use lib.Seq.{getD-take, length-take-le}
-use Rattle.table.proofs.Laws.{filled, fills, filled-all}
+use Rattle.table.proofs.MovedRecords.{filled, fills, filled-all}
 use Rattle.welsbell.specs.Numbers.{written}
 use Rattle.welsbell.proofs.numbers.over.Statement.{statement}
 use Rattle.welsbell.proofs.numbers.over.Tie as tie

@@ -3,16 +3,16 @@ use borrow.Author.Needs.{needs}
 use Rattle.welsbell.proofs.numbers.write_values.Statement.{statement}
 use Rattle.welsbell.proofs.numbers.write_values.Tie as tie
 
-line-of-requires : tie.Need-line-of-requires
-line-of-requires c κs = search needs
+values-of-requires : tie.Need-values-of-requires
+values-of-requires c κs = search needs
 
 over-requires : tie.Need-over-requires
 over-requires c κs = search needs
 
 returns : tie.Need-returns
 returns c =
-    let line = c .before .before .before .line-of .ensures in
+    let line = c .before .before .before .values-of .ensures in
     (line .0, rw (line .1) at (c .over .ensures))
 
 pub write-values-spec : {M : Type 1} → statement M
-write-values-spec = tie.close (tie.spec line-of-requires over-requires returns)
+write-values-spec = tie.close (tie.spec values-of-requires over-requires returns)

@@ -1,4 +1,0 @@
--- Lines that are printed, and what is read off them.
-pub mod Digits
-pub mod Printed
-pub mod SinceOpen
