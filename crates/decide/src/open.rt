@@ -1,7 +1,7 @@
 // Open: its refusal, and what it hands back.
 use crate::reply;
 use crate::reply::Reply;
-use sound::record;
+use sound::check;
 use spec::bounds;
 use spec::types::Answer;
 use spec::types::Head;
@@ -14,7 +14,7 @@ ghost use Rattle.decide.specs.Open.{openMatch, openReply, openNumbers};
 pub fn refusal(setup: Setup, records: usize, numbers: usize) -> u64
     ensures { λ r. ⌜ r ≡ openMatch setup records numbers ⌝ }
 {
-    let bad = record::setup_refusal(setup);
+    let bad = check::setup_refusal(setup);
     if bad != 0 {
         return bad;
     }

@@ -2,7 +2,7 @@
 // found: refusals 4 and 5 stand first in every list but open's.
 use crate::reply;
 use crate::reply::Reply;
-use occupancy::victim;
+use occupancy::overfull;
 use spec::bounds;
 use spec::types::Answer;
 use spec::types::Head;
@@ -89,7 +89,7 @@ pub fn choice(
         return Decision::Keep { place };
     }
     let clients = head.setup.clients as usize;
-    let victim = victim::smallest_ratio_place(latest, numbers, client, clients);
+    let victim = overfull::smallest_ratio_place(latest, numbers, client, clients);
     Decision::Drop { place, victim }
 }
 

@@ -14,7 +14,7 @@ use Rattle.spec.specs.declared.types.Counts.{Counts}
 use Rattle.spec.specs.Tables.{zeroCounts}
 use Rattle.spec.specs.Chart.{hasSmallerRatio}
 use Rattle.spec.proofs.Calls.Victim.{AtMost, at-most-trans, at-most-facts, at-most-test, Rated, smaller, not-smaller, rated}
-use Rattle.occupancy.specs.declared.victim.LastCandidate.{LastCandidate}
+use Rattle.occupancy.specs.declared.overfull.LastCandidate.{LastCandidate}
 use Rattle.occupancy.specs.Scans.{betterCandidate, bestOf, smallestRatioPlace, HaveRatios, Wins}
 
 -- which of the two is the better, and why

@@ -9,7 +9,7 @@ use Rattle.spec.specs.declared.types.Head.{Head}
 use Rattle.spec.specs.declared.types.Counts.{Counts}
 use Rattle.spec.specs.Tables.{mostClients, zeroCounts, change, oneMoreSubmitted}
 use Rattle.spec.specs.Chart.{roomTo, hasSmallerRatio}
-use Rattle.occupancy.specs.declared.victim.LastCandidate.{LastCandidate}
+use Rattle.occupancy.specs.declared.overfull.LastCandidate.{LastCandidate}
 
 -- no entry is larger than a later one
 abbrev pub Sorted : List ℕ → Type 0

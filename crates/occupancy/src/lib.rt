@@ -1,6 +1,4 @@
-// Document 01, "Chart and victim": the room in slots, start slots and segments; the first overfull deadline, and the victim.
+// Document 01, "Chart and victim": start slots and segments; the room in slots, overfull deadlines, and the victim.
 pub mod overfull;
-pub mod room;
 pub mod segments;
 pub mod starts;
-pub mod victim;

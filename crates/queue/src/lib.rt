@@ -9,11 +9,12 @@ use sound::check;
 use spec::types::Head;
 use spec::types::Request;
 use spec::types::Setup;
+pub use submission::submit;
 use table::waiting;
 ghost use mathlib.Core.Path.{_≡_};
 ghost use Rattle.spec.specs.Tables.{stateOf};
 ghost use Rattle.spec.specs.Calls.Chart.{chartOutput};
-ghost use Rattle.spec.specs.Calls.Call.{opening, submit, tick, report, chart};
+ghost use Rattle.spec.specs.Calls.Call.{opening, tick, report, chart};
 ghost use Rattle.queue.specs.Gives.{Gives};
 
 // Open: the clock, the last number, the waiting count and every record of both tables become zero.
@@ -27,25 +28,6 @@ pub fn open(head: Head, waiting: &mut [Request], clients: &mut [u32], setup: Set
     waiting::clear(waiting, cleared);
     decide::open::clear_counts(clients, refusal);
     decide::open::reply(head, refusal, setup)
-}
-
-// Submit: the new request is put in chart order; where not all can finish, one is dropped.
-pub fn submit(
-    head: Head,
-    waiting: &mut [Request],
-    clients: &mut [u32],
-    client: u64,
-    deadline: u64,
-) -> Reply
-    ensures { λ r. ⌜ Gives (submit client deadline)
-        (stateOf head (now (waiting .entry)) (now (clients .entry))) r
-        (stateOf (r .head) (now (waiting .exit)) (now (clients .exit))) ⌝ }
-{
-    let decision = submission::submit_decision(waiting, clients, head, client, deadline);
-    let new = decide::submit::new_request(head, client, deadline);
-    let gone = submission::put_in(waiting, decision, head, new);
-    decide::submit::count(clients, decision, client, gone);
-    decide::submit::reply(head, decision, gone)
 }
 
 // Tick: the first waiting record is served, or none waits; then the clock rises by 1, and a period may begin.
@@ -84,7 +66,7 @@ pub fn chart(head: Head, waiting: &[Request], clients: &[u32], output: &mut [u64
     let tables = check::tables_refusal(waiting, clients, head);
     let refusal = decide::chart::refusal(tables, head, output.len());
     let n = unless_refused(refusal, head.waiting);
-    waiting::deadlines(waiting, output, n);
+    starts::deadlines(waiting, output, n);
     starts::write_starts(head.setup, output, n);
     decide::chart::reply(head, refusal)
 }

@@ -1,8 +1,7 @@
-// What a submit decides, from the searches in the waiting records, and what it does to the waiting table.
+// Submit: what it decides, from the searches in the waiting records, what it does to the waiting table, and the call itself.
+use decide::reply::Reply;
 use decide::submit::Decision;
 use occupancy::overfull;
-use occupancy::room;
-use occupancy::victim;
 use sound::check;
 use spec::bounds::MOST_CLIENTS;
 use spec::types::Head;
@@ -12,6 +11,8 @@ ghost use mathlib.Core.Path.{_≡_};
 ghost use Rattle.spec.specs.Tables.{stateOf};
 ghost use Rattle.spec.specs.Setup.{firstMatch};
 ghost use Rattle.spec.specs.Calls.Submit.{submitRefusals};
+ghost use Rattle.spec.specs.Calls.Call.{submit};
+ghost use Rattle.queue.specs.Gives.{Gives};
 ghost use Rattle.queue.specs.Placement.{withoutVictim, victimAt, tableAfter, goneAfter};
 ghost use Rattle.queue.specs.Decision.{submitChoice, submitDecision};
 
@@ -34,16 +35,16 @@ fn accepted_decision(
     let place = overfull::due_by(waiting, n, deadline);
     let found = overfull::first_overfull(head, waiting, n, place, deadline);
     let due = overfull::due_by(waiting, n, found);
-    let last = victim::candidates(n, due, found);
-    let before = room::smaller(place, last);
-    victim::note_last_of_each(waiting, &mut latest, 0, before, 1);
-    victim::note(&mut latest, client, place + 1);
-    victim::note_last_of_each(waiting, &mut latest, place, last, 2);
+    let last = overfull::candidates(n, due, found);
+    let before = overfull::smaller(place, last);
+    overfull::note_last_of_each(waiting, &mut latest, 0, before, 1);
+    overfull::note(&mut latest, client, place + 1);
+    overfull::note_last_of_each(waiting, &mut latest, place, last, 2);
     decide::submit::choice(head, &latest, clients, client, place, found)
 }
 
 // What a submit has to do.
-pub(crate) fn submit_decision(
+fn submit_decision(
     waiting: &[Request],
     clients: &[u32],
     head: Head,
@@ -78,12 +79,7 @@ fn drop_at(waiting: &mut [Request], place: usize, victim: usize, new: Request) -
 
 // What a submit does to the waiting table: `new` is put in, or put in for another, or nothing changes. The record that went out is
 // handed back, or `new` where none did.
-pub(crate) fn put_in(
-    waiting: &mut [Request],
-    decision: Decision,
-    head: Head,
-    new: Request,
-) -> Request
+fn put_in(waiting: &mut [Request], decision: Decision, head: Head, new: Request) -> Request
     ensures { λ r. ⌜
         (r ≡ goneAfter new decision (now (waiting .entry)))
         × (now (waiting .exit) ≡ tableAfter head new decision (now (waiting .entry)))
@@ -101,4 +97,23 @@ pub(crate) fn put_in(
             return drop_at(waiting, place, victim, new);
         }
     }
+}
+
+// Submit: the new request is put in chart order; where not all can finish, one is dropped.
+pub fn submit(
+    head: Head,
+    waiting: &mut [Request],
+    clients: &mut [u32],
+    client: u64,
+    deadline: u64,
+) -> Reply
+    ensures { λ r. ⌜ Gives (submit client deadline)
+        (stateOf head (now (waiting .entry)) (now (clients .entry))) r
+        (stateOf (r .head) (now (waiting .exit)) (now (clients .exit))) ⌝ }
+{
+    let decision = submit_decision(waiting, clients, head, client, deadline);
+    let new = decide::submit::new_request(head, client, deadline);
+    let gone = put_in(waiting, decision, head, new);
+    decide::submit::count(clients, decision, client, gone);
+    decide::submit::reply(head, decision, gone)
 }

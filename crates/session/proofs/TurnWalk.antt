@@ -11,7 +11,7 @@ use Rattle.spec.specs.declared.types.Frame.{Frame}
 use Rattle.spec.specs.declared.types.Frame.the-variants.{Open, Submit, Tick, Report, Chart, Bad}
 use Rattle.spec.specs.declared.types.Head.{Head}
 use Rattle.spec.specs.declared.types.Request.{Request}
-use Rattle.spec.specs.Tables.{mostRecords, mostClients, width, stateOf}
+use Rattle.spec.specs.Tables.{mostRecords, mostClients, clientWidth, stateOf}
 use Rattle.spec.specs.Lines.Frames.{answerLines}
 use Rattle.spec.specs.Lines.Session.{task}
 use Rattle.frame.specs.LineLengths.{mostBytes, CanDraw}
@@ -44,7 +44,7 @@ records-most : (frame : Frame) (s : Session) → recordsFor frame s ≤ mostReco
 unfolding recordsFor
 records-most frame s = up-most mostRecords (lengthsFor (task frame .named) s .records)
 
-numbers-most : (frame : Frame) (s : Session) → numbersFor frame s ≤ width * mostClients
+numbers-most : (frame : Frame) (s : Session) → numbersFor frame s ≤ clientWidth * mostClients
 unfolding numbersFor
 numbers-most frame s = omega (arith, up-most mostClients (lengthsFor (task frame .named) s .clients))
 
@@ -58,7 +58,7 @@ module _ (line : List ℕ) (behind : ℕ) (fed : Fed) (ws : List Request) (xs st
   lent-within =
       let f = fit-facts (fed .session) (length ws) (length xs) (length st) fits in
       let n : l .records ≤ mostRecords = rw lends (records-most (turn .frame) (fed .session)) in
-      let c : l .numbers ≤ width * mostClients = rw lends (numbers-most (turn .frame) (fed .session)) in
+      let c : l .numbers ≤ clientWidth * mostClients = rw lends (numbers-most (turn .frame) (fed .session)) in
       (omega (arith, f .waiting-long, n), omega (arith, f .numbers-long, c))
 
   module _ (asked : Frame) (head : Head) (asks : asked ≡ turn .frame) (heads : head ≡ fed .session .head) (a : Reply)

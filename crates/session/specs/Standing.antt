@@ -10,7 +10,7 @@ use Rattle.spec.specs.declared.types.Frame.{Frame}
 use Rattle.spec.specs.declared.types.Answer.{Answer}
 use Rattle.spec.specs.declared.types.Request.{Request}
 use Rattle.spec.specs.Every.{firstOr}
-use Rattle.spec.specs.Tables.{mostRecords, mostClients, width, State, stateOf}
+use Rattle.spec.specs.Tables.{mostRecords, mostClients, clientWidth, State, stateOf}
 use Rattle.spec.specs.Calls.Readings.{isRefused, reading}
 use Rattle.spec.specs.Lines.Frames.{longestFrame}
 use Rattle.spec.specs.Lines.Session.{textOf, replies, Lengths, task}
@@ -29,13 +29,13 @@ reservedOf ws numbers = record { waitingTable = ws; clientNumbers = numbers }
 -- clients"
 abbrev pub heldIn : Session → Reserved → State
 heldIn s t =
-    stateOf (s .head) (take (s .records) (t .waitingTable)) (take (width * s .head .setup .clients) (t .clientNumbers))
+    stateOf (s .head) (take (s .records) (t .waitingTable)) (take (clientWidth * s .head .setup .clients) (t .clientNumbers))
 
 -- whether tables of these lengths will do for the session and for every later open
 unfoldable pub doFit : Session → ℕ → ℕ → ℕ → Bool
 doFit s waiting numbers starts =
     (leb (s .records) mostRecords && leb (s .head .setup .clients) mostClients)
-    && ((leb mostRecords waiting && leb mostRecords starts) && leb (width * mostClients) numbers)
+    && ((leb mostRecords waiting && leb mostRecords starts) && leb (clientWidth * mostClients) numbers)
 
 abbrev pub fitsIn : Session → Reserved → List ℕ → Bool
 fitsIn s t starts = doFit s (length (t .waitingTable)) (length (t .clientNumbers)) (length starts)
@@ -53,7 +53,7 @@ unfoldable pub recordsFor : Frame → Session → ℕ
 recordsFor frame s = upTo mostRecords (lengthsFor (task frame .named) s .records)
 
 unfoldable pub numbersFor : Frame → Session → ℕ
-numbersFor frame s = width * upTo mostClients (lengthsFor (task frame .named) s .clients)
+numbersFor frame s = clientWidth * upTo mostClients (lengthsFor (task frame .named) s .clients)
 
 -- how many waiting records are in use after a frame got its answer: those that an accepted open names
 abbrev pub recordsNamed : List Lengths → Answer → ℕ → ℕ

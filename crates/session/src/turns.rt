@@ -12,7 +12,7 @@ use spec::types::Answer;
 use spec::types::Frame;
 use spec::types::Head;
 use spec::types::ZERO_SETUP;
-use table::clients::WIDTH;
+use table::clients::CLIENT_WIDTH;
 ghost use mathlib.Core.Bool.{true, false};
 ghost use mathlib.Core.List.{List, _++_};
 ghost use mathlib.Core.Path.{_≡_};
@@ -62,7 +62,7 @@ fn fit(session: Session, waiting: usize, numbers: usize, starts: usize) -> bool
 {
     ((session.records <= MOST_RECORDS as u64) & (session.head.setup.clients <= MOST_CLIENTS as u64))
         & (((MOST_RECORDS <= waiting) & (MOST_RECORDS <= starts))
-            & (WIDTH * MOST_CLIENTS <= numbers))
+            & (CLIENT_WIDTH * MOST_CLIENTS <= numbers))
 }
 
 // A whole line, behind which the reader stands at `behind`. One that was read past so far has more digits than any frame.
@@ -190,11 +190,11 @@ pub(crate) fn share(fed: Fed, turn: NextLine) -> Share
     match frame {
         Frame::Open { setup, records } => Share {
             records: up_to(MOST_RECORDS as u64, records),
-            numbers: WIDTH * up_to(MOST_CLIENTS as u64, setup.clients),
+            numbers: CLIENT_WIDTH * up_to(MOST_CLIENTS as u64, setup.clients),
         },
         _ => Share {
             records: up_to(MOST_RECORDS as u64, fed.session.records),
-            numbers: WIDTH * up_to(MOST_CLIENTS as u64, fed.session.head.setup.clients),
+            numbers: CLIENT_WIDTH * up_to(MOST_CLIENTS as u64, fed.session.head.setup.clients),
         },
     }
 }

@@ -8,7 +8,7 @@ use progress::Progress;
 use spec::bounds::MOST_CLIENTS;
 use spec::bounds::MOST_RECORDS;
 use spec::types::Request;
-use table::clients::WIDTH;
+use table::clients::CLIENT_WIDTH;
 ghost use Rattle.session.specs.Standing.{reservedOf};
 ghost use Rattle.session_main.specs.Program.{Suffices, ProgramRan};
 
@@ -52,7 +52,7 @@ fn main() {
         number: 0,
         client: 0,
     }; MOST_RECORDS];
-    let mut clients = [0u32; WIDTH * MOST_CLIENTS];
+    let mut clients = [0u32; CLIENT_WIDTH * MOST_CLIENTS];
     let mut starts = [0u64; MOST_RECORDS];
     let mut buffer = [0u8; BUFFER];
     let mut out = [0u8; 4 * MOST_BYTES];

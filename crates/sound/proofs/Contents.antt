@@ -9,7 +9,7 @@ use lib.ListN.{length, take, drop, replicate}
 use Rattle.spec.specs.declared.types.Head.{Head}
 use Rattle.spec.specs.declared.types.Request.{Request}
 use Rattle.spec.specs.Every.{every, everyFrom}
-use Rattle.spec.specs.Tables.{mostClients, mostRecords, width, recordsOf, State, stateOf}
+use Rattle.spec.specs.Tables.{mostClients, mostRecords, clientWidth, recordsOf, State, stateOf}
 use Rattle.spec.specs.Sound.{isZeroRequest}
 use Rattle.spec.proofs.Laws.Sound.{Shaped, HeadWithin, head-facts}
 use Rattle.sound.specs.Checks.{tallySize, talliedOf, doesBalance, Bounded, Countable, Passed, headRefusal, tablesRefusal}
@@ -43,7 +43,7 @@ module _ (head : Head) (ws : List Request) (xs : List ℕ) where
         )
 
     pub balanced-asked : (tally : List ℕ) → length tally ≡ tallySize
-        → (width * head .setup .clients ≤ length xs) × (head .setup .clients ≤ mostClients) × (length tally ≡ tallySize)
+        → (clientWidth * head .setup .clients ≤ length xs) × (head .setup .clients ≤ mostClients) × (length tally ≡ tallySize)
     balanced-asked tally e = (omega (arith, shaped .numbers), headed .setup .most-clients, e)
 
     pub contents-told : (tally : List ℕ) (next zero balanced : Bool) (r : ℕ)

@@ -19,7 +19,7 @@ use Rattle.spec.specs.declared.types.Head.{Head}
 use Rattle.spec.specs.declared.types.Request.{Request}
 use Rattle.spec.specs.declared.types.Counts.{Counts}
 use Rattle.spec.specs.Every.{isWithin, every, everyFrom}
-use Rattle.spec.specs.Tables.{mostClients, mostRecords, mostCounted, State, width, recordsOf}
+use Rattle.spec.specs.Tables.{mostClients, mostRecords, mostCounted, State, clientWidth, recordsOf}
 use Rattle.spec.specs.Order.{comesBefore}
 use Rattle.spec.specs.Chart.{roomTo}
 use Rattle.spec.specs.Sound.{waitingOf, isZeroRequest, isBalanced}
@@ -115,13 +115,13 @@ module _ {A : Type 0} (b : Bool) (x : A) (xs l : List A) (whole : Bool) (e : l �
 
 -- ---- the clients from one index to another: one more of them, those up to an index and those from it on, and four more
 module _ (tally numbers : List ℕ) where
-  pub one-more : (b whole : Bool) (n i j : ℕ) → width * n ≤ length numbers → i < n → j ≡ i + 1
+  pub one-more : (b whole : Bool) (n i j : ℕ) → clientWidth * n ≤ length numbers → i < n → j ≡ i + 1
       → b && areBalancedFrom tally numbers i n ≡ whole
       → (b && balancesAt tally numbers i) && areBalancedFrom tally numbers j n ≡ whole
   one-more b whole n i j reach l e h =
       rw e (from-turn b _ _ _ whole (records-rest numbers n i l reach) (λ c k. doesBalance k (talliedOf tally c)) i h)
 
-  pub clients-parts : (k i n : ℕ) → width * n ≤ length numbers → i + k ≤ n
+  pub clients-parts : (k i n : ℕ) → clientWidth * n ≤ length numbers → i + k ≤ n
       → areBalancedFrom tally numbers i (i + k) && areBalancedFrom tally numbers (i + k) n ≡ areBalancedFrom tally numbers i n
   unfolding everyFrom
   clients-parts zero i n reach l = rw (add-zero i, rest-none (recordsOf numbers) i i (omega arith))
@@ -141,7 +141,7 @@ module _ (tally numbers : List ℕ) where
       (balancesAt tally numbers c && balancesAt tally numbers (c + 1))
       && (balancesAt tally numbers (c + 2) && balancesAt tally numbers (c + 3))
 
-  pub four-more : (b whole : Bool) (n i : ℕ) → width * n ≤ length numbers → i + 4 ≤ n
+  pub four-more : (b whole : Bool) (n i : ℕ) → clientWidth * n ≤ length numbers → i + 4 ≤ n
       → b && areBalancedFrom tally numbers i n ≡ whole
       → (b && doFourBalance i) && areBalancedFrom tally numbers (i + 4) n ≡ whole
   four-more b whole n i reach l h =
@@ -232,7 +232,7 @@ pub shape-facts : (s : State) → shapeOf s ≡ true → Shaped s
 unfolding hasShape
 shape-facts s e =
     let p = simp and-eq-true-iff at e in
-    let n = eqb-true (length (s .clientNumbers)) (width * s .head .setup .clients) (p .0 .1) in
+    let n = eqb-true (length (s .clientNumbers)) (clientWidth * s .head .setup .clients) (p .0 .1) in
     record {
       some-records = leb-true 1 (length (s .waitingTable)) (p .0 .0 .0);
       most-records = leb-true (length (s .waitingTable)) mostRecords (p .0 .0 .1);
@@ -252,7 +252,7 @@ ltb-not a b = go (value (leb b a))
 pub shape-refused : (s : State) → refusal4 s .holds ≡ not (shapeOf s)
 unfolding hasShape
 shape-refused s =
-    go (isWithin 1 mostRecords (length (s .waitingTable))) (eqb (length (s .clientNumbers)) (width * s .head .setup .clients))
+    go (isWithin 1 mostRecords (length (s .waitingTable))) (eqb (length (s .clientNumbers)) (clientWidth * s .head .setup .clients))
     (leb (s .head .waiting) (length (s .waitingTable))) (ltb-not (length (s .waitingTable)) (s .head .waiting))
   where
     go : (a b c : Bool) {l : Bool} → l ≡ not c → (not a || not b || l) ≡ not (a && b && c)

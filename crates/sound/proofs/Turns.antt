@@ -19,7 +19,7 @@ use Rattle.spec.specs.Sound.{waitingOf}
 use Rattle.spec.proofs.Laws.Every.{Value, is-true, is-false as not-passed, value, and-left, and-right}
 use Rattle.spec.proofs.Laws.Clients.{of, waitingOf-none, waitingOf-cons}
 use Rattle.sound.specs.Checks.{parts, talliedOf, countedIf, Countable, Bounded, PassState, turn, turns, recordBefore}
-use Rattle.sound.specs.Checks.{isNext, isNear, areNext, asked, Passed}
+use Rattle.sound.specs.Checks.{isNext, isNear, areNext, withLastNear, Passed}
 use Rattle.sound.proofs.RecordTests.{next-client}
 use Rattle.sound.proofs.Tally.{counted-more, counted-countable, fewer-countable}
 
@@ -108,7 +108,7 @@ module _ (head : Head) (ys : List Request) where
 pub pass-told : (head : Head) (ys : List Request) (m n : ℕ) (tally₀ tally₁ tally : List ℕ) (p r : Bool)
     → Bounded head n → n ≤ length ys → Countable n tally₀ → m ≤ n
     → (p, tally₁) ≡ turns head ys 0 m (true, tally₀)
-    → (r, tally) ≡ asked head (recordBefore ys n) (turns head ys m (n - m) (p, tally₁))
+    → (r, tally) ≡ withLastNear head (recordBefore ys n) (turns head ys m (n - m) (p, tally₁))
     → Passed head (take n ys) tally₀ r tally
 pass-told head ys m n tally₀ tally₁ tally p r within l few less first second =
     record {
@@ -122,10 +122,10 @@ pass-told head ys m n tally₀ tally₁ tally p r within l few less first second
           };
     }
   where
-    whole : (r, tally) ≡ asked head (recordBefore ys n) (turns head ys 0 n (true, tally₀))
+    whole : (r, tally) ≡ withLastNear head (recordBefore ys n) (turns head ys 0 n (true, tally₀))
     whole =
         second
-        ∙ ap (asked head (recordBefore ys n))
+        ∙ ap (withLastNear head (recordBefore ys n))
         (ap (turns head ys m (n - m)) first ∙ turns-join head ys 0 m (n - m) m n (true, tally₀) (omega arith) (omega arith))
 
 -- ---- bounds hold of fewer records too
@@ -203,8 +203,8 @@ module _ {head : Head} {ys : List Request} {start : ℕ} {s : PassState} {n i : 
 
   -- then the record before is the last of all, if all have passed
   pub asked-over : (all : ℕ) → n ≡ start + all → T (not (ltb i n && passed)) → {before : Request} → before ≡ recordBefore ys i
-      → (passed && isNear head (before .deadline), tally) ≡ asked head (recordBefore ys n) (turns head ys start all s)
-  asked-over all e over {before} f = last ∙ ap (asked head (recordBefore ys n)) (turns-over all e over)
+      → (passed && isNear head (before .deadline), tally) ≡ withLastNear head (recordBefore ys n) (turns head ys start all s)
+  asked-over all e over {before} f = last ∙ ap (withLastNear head (recordBefore ys n)) (turns-over all e over)
     where
       last : _≡_ {A = PassState} (passed && isNear head (before .deadline), tally)
           (passed && isNear head (recordBefore ys n .deadline), tally)

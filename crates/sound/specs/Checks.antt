@@ -10,7 +10,7 @@ use Rattle.spec.specs.declared.types.Request.{Request}
 use Rattle.spec.specs.declared.types.Counts.{Counts}
 use Rattle.spec.specs.Every.{isWithin, everyFrom}
 use Rattle.spec.specs.Tables.{mostClients, mostRecords, mostAhead, mostCounted, clockEnd, zeroRequest, zeroCounts, State}
-use Rattle.spec.specs.Tables.{width, recordsOf}
+use Rattle.spec.specs.Tables.{clientWidth, recordsOf}
 use Rattle.spec.specs.Setup.{firstMatch}
 use Rattle.spec.specs.Order.{comesBefore}
 use Rattle.spec.specs.Chart.{roomTo}
@@ -21,7 +21,7 @@ use Rattle.table.specs.Widths.{largest16}
 -- where refusal 4 does not hold: a waiting table of so many records and a client table of so many numbers fit the head
 unfoldable pub hasShape : Head → ℕ → ℕ → Bool
 hasShape head records numbers =
-    isWithin 1 mostRecords records && eqb numbers (width * head .setup .clients) && leb (head .waiting) records
+    isWithin 1 mostRecords records && eqb numbers (clientWidth * head .setup .clients) && leb (head .waiting) records
 
 -- the clauses of soundness that speak of waiting records, but for how far ahead a deadline is (`isNear`), of one record: its
 -- index, the record before it, the record
@@ -94,8 +94,8 @@ abbrev pub isNear : Head → ℕ → Bool
 isNear head deadline = leb deadline (head .clock + mostAhead)
 
 -- where the pass stands once its last record is asked whether it is near
-abbrev pub asked : Head → Request → PassState → PassState
-asked head last s = (s .0 && isNear head (last .deadline), s .1)
+abbrev pub withLastNear : Head → Request → PassState → PassState
+withLastNear head last s = (s .0 && isNear head (last .deadline), s .1)
 
 -- whether all of them are as they should be, the first with the index i; deadlines ascend, so that all are near if the last is
 unfoldable pub areNext : Head → ℕ → Request → List Request → Bool

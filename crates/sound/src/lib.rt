@@ -1,4 +1,3 @@
 // Soundness of the tables, each record and each client looked at once.
 pub mod check;
-pub mod record;
-pub mod tables;
+mod records;

@@ -59,8 +59,8 @@ openHead setup = record { setup = setup; clock = 0; last = 0; waiting = 0 }
 
 -- ---- the client table as numbers
 -- "The client table has one record a client: submitted, served, dropped": how many numbers a record is
-abbrev pub width : ℕ
-width = 3
+abbrev pub clientWidth : ℕ
+clientWidth = 3
 
 -- the record that three numbers are, and the numbers of a record ahead of others
 abbrev pub recordOf : ℕ → ℕ → ℕ → Counts

@@ -9,7 +9,7 @@ use borrow.Author.Tests.{lt-ltb}
 use lib.Dec.{ltb}
 use lib.ListN.{length, getD, set, drop, replicate}
 use Rattle.spec.specs.declared.types.Counts.{Counts}
-use Rattle.spec.specs.Tables.{zeroCounts, width, recordThen, recordsOf, numbersOf, change}
+use Rattle.spec.specs.Tables.{zeroCounts, clientWidth, recordThen, recordsOf, numbersOf, change}
 use Rattle.spec.specs.Calls.Tick.{isPeriodStart}
 use Rattle.table.specs.declared.clients.Count.{Count}
 use Rattle.table.specs.Widths.{largest32, saturatingNext}
@@ -57,8 +57,8 @@ changedAt-same f g zero (a ∷ b ∷ c ∷ xs) e = ap (λ (k : Counts). recordTh
 changedAt-same f g (suc i) (a ∷ b ∷ c ∷ xs) e = ap (λ (l : List ℕ). a ∷ b ∷ c ∷ l) (changedAt-same f g i xs e)
 
 -- ---- a record's three numbers written
-pub put-changed : (xs : List ℕ) (i : ℕ) (k : Counts) → width * i + 2 < length xs
-    → set (set (set xs (width * i) (k .submitted)) (width * i + 1) (k .served)) (width * i + 2) (k .dropped)
+pub put-changed : (xs : List ℕ) (i : ℕ) (k : Counts) → clientWidth * i + 2 < length xs
+    → set (set (set xs (clientWidth * i) (k .submitted)) (clientWidth * i + 1) (k .served)) (clientWidth * i + 2) (k .dropped)
     ≡ changedAt (λ _. k) i xs
 unfolding changedAt
 put-changed [] i k h = absurd (omega arith)

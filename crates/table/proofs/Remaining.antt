@@ -6,7 +6,7 @@ use native.Mathlib.Numerals.{add-one}
 use native.Mathlib.Omega.{arith}
 use lib.ListN.{length, getD, take, drop, length-take, drop-of-length-le}
 use lib.Seq.{drop-cons, getD-take}
-use Rattle.spec.specs.Tables.{zeroCounts, width, recordsOf}
+use Rattle.spec.specs.Tables.{zeroCounts, clientWidth, recordsOf}
 use Rattle.spec.proofs.Laws.Layout.{length-records}
 
 -- ---- what is left of the first n entries from a place on
@@ -20,6 +20,6 @@ module _ {A : Type 0} (xs : List A) (n i : ℕ) where
   rest-none h = drop-of-length-le (take n xs) {i = i} (omega (arith, length-take n xs))
 
 -- the same of the first n records of a client table, lent as its numbers
-pub records-rest : (xs : List ℕ) (n i : ℕ) → i < n → width * n ≤ length xs
+pub records-rest : (xs : List ℕ) (n i : ℕ) → i < n → clientWidth * n ≤ length xs
     → drop i (take n (recordsOf xs)) ≡ getD (recordsOf xs) i zeroCounts ∷ drop (i + 1) (take n (recordsOf xs))
 records-rest xs n i h l = rest-cons (recordsOf xs) n i zeroCounts h (omega (arith, length-records xs .1))

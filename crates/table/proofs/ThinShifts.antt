@@ -1,4 +1,4 @@
--- `table::moves::to_back` and `table::moves::to_front` as one: the function `thin` calls `shift` with constants, which `up` chooses, and meets
+-- `table::waiting::to_back` and `table::waiting::to_front` as one: the function `thin` calls `shift` with constants, which `up` chooses, and meets
 -- the contract that each of the two has at its `up`. D is the type of a request, as the code of each spells it.
 -- Assumes `Given`, and that `shift` meets its contract.
 use mir.Syntax.{Opd as Operand}
@@ -9,7 +9,7 @@ use Rattle.walk.proofs.Prelude.{heard, lent, taken, so, Shape, Walk, var, sets,
 use Rattle.table.specs.Records.{Shifted}
 use Rattle.table.proofs.Requests.{RequestT}
 use Rattle.table.proofs.MovedRecords.{asks, ShiftBounds}
-use Rattle.table.proofs.moves.shift as shift
+use Rattle.table.proofs.waiting.shift as shift
 
 -- operands that `up` chooses
 module _ {M : Type 1} {𝓤 : URA M} {H : Heap 𝓤} {A : Atoms 𝓤} {K : Type 0} {W : Given 𝓤 H A} {Γ : List (Item 𝓤)} {E : Env 𝓤 H} where

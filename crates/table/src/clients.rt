@@ -5,34 +5,34 @@ ghost use mathlib.Core.Path.{_≡_};
 ghost use Prim.Native.Nat.{_+_, _*_, _<_};
 ghost use lib.Dec.{eqb};
 ghost use lib.ListN.{length, getD, replicate};
-ghost use Rattle.spec.specs.Tables.{width, recordsOf, zeroCounts};
+ghost use Rattle.spec.specs.Tables.{clientWidth, recordsOf, zeroCounts};
 ghost use Rattle.table.specs.Clients.{changedAt, oneMoreUnlessFull, waitingCount};
 ghost use Rattle.table.specs.Widths.{largest32, saturatingNext};
 
 // How many numbers a record is.
-pub const WIDTH: usize = 3;
+pub const CLIENT_WIDTH: usize = 3;
 
 // How many whole records the numbers hold.
 pub fn record_count(numbers: &[u32]) -> usize
     ensures { λ r. ⌜ r ≡ length (recordsOf (now (numbers .entry))) ⌝ }
 {
-    numbers.len() / WIDTH
+    numbers.len() / CLIENT_WIDTH
 }
 
 // Whether so many numbers are one record for each of so many clients. By division, since a product of any number of clients might
 // not fit.
 pub fn are_records(count: usize, clients: u64) -> bool
-    ensures { λ r. ⌜ r ≡ eqb count (width * clients) ⌝ }
+    ensures { λ r. ⌜ r ≡ eqb count (clientWidth * clients) ⌝ }
 {
-    (count % WIDTH == 0) & ((count / WIDTH) as u64 == clients)
+    (count % CLIENT_WIDTH == 0) & ((count / CLIENT_WIDTH) as u64 == clients)
 }
 
 // The record at an index.
 pub fn get(numbers: &[u32], i: usize) -> Counts
-    requires { ⌜ width * i + 2 < length (now numbers) ⌝ }
+    requires { ⌜ clientWidth * i + 2 < length (now numbers) ⌝ }
     ensures { λ r. ⌜ r ≡ getD (recordsOf (now (numbers .entry))) i zeroCounts ⌝ }
 {
-    let at = WIDTH * i;
+    let at = CLIENT_WIDTH * i;
     Counts {
         submitted: numbers[at],
         served: numbers[at + 1],
@@ -42,10 +42,10 @@ pub fn get(numbers: &[u32], i: usize) -> Counts
 
 // Writes a record at an index.
 pub fn put(numbers: &mut [u32], i: usize, k: Counts)
-    requires { ⌜ width * i + 2 < length (now numbers) ⌝ }
+    requires { ⌜ clientWidth * i + 2 < length (now numbers) ⌝ }
     ensures { λ _. ⌜ now (numbers .exit) ≡ changedAt (λ _. k) i (now (numbers .entry)) ⌝ }
 {
-    let at = WIDTH * i;
+    let at = CLIENT_WIDTH * i;
     numbers[at] = k.submitted;
     numbers[at + 1] = k.served;
     numbers[at + 2] = k.dropped;

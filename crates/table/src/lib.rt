@@ -1,5 +1,4 @@
 // The two lent tables: the waiting records, and the client records with what a period's start makes of them.
 pub mod clients;
-mod moves;
 pub mod period;
 pub mod waiting;

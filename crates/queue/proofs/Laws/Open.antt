@@ -10,7 +10,7 @@ use lib.Seq.{drop-length}
 use Rattle.spec.specs.declared.types.Setup.{Setup}
 use Rattle.spec.specs.declared.types.Head.{Head}
 use Rattle.spec.specs.declared.types.Request.{Request}
-use Rattle.spec.specs.Tables.{zeroRequest, zeroCounts, State, clientTable, stateOf, numbersOf, width}
+use Rattle.spec.specs.Tables.{zeroRequest, zeroCounts, State, clientTable, stateOf, numbersOf, clientWidth}
 use Rattle.spec.specs.Setup.{firstMatch}
 use Rattle.spec.specs.Calls.Outcome.{refusing}
 use Rattle.spec.specs.Calls.Open.{openRefusals, openAccepted}
@@ -34,7 +34,7 @@ open-answers setup s found (e, h) =
         → replicate (length (s .clientNumbers)) 0 ≡ numbersOf (replicate (length (clientTable s)) zeroCounts)
     zeros z =
         let l = open-ready setup s z .lengths in
-        let e : length (s .clientNumbers) ≡ width * length (clientTable s) = omega (arith, l .numbers-length, l .clients-length) in
+        let e : length (s .clientNumbers) ≡ clientWidth * length (clientTable s) = omega (arith, l .numbers-length, l .clients-length) in
         rw e (numbers-zero (length (clientTable s)))
 
 module _ (head : Head) (ws : List Request) (xs : List ℕ) where

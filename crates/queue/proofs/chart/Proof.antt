@@ -10,7 +10,7 @@ use Rattle.queue.proofs.Laws.Chart.{within, chart-gives, output-charted
 use Rattle.sound.proofs.check.tables_refusal as tables-refusal
 use Rattle.decide.proofs.chart.refusal as chart-refusal
 use Rattle.decide.proofs.reply.unless_refused as unless-refused
-use Rattle.table.proofs.waiting.deadlines as deadlines
+use Rattle.occupancy.proofs.starts.deadlines as deadlines
 use Rattle.occupancy.proofs.starts.write_starts as write-starts
 use Rattle.decide.proofs.chart.reply as chart-reply
 use Rattle.queue.proofs.chart as f
@@ -68,7 +68,7 @@ chart-spec 𝓤 H 𝓜 𝓖 𝓡 =
         (
           (unless-refused.Symbol.routine, f.Code.calls-decide·reply·unless-refused, unless-refused.Met.met 𝓤 H 𝓜 𝓖 𝓡),
           (
-            (deadlines.Symbol.routine, f.Code.calls-table·waiting·deadlines, deadlines.Met.met 𝓤 H 𝓜 𝓖 𝓡),
+            (deadlines.Symbol.routine, f.Code.calls-occupancy·starts·deadlines, deadlines.Met.met 𝓤 H 𝓜 𝓖 𝓡),
             (
               (write-starts.Symbol.routine, f.Code.calls-occupancy·starts·write-starts, write-starts.Met.met 𝓤 H 𝓜 𝓖 𝓡),
               ((chart-reply.Symbol.routine, f.Code.calls-decide·chart·reply, chart-reply.Met.met 𝓤 H 𝓜 𝓖 𝓡), tt),

@@ -10,7 +10,7 @@ use lib.ListN.{length}
 use Rattle.slots.proofs.Laws.Tests.{Same, same-yes, same-no, same}
 use Rattle.spec.specs.declared.types.Setup.{Setup}
 use Rattle.spec.specs.Every.{isWithin}
-use Rattle.spec.specs.Tables.{mostRecords, mostClients, State, width}
+use Rattle.spec.specs.Tables.{mostRecords, mostClients, State, clientWidth}
 use Rattle.spec.specs.Setup.{Refusal, firstMatch, setupRefusals}
 use Rattle.spec.specs.Calls.Outcome.{Outcome, unlessRefused, refusing}
 use Rattle.spec.specs.Calls.Open.{openRefusals}
@@ -24,7 +24,7 @@ pub record TablesFit (s : Session) (waiting numbers starts : ℕ) : Type 0 where
   pub clients : s .head .setup .clients ≤ mostClients
   pub waiting-long : mostRecords ≤ waiting
   pub starts-long : mostRecords ≤ starts
-  pub numbers-long : width * mostClients ≤ numbers
+  pub numbers-long : clientWidth * mostClients ≤ numbers
 
 pub fit-facts : (s : Session) (waiting numbers starts : ℕ) → doFit s waiting numbers starts ≡ true
     → TablesFit s waiting numbers starts
@@ -36,7 +36,7 @@ fit-facts s waiting numbers starts e =
       clients = leb-true (s .head .setup .clients) mostClients (p .0 .1);
       waiting-long = leb-true mostRecords waiting (p .1 .0 .0);
       starts-long = leb-true mostRecords starts (p .1 .0 .1);
-      numbers-long = leb-true (width * mostClients) numbers (p .1 .1);
+      numbers-long = leb-true (clientWidth * mostClients) numbers (p .1 .1);
     }
 
 -- ---- lengths that a frame names
@@ -60,8 +60,8 @@ up-within most n = go (leb n most) refl
 
 -- so open is refused alike on tables as long as a frame names and on those that are lent
 pub open-match : (setup : Setup) (records : ℕ) (t u : State)
-    → length (t .waitingTable) ≡ upTo mostRecords records → length (t .clientNumbers) ≡ width * upTo mostClients (setup .clients)
-    → length (u .waitingTable) ≡ records → length (u .clientNumbers) ≡ width * setup .clients
+    → length (t .waitingTable) ≡ upTo mostRecords records → length (t .clientNumbers) ≡ clientWidth * upTo mostClients (setup .clients)
+    → length (u .waitingTable) ≡ records → length (u .clientNumbers) ≡ clientWidth * setup .clients
     → firstMatch (openRefusals setup t) ≡ firstMatch (openRefusals setup u)
 unfolding firstMatch setupRefusals openRefusals
 open-match setup records t u a b c d = go (value (leb (setup .clients) mostClients))

@@ -15,7 +15,7 @@ use Rattle.spec.specs.declared.types.Answer.the-variants.{Opened, Refused}
 use Rattle.spec.specs.declared.types.Head.{Head}
 use Rattle.spec.specs.declared.types.Request.{Request}
 use Rattle.spec.specs.Every.{gather}
-use Rattle.spec.specs.Tables.{mostRecords, mostClients, State, zeroRequest, zeroCounts, width, stateOf}
+use Rattle.spec.specs.Tables.{mostRecords, mostClients, State, zeroRequest, zeroCounts, clientWidth, stateOf}
 use Rattle.spec.specs.Calls.Readings.{isRefused}
 use Rattle.spec.specs.Calls.Outcome.{Outcome, refusing}
 use Rattle.spec.specs.Calls.Open.{openRefusals, openAccepted}
@@ -70,13 +70,13 @@ module _ (s : Session) (ws : List Request) (xs starts : List ℕ)
       (rw (le-leb (s .records) mostRecords (facts .records), le-leb (s .head .setup .clients) mostClients (facts .clients)) at fit)
 
   -- where as much is in use after the call as was lent to it, the parts that came back are in use
-  module _ {frame : Frame} {n c : ℕ} (h : LentParts frame n c) (records : n ≤ mostRecords) (numbers : c ≤ width * mostClients) where
-    stands : (k : ℕ) (rest : List Request) (others : List ℕ) → k ≡ n → width * r .head .setup .clients ≡ c
-        → stateOf (r .head) (take k (zs ++ rest)) (take (width * r .head .setup .clients) (ys ++ others)) ≡ left
+  module _ {frame : Frame} {n c : ℕ} (h : LentParts frame n c) (records : n ≤ mostRecords) (numbers : c ≤ clientWidth * mostClients) where
+    stands : (k : ℕ) (rest : List Request) (others : List ℕ) → k ≡ n → clientWidth * r .head .setup .clients ≡ c
+        → stateOf (r .head) (take k (zs ++ rest)) (take (clientWidth * r .head .setup .clients) (ys ++ others)) ≡ left
     stands k rest others d e =
         rw (
           take-at zs rest k (omega (arith, h .waiting-long, length-take n ws, facts .waiting-long)),
-          take-at ys others (width * r .head .setup .clients) (omega (arith, h .numbers-long, length-take c xs, facts .numbers-long)),
+          take-at ys others (clientWidth * r .head .setup .clients) (omega (arith, h .numbers-long, length-take c xs, facts .numbers-long)),
         )
 
   -- ---- every frame but open: what is in use is lent
@@ -89,7 +89,7 @@ module _ (s : Session) (ws : List Request) (xs starts : List ℕ)
         bytes = rw (heads, a .starts-same) (p .bytes) ∙ ap (λ (x : SessionReply). x .bytes) same-reply;
         after =
             stands h (facts .records) (omega (arith, facts .clients)) (recordsAfter frame (r .answer) (s .records))
-            (drop (recordsFor frame s) ws) (drop (numbersFor frame s) xs) records (ap (λ (n : ℕ). width * n) clients)
+            (drop (recordsFor frame s) ws) (drop (numbersFor frame s) xs) records (ap (λ (n : ℕ). clientWidth * n) clients)
             ∙ a .after-same
             ∙ p .after
             ∙ ap (λ (x : SessionReply). x .after) same-reply;
@@ -97,7 +97,7 @@ module _ (s : Session) (ws : List Request) (xs starts : List ℕ)
         draws = rw (a .starts-same) (p .draws);
       }
     where
-      h : LentParts frame (s .records) (width * s .head .setup .clients)
+      h : LentParts frame (s .records) (clientWidth * s .head .setup .clients)
       h =
           rw (up-same mostRecords (s .records) (facts .records), up-same mostClients (s .head .setup .clients) (facts .clients))
           at (rw none at handed)
@@ -126,7 +126,7 @@ module _ (s : Session) (ws : List Request) (xs starts : List ℕ)
     n = upTo mostRecords records
 
     abbrev c : ℕ
-    c = width * upTo mostClients (setup .clients)
+    c = clientWidth * upTo mostClients (setup .clients)
 
     abbrev opening : Frame
     opening = Open setup records
@@ -143,10 +143,10 @@ module _ (s : Session) (ws : List Request) (xs starts : List ℕ)
     numbers-lent : length (inCode .clientNumbers) ≡ c
     numbers-lent = omega (arith, length-take c xs, up-most mostClients (setup .clients), facts .numbers-long)
 
-    named : length (inSpec .clientNumbers) ≡ width * setup .clients
+    named : length (inSpec .clientNumbers) ≡ clientWidth * setup .clients
     named =
         length-numbers (replicate (setup .clients) zeroCounts)
-        ∙ ap (λ (n : ℕ). width * n) (length-replicate (setup .clients) zeroCounts)
+        ∙ ap (λ (n : ℕ). clientWidth * n) (length-replicate (setup .clients) zeroCounts)
 
     record GivenBack (o : Outcome) : Type 0 where
       answers-same : said r ≡ o .answers
@@ -173,7 +173,7 @@ module _ (s : Session) (ws : List Request) (xs starts : List ℕ)
               stands h (up-most mostRecords records) (omega (arith, up-most mostClients (setup .clients)))
               (recordsAfter opening (r .answer) (s .records)) (drop n ws) (drop c xs)
               (rw is-opened (sym same-records))
-              (ap (λ (t : State). width * t .head .setup .clients) (g .after-same) ∙ sym same-numbers)
+              (ap (λ (t : State). clientWidth * t .head .setup .clients) (g .after-same) ∙ sym same-numbers)
               ∙ g .after-same
               ∙ rw (
                 records-lent,
@@ -196,8 +196,8 @@ module _ (s : Session) (ws : List Request) (xs starts : List ℕ)
         same-records : n ≡ records
         same-records = up-same mostRecords records few
 
-        same-numbers : c ≡ width * setup .clients
-        same-numbers = ap (λ (n : ℕ). width * n) (up-same mostClients (setup .clients) (ready .within .most-clients))
+        same-numbers : c ≡ clientWidth * setup .clients
+        same-numbers = ap (λ (n : ℕ). clientWidth * n) (up-same mostClients (setup .clients) (ready .within .most-clients))
 
     -- refused: the parts come back as they were
     declines : (k : ℕ) → GivenBack (refusing k inCode) → Opens (refusing k inSpec)

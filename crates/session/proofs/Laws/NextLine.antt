@@ -14,7 +14,7 @@ use Rattle.spec.specs.declared.types.Answer.{Answer}
 use Rattle.spec.specs.declared.types.Answer.the-variants.{Opened, Kept, Dropped, Served, Idle, Reported, Charted, Refused}
 use Rattle.spec.specs.declared.types.Frame.{Frame}
 use Rattle.spec.specs.declared.types.Frame.the-variants.{Open, Submit, Tick, Report, Chart, Bad}
-use Rattle.spec.specs.Tables.{mostRecords, mostClients, width}
+use Rattle.spec.specs.Tables.{mostRecords, mostClients, clientWidth}
 use Rattle.spec.specs.Calls.Readings.{isRefused, reading}
 use Rattle.spec.specs.Lines.Frames.{frameOf, answerLine, longestFrame}
 use Rattle.spec.specs.Lines.Session.{textOf, task}
@@ -172,7 +172,7 @@ names-none Bad h = refl
 module _ (f : Frame) (others : OneOf (1 ∷ 2 ∷ 3 ∷ 4 ∷ 5 ∷ []) (tagOf frames.the-type f)) where
   -- any other is lent what is in use
   pub share-other : (s : Session)
-      → (recordsFor f s ≡ upTo mostRecords (s .records)) × (numbersFor f s ≡ width * upTo mostClients (s .head .setup .clients))
+      → (recordsFor f s ≡ upTo mostRecords (s .records)) × (numbersFor f s ≡ clientWidth * upTo mostClients (s .head .setup .clients))
   unfolding recordsFor numbersFor
   share-other s = rw (names-none f others) (refl, refl)
 

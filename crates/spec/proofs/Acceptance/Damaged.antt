@@ -12,7 +12,7 @@ use Rattle.spec.specs.declared.types.Request.{Request}
 use Rattle.spec.specs.declared.types.Counts.{Counts}
 use Rattle.spec.specs.Every.{isWithin, every, everyFrom}
 use Rattle.spec.specs.Tables.{mostRecords, clockEnd, zeroRequest, zeroCounts, State, waiting, behind, holding}
-use Rattle.spec.specs.Tables.{clientTable, numbersOf, width}
+use Rattle.spec.specs.Tables.{clientTable, numbersOf, clientWidth}
 use Rattle.spec.specs.Setup.{firstMatch, setupRefusals}
 use Rattle.spec.specs.Order.{isInOrder}
 use Rattle.spec.specs.Chart.{hasNoOverfull}
@@ -47,7 +47,7 @@ tested clause holds = record { clause = clause; holds = holds }
 abbrev shapeTests : State → List ClauseTest
 shapeTests s =
     tested waiting-length (isWithin 1 mostRecords (length (s .waitingTable)))
-    ∷ tested client-length (eqb (length (s .clientNumbers)) (width * s .head .setup .clients))
+    ∷ tested client-length (eqb (length (s .clientNumbers)) (clientWidth * s .head .setup .clients))
     ∷ tested waiting-count (not (ltb (length (s .waitingTable)) (s .head .waiting)))
     ∷ []
 
@@ -70,7 +70,7 @@ areMet ts = every (λ t. t .holds) ts
 pub shape-clauses : (s : State) → refusal4 s .holds ≡ not (areMet (shapeTests s))
 unfolding every
 shape-clauses s =
-    go (isWithin 1 mostRecords (length (s .waitingTable))) (eqb (length (s .clientNumbers)) (width * s .head .setup .clients))
+    go (isWithin 1 mostRecords (length (s .waitingTable))) (eqb (length (s .clientNumbers)) (clientWidth * s .head .setup .clients))
     (ltb (length (s .waitingTable)) (s .head .waiting))
   where
     go : (a b c : Bool) → (not a || not b || c) ≡ not (a && (b && (not c && true)))

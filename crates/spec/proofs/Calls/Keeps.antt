@@ -14,7 +14,7 @@ use Rattle.spec.specs.declared.types.Request.{Request}
 use Rattle.spec.specs.declared.types.Counts.{Counts}
 use Rattle.spec.specs.Every.{mapFrom}
 use Rattle.spec.specs.Tables.{mostCounted, clockEnd, numberEnd, zeroRequest, zeroCounts, State, waiting}
-use Rattle.spec.specs.Tables.{clientTable, width, nextState, change, oneMoreSubmitted, oneMoreServed, oneMoreDropped}
+use Rattle.spec.specs.Tables.{clientTable, clientWidth, nextState, change, oneMoreSubmitted, oneMoreServed, oneMoreDropped}
 use Rattle.spec.specs.Setup.{firstMatch}
 use Rattle.spec.specs.Order.{putInOrder, removeAt}
 use Rattle.spec.specs.Chart.{dueBy, hasNoOverfull, isCandidate}
@@ -73,7 +73,7 @@ next-ready clock last ws cs s r c l n t f =
           record {
             some-records = omega (arith, next-length clock last ws cs s n, r .shape .some-records);
             most-records = omega (arith, next-length clock last ws cs s n, r .shape .most-records);
-            numbers = length-numbers cs ∙ ap (λ (n : ℕ). width * n) (t .counted);
+            numbers = length-numbers cs ∙ ap (λ (n : ℕ). clientWidth * n) (t .counted);
             clients = ap length (records-numbers cs) ∙ t .counted;
             waits = omega (arith, next-length clock last ws cs s n);
           };
@@ -104,7 +104,7 @@ open-keeps setup s r =
           record {
             some-records = omega (arith, length-replicate (length (s .waitingTable)) zeroRequest, r .lengths .some-records);
             most-records = omega (arith, length-replicate (length (s .waitingTable)) zeroRequest, r .lengths .most-records);
-            numbers = length-numbers none ∙ ap (λ (n : ℕ). width * n) (same-many ∙ r .lengths .clients-length);
+            numbers = length-numbers none ∙ ap (λ (n : ℕ). clientWidth * n) (same-many ∙ r .lengths .clients-length);
             clients = ap length (records-numbers none) ∙ same-many ∙ r .lengths .clients-length;
             waits = omega arith;
           };

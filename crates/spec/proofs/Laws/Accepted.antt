@@ -15,7 +15,7 @@ use Rattle.spec.specs.declared.types.Counts.{Counts}
 use Rattle.spec.specs.declared.types.Request.{Request}
 use Rattle.spec.specs.declared.types.Answer.the-variants.{Refused}
 use Rattle.spec.specs.Every.{isWithin}
-use Rattle.spec.specs.Tables.{mostRecords, mostCounted, clockEnd, numberEnd, mostAhead, clientTable, width, zeroRequest}
+use Rattle.spec.specs.Tables.{mostRecords, mostCounted, clockEnd, numberEnd, mostAhead, clientTable, clientWidth, zeroRequest}
 use Rattle.spec.specs.Tables.{zeroCounts, State, waiting, behind, holding, nextState, change, oneMoreDropped}
 use Rattle.spec.specs.Tables.{oneMoreServed}
 use Rattle.spec.specs.Setup.{Refusal, firstMatch}
@@ -51,14 +51,14 @@ decided rs s o = go (eqb (firstMatch rs) 0) (same (firstMatch rs) 0)
 pub record RightLengths (clients : ℕ) (s : State) : Type 0 where
   pub some-records : 1 ≤ length (s .waitingTable)
   pub most-records : length (s .waitingTable) ≤ mostRecords
-  pub numbers-length : length (s .clientNumbers) ≡ width * clients
+  pub numbers-length : length (s .clientNumbers) ≡ clientWidth * clients
   pub clients-length : length (clientTable s) ≡ clients
 
 lengths : (clients : ℕ) (s : State) → isMisshapen clients s ≡ false → RightLengths clients s
 lengths clients s e =
-    let p = or-none (not (isWithin 1 mostRecords (length (s .waitingTable)))) (not (eqb (length (s .clientNumbers)) (width * clients))) e in
+    let p = or-none (not (isWithin 1 mostRecords (length (s .waitingTable)))) (not (eqb (length (s .clientNumbers)) (clientWidth * clients))) e in
     let w = within-refused 1 mostRecords (length (s .waitingTable)) (p .0) in
-    let n = eqb-true (length (s .clientNumbers)) (width * clients) (not-false (eqb (length (s .clientNumbers)) (width * clients)) (p .1)) in
+    let n = eqb-true (length (s .clientNumbers)) (clientWidth * clients) (not-false (eqb (length (s .clientNumbers)) (clientWidth * clients)) (p .1)) in
     record {
       some-records = w .0;
       most-records = w .1;
@@ -83,7 +83,7 @@ pub shaped-test : (s : State) → Shaped s → refusal4 s .holds ≡ false
 shaped-test s f =
     rw (
       within-test 1 mostRecords (length (s .waitingTable)) (f .some-records) (f .most-records),
-      eq-eqb (length (s .clientNumbers)) (width * s .head .setup .clients) (f .numbers),
+      eq-eqb (length (s .clientNumbers)) (clientWidth * s .head .setup .clients) (f .numbers),
       le-ltb (length (s .waitingTable)) (s .head .waiting) (f .waits),
     )
 

@@ -15,7 +15,7 @@ use Rattle.spec.specs.declared.types.Request.{Request}
 use Rattle.spec.specs.declared.types.Counts.{Counts}
 use Rattle.spec.specs.Every.{isWithin, every}
 use Rattle.spec.specs.Tables.{mostClients, mostRecords, mostCounted, clockEnd, numberEnd, mostPeriod, mostAhead}
-use Rattle.spec.specs.Tables.{clientTable, width, zeroRequest, zeroCounts, State, waiting, behind}
+use Rattle.spec.specs.Tables.{clientTable, clientWidth, zeroRequest, zeroCounts, State, waiting, behind}
 use Rattle.spec.specs.Setup.{Refusal, firstMatch, refusal2, refusal3, setupRefusals}
 use Rattle.spec.specs.Sound.{isHeadWithin, isAhead, isGiven, isClient, isZeroRequest, waitingOf, isBalanced, isSound}
 use Rattle.spec.proofs.Laws.Every.{and-left, and-right, and-both, every-facts, every-test, everyFrom-facts}
@@ -130,7 +130,7 @@ zeros-all rs e = ap (every isZeroRequest) e ∙ zeros-test (length rs)
 pub record Shaped (s : State) : Type 0 where
   pub some-records : 1 ≤ length (s .waitingTable)
   pub most-records : length (s .waitingTable) ≤ mostRecords
-  pub numbers : length (s .clientNumbers) ≡ width * s .head .setup .clients
+  pub numbers : length (s .clientNumbers) ≡ clientWidth * s .head .setup .clients
   pub clients : length (clientTable s) ≡ s .head .setup .clients
   pub waits : s .head .waiting ≤ length (s .waitingTable)
 

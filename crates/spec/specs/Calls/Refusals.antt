@@ -6,7 +6,7 @@ use mathlib.Core.List.{List}
 use lib.Dec.{ltb, eqb}
 use lib.ListN.{length, getD}
 use Rattle.spec.specs.Every.{isWithin}
-use Rattle.spec.specs.Tables.{mostRecords, mostCounted, clockEnd, numberEnd, zeroCounts, State, clientTable, width}
+use Rattle.spec.specs.Tables.{mostRecords, mostCounted, clockEnd, numberEnd, zeroCounts, State, clientTable, clientWidth}
 use Rattle.spec.specs.Setup.{Refusal}
 use Rattle.spec.specs.Sound.{isAhead, isClient, isSound}
 
@@ -14,7 +14,7 @@ use Rattle.spec.specs.Sound.{isAhead, isClient, isSound}
 -- clients (in open, the number given)."
 abbrev pub isMisshapen : ℕ → State → Bool
 isMisshapen clients s =
-    not (isWithin 1 mostRecords (length (s .waitingTable))) || not (eqb (length (s .clientNumbers)) (width * clients))
+    not (isWithin 1 mostRecords (length (s .waitingTable))) || not (eqb (length (s .clientNumbers)) (clientWidth * clients))
 
 abbrev pub refusal4Open : ℕ → State → Refusal
 refusal4Open clients s = record { number = 4; holds = isMisshapen clients s }

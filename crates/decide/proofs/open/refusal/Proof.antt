@@ -8,7 +8,7 @@ use borrow.Author.Tests.{not-true, not-false}
 use lib.Dec.{eqb}
 use lib.ListN.{length, length-replicate}
 use Rattle.spec.specs.Every.{isWithin}
-use Rattle.spec.specs.Tables.{mostRecords, zeroRequest, width, State}
+use Rattle.spec.specs.Tables.{mostRecords, zeroRequest, clientWidth, State}
 use Rattle.spec.specs.Setup.{firstMatch, setupRefusals}
 use Rattle.spec.specs.Calls.Refusals.{refusal4Open}
 use Rattle.spec.specs.Calls.Open.{openRefusals}
@@ -20,7 +20,7 @@ use Rattle.decide.proofs.open.refusal.Tie as tie
 
 -- "4. .. the waiting table has no records or more than 2,048": or else the client table decides
 by-owners : (clients : ℕ) (s : State) → not (isWithin 1 mostRecords (length (s .waitingTable))) ≡ false
-    → refusal4Open clients s .holds ≡ not (eqb (length (s .clientNumbers)) (width * clients))
+    → refusal4Open clients s .holds ≡ not (eqb (length (s .clientNumbers)) (clientWidth * clients))
 by-owners clients s e = rw e
 
 setup-refusal-requires : tie.Need-setup-refusal-requires
@@ -47,12 +47,12 @@ returns-2 c =
 -- .. and past the length of the waiting table that of the client table
 by-accounts : (c : tie.Else2) → let a = c .before .before .before .args in
     refusal4Open (a .setup .clients) (openTold (a .setup) (a .records) (a .numbers)) .holds
-    ≡ not (eqb (a .numbers) (width * a .setup .clients))
+    ≡ not (eqb (a .numbers) (clientWidth * a .setup .clients))
 by-accounts c =
     let a = c .before .before .before .args in
     by-owners (a .setup .clients) (openTold (a .setup) (a .records) (a .numbers))
     (rw (length-replicate (a .records) zeroRequest) (c .if2 .left))
-    ∙ ap (λ (n : ℕ). not (eqb n (width * a .setup .clients))) (length-replicate {A = ℕ} (a .numbers) 0)
+    ∙ ap (λ (n : ℕ). not (eqb n (clientWidth * a .setup .clients))) (length-replicate {A = ℕ} (a .numbers) 0)
 
 are-records-requires : tie.Need-are-records-requires
 are-records-requires c κs = search needs

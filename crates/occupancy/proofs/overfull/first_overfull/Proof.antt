@@ -13,7 +13,7 @@ use Rattle.table.proofs.Requests.{RequestT, a-request, deadline-fits}
 use Rattle.table.proofs.Heads.{a-head, the-head}
 use Rattle.table.proofs.MovedRecords.{not-not}
 use Rattle.table.proofs.waiting.get as get
-use Rattle.occupancy.proofs.room.has_room as has-room
+use Rattle.occupancy.proofs.overfull.has_room as has-room
 use Rattle.occupancy.specs.Scans.{overfullFrom}
 use Rattle.occupancy.proofs.Searches.{overfull-here, overfull-next, overfull-none}
 use Rattle.occupancy.proofs.overfull.first_overfull as f
@@ -85,6 +85,6 @@ pub first-overfull-spec : {M : Type 1} → f.Statement.statement M
 unfolding f.Code.routine
 first-overfull-spec 𝓤 H 𝓜 𝓖 𝓡 =
     proved 𝓤 H 𝓜 𝓖 𝓡 (shape 𝓤 H) (walk 𝓤 H) f.Code.env f.Key.name (f.Code.unfolded 𝓤 H 𝓜 𝓡) (
-      (has-room.Symbol.routine, f.Code.calls-occupancy·room·has-room, has-room.Met.met 𝓤 H 𝓜 𝓖 𝓡),
+      (has-room.Symbol.routine, f.Code.calls-occupancy·overfull·has-room, has-room.Met.met 𝓤 H 𝓜 𝓖 𝓡),
       ((get.Symbol.routine, f.Code.calls-table·waiting·get, get.Met.met 𝓤 H 𝓜 𝓖 𝓡), tt),
     )

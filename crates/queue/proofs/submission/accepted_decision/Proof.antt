@@ -16,10 +16,10 @@ use Rattle.table.proofs.Heads.{a-head, the-head, waiting-fits}
 use Rattle.table.proofs.Requests.{RequestT}
 use Rattle.occupancy.proofs.overfull.due_by as due-by
 use Rattle.occupancy.proofs.overfull.first_overfull as first-overfull
-use Rattle.occupancy.proofs.victim.candidates as candidates
-use Rattle.occupancy.proofs.room.smaller as smaller
-use Rattle.occupancy.proofs.victim.note_last_of_each as mark
-use Rattle.occupancy.proofs.victim.note as note
+use Rattle.occupancy.proofs.overfull.candidates as candidates
+use Rattle.occupancy.proofs.overfull.smaller as smaller
+use Rattle.occupancy.proofs.overfull.note_last_of_each as mark
+use Rattle.occupancy.proofs.overfull.note as note
 use Rattle.decide.proofs.submit.choice as submit-choice
 use Rattle.queue.proofs.submission.accepted_decision as f
 
@@ -118,13 +118,13 @@ accepted-decision-spec 𝓤 H 𝓜 𝓖 𝓡 =
       (
         (first-overfull.Symbol.routine, f.Code.calls-occupancy·overfull·first-overfull, first-overfull.Met.met 𝓤 H 𝓜 𝓖 𝓡),
         (
-          (candidates.Symbol.routine, f.Code.calls-occupancy·victim·candidates, candidates.Met.met 𝓤 H 𝓜 𝓖 𝓡),
+          (candidates.Symbol.routine, f.Code.calls-occupancy·overfull·candidates, candidates.Met.met 𝓤 H 𝓜 𝓖 𝓡),
           (
-            (smaller.Symbol.routine, f.Code.calls-occupancy·room·smaller, smaller.Met.met 𝓤 H 𝓜 𝓖 𝓡),
+            (smaller.Symbol.routine, f.Code.calls-occupancy·overfull·smaller, smaller.Met.met 𝓤 H 𝓜 𝓖 𝓡),
             (
-              (mark.Symbol.routine, f.Code.calls-occupancy·victim·note-last-of-each, mark.Met.met 𝓤 H 𝓜 𝓖 𝓡),
+              (mark.Symbol.routine, f.Code.calls-occupancy·overfull·note-last-of-each, mark.Met.met 𝓤 H 𝓜 𝓖 𝓡),
               (
-                (note.Symbol.routine, f.Code.calls-occupancy·victim·note, note.Met.met 𝓤 H 𝓜 𝓖 𝓡),
+                (note.Symbol.routine, f.Code.calls-occupancy·overfull·note, note.Met.met 𝓤 H 𝓜 𝓖 𝓡),
                 ((submit-choice.Symbol.routine, f.Code.calls-decide·submit·choice, submit-choice.Met.met 𝓤 H 𝓜 𝓖 𝓡), tt),
               ),
             ),

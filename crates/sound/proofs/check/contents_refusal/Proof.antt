@@ -7,9 +7,9 @@ use Rattle.spec.specs.declared.types.Request.{Request}
 use Rattle.table.proofs.Requests.{RequestT}
 use Rattle.table.proofs.Heads.{the-head, clients-fit, waiting-fits, a-head}
 use Rattle.sound.proofs.Contents.{next-asked, balanced-asked, contents-told}
-use Rattle.sound.proofs.tables.are_next as are-next
-use Rattle.sound.proofs.tables.are_zero as are-zero
-use Rattle.sound.proofs.tables.are_balanced as are-balanced
+use Rattle.sound.proofs.records.are_next as are-next
+use Rattle.sound.proofs.records.are_zero as are-zero
+use Rattle.sound.proofs.check.are_balanced as are-balanced
 use Rattle.sound.proofs.check.verdict as verdict
 use Rattle.sound.proofs.check.contents_refusal as f
 
@@ -71,11 +71,11 @@ pub contents-refusal-spec : {M : Type 1} → f.Statement.statement M
 unfolding f.Code.routine
 contents-refusal-spec 𝓤 H 𝓜 𝓖 𝓡 =
     proved 𝓤 H 𝓜 𝓖 𝓡 (shape 𝓤 H) (walk 𝓤 H) f.Code.env f.Key.name (f.Code.unfolded 𝓤 H 𝓜 𝓡) (
-      (are-next.Symbol.routine, f.Code.calls-sound·tables·are-next, are-next.Met.met 𝓤 H 𝓜 𝓖 𝓡),
+      (are-next.Symbol.routine, f.Code.calls-sound·records·are-next, are-next.Met.met 𝓤 H 𝓜 𝓖 𝓡),
       (
-        (are-zero.Symbol.routine, f.Code.calls-sound·tables·are-zero, are-zero.Met.met 𝓤 H 𝓜 𝓖 𝓡),
+        (are-zero.Symbol.routine, f.Code.calls-sound·records·are-zero, are-zero.Met.met 𝓤 H 𝓜 𝓖 𝓡),
         (
-          (are-balanced.Symbol.routine, f.Code.calls-sound·tables·are-balanced, are-balanced.Met.met 𝓤 H 𝓜 𝓖 𝓡),
+          (are-balanced.Symbol.routine, f.Code.calls-sound·check·are-balanced, are-balanced.Met.met 𝓤 H 𝓜 𝓖 𝓡),
           ((verdict.Symbol.routine, f.Code.calls-sound·check·verdict, verdict.Met.met 𝓤 H 𝓜 𝓖 𝓡), tt),
         ),
       ),

@@ -9,7 +9,7 @@ use Rattle.table.specs.Records.{areIn}
 use Rattle.table.proofs.Requests.{RequestT, mach, lawful, a-request, request}
 use Rattle.table.proofs.MovedRecords.{not-not, untouched, both-in, puts-for}
 use Rattle.table.proofs.waiting.get as get
-use Rattle.table.proofs.moves.move_between as move-between
+use Rattle.table.proofs.waiting.move_between as move-between
 use Rattle.table.proofs.waiting.put as put
 use Rattle.table.proofs.waiting.replace as f
 
@@ -63,7 +63,7 @@ replace-spec 𝓤 H 𝓜 𝓖 𝓡 =
     proved 𝓤 H 𝓜 𝓖 𝓡 (shape 𝓤 H) (walk 𝓤 H) f.Code.env f.Key.name (f.Code.unfolded 𝓤 H 𝓜 𝓡) (
       (get.Symbol.routine, f.Code.calls-table·waiting·get, get.Met.met 𝓤 H 𝓜 𝓖 𝓡),
       (
-        (move-between.Symbol.routine, f.Code.calls-table·moves·move-between, move-between.Met.met 𝓤 H 𝓜 𝓖 𝓡),
+        (move-between.Symbol.routine, f.Code.calls-table·waiting·move-between, move-between.Met.met 𝓤 H 𝓜 𝓖 𝓡),
         ((put.Symbol.routine, f.Code.calls-table·waiting·put, put.Met.met 𝓤 H 𝓜 𝓖 𝓡), tt),
       ),
     )

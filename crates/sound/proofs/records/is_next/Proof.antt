@@ -1,0 +1,68 @@
+-- `sound::records::is_next` meets its contract. Assumes nothing.
+use mathlib.Core.Path.{sym, _∙_}
+use mathlib.Core.Bool.{and-false}
+use native.Mathlib.Omega.{arith}
+use Prim.Native.Nat.{_≤_}
+use lib.Dec.{leb}
+use borrow.Author.Needs.{needs}
+use borrow.Author.Tests.{ltb-true, le-ltb, lt-leb, not-true, not-false}
+use Rattle.sound.specs.Checks.{isNext}
+use Rattle.sound.proofs.RecordTests.{room-some, next-order, one-comparison, one-at-most}
+use Rattle.sound.proofs.records.is_next.Statement.{statement}
+use Rattle.sound.proofs.records.is_next.Tie as tie
+
+returns : tie.Need-returns
+unfolding isNext
+returns c = rw (lt-leb _ _ (c .if1 .taken))
+
+returns-2 : tie.Need-returns-2
+unfolding isNext
+returns-2 c = simp (lt-leb _ _ (c .if2 .taken), and-false)
+
+returns-3 : tie.Need-returns-3
+unfolding isNext
+returns-3 c = simp (le-ltb _ _ (c .if3 .taken), and-false)
+
+has-room-requires : tie.Need-has-room-requires
+has-room-requires c κs = search needs
+
+returns-4 : tie.Need-returns-4
+unfolding isNext
+returns-4 c = simp (sym (c .before .has-room .ensures) ∙ not-true _ (c .if4 .taken), and-false)
+
+cast-result : tie.Need-cast-result
+cast-result c = search needs
+
+-- the last test is behind all others: w's deadline has room, so that there is one
+has-one : (c : tie.Else4) →
+    let a = c .before .before .before .before .before .before .before .before .before .before .args in
+    1 ≤ a .w .deadline
+has-one c =
+    room-some (c .before .before .before .before .before .before .before .before .before .before .args .head) _ _
+    (ltb-true _ _ (sym (c .before .has-room .ensures) ∙ not-false _ (c .if4 .left)))
+
+sub-result : tie.Need-sub-result
+sub-result c =
+    let a = c .before .before .before .before .before .before .before .before .before .before .before .before .before .args in
+    one-at-most (leb (a .w .number) (a .before .number)) (a .w .deadline) (has-one (c .before .before .before))
+
+returns-5 : tie.Need-returns-5
+returns-5 c =
+    let e = c .before .before .before .before in
+    let a = e .before .before .before .before .before .before .before .before .before .before .args in
+    one-comparison (a .before) (a .w) (has-one e)
+    ∙ sym (next-order _ _ _ _ (omega arith) (omega arith) (omega arith)
+    (sym (e .before .has-room .ensures) ∙ not-false _ (e .if4 .left)))
+
+pub is-next-spec : {M : Type 1} → statement M
+is-next-spec =
+    tie.close
+    (tie.spec
+    returns
+    returns-2
+    returns-3
+    has-room-requires
+    returns-4
+    cast-result
+    sub-result
+    returns-5)
