@@ -23,11 +23,8 @@ pub fn refusal(tables: u64, head: Head, entries: usize) -> u64
 pub fn reply(head: Head, refusal: u64) -> Reply
     ensures { λ r. ⌜ r ≡ chartReply refusal head ⌝ }
 {
-    if refusal != 0 {
-        return reply::refused(head, refusal);
-    }
     let answer = Answer::Charted {
         count: head.waiting,
     };
-    Reply { head, answer }
+    reply::unless(refusal, head, Reply { head, answer })
 }

@@ -41,9 +41,6 @@ pub fn clear_counts(numbers: &mut [u32], refusal: u64)
 pub fn reply(head: Head, refusal: u64, setup: Setup) -> Reply
     ensures { λ r. ⌜ r ≡ openReply refusal head setup ⌝ }
 {
-    if refusal != 0 {
-        return reply::refused(head, refusal);
-    }
     let opened = Head {
         setup,
         clock: 0,
@@ -51,8 +48,9 @@ pub fn reply(head: Head, refusal: u64, setup: Setup) -> Reply
         waiting: 0,
     };
     let answer = Answer::Opened;
-    Reply {
+    let accepted = Reply {
         head: opened,
         answer,
-    }
+    };
+    reply::unless(refusal, head, accepted)
 }

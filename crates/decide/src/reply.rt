@@ -5,20 +5,30 @@ ghost use mathlib.Core.Path.{_≡_};
 ghost use mathlib.Core.Bool.{cond};
 ghost use lib.Dec.{eqb};
 ghost use Rattle.table.specs.Widths.{largest64, saturatingNext};
-ghost use Rattle.decide.specs.Reply.{refusedWith};
+ghost use Rattle.decide.specs.Reply.{refusedWith, replyUnless};
 
-// The head, and beside it the answer.
+// The head after the call, and beside it the answer.
 pub struct Reply {
     pub head: Head,
     pub answer: Answer,
 }
 
-// A refused call's.
+// A refused call hands the head back as it was, and answers with its number only.
 pub(crate) fn refused(head: Head, number: u64) -> Reply
     ensures { λ r. ⌜ r ≡ refusedWith head number ⌝ }
 {
     let answer = Answer::Refused { number };
     Reply { head, answer }
+}
+
+// What a call hands back that does `accepted` where it is not refused.
+pub fn unless(refusal: u64, head: Head, accepted: Reply) -> Reply
+    ensures { λ r. ⌜ r ≡ replyUnless refusal head accepted ⌝ }
+{
+    if refusal != 0 {
+        return refused(head, refusal);
+    }
+    accepted
 }
 
 // So many records of the table, or none where the call is refused.

@@ -27,9 +27,6 @@ pub fn reply(head: Head, numbers: &[u32], refusal: u64, client: u64) -> Reply
     ensures { λ r. ⌜ r ≡ reportReply refusal head client
         (getD (recordsOf (now (numbers .entry))) client zeroCounts) ⌝ }
 {
-    if refusal != 0 {
-        return reply::refused(head, refusal);
-    }
     let k = clients::counts_at(numbers, client);
     let waiting = clients::waiting_count(k);
     let answer = Answer::Reported {
@@ -39,5 +36,5 @@ pub fn reply(head: Head, numbers: &[u32], refusal: u64, client: u64) -> Reply
         dropped: k.dropped as u64,
         waiting,
     };
-    Reply { head, answer }
+    reply::unless(refusal, head, Reply { head, answer })
 }

@@ -107,13 +107,11 @@ fn answer(head: Head, gone: Request) -> Answer
 pub fn reply(head: Head, refusal: u64, gone: Request) -> Reply
     ensures { λ r. ⌜ r ≡ tickReply refusal head gone ⌝ }
 {
-    if refusal != 0 {
-        return reply::refused(head, refusal);
-    }
     let said = answer(head, gone);
     let after = head_after_tick(head);
-    Reply {
+    let accepted = Reply {
         head: after,
         answer: said,
-    }
+    };
+    reply::unless(refusal, head, accepted)
 }

@@ -14,19 +14,17 @@ use Rattle.spec.specs.declared.types.Answer.the-variants.{Charted}
 use Rattle.spec.specs.Tables.{State, waiting, stateOf, deadlinesOf}
 use Rattle.spec.specs.Setup.{firstMatch}
 use Rattle.spec.specs.Chart.{startsOf}
-use Rattle.spec.specs.Calls.Outcome.{refusing}
 use Rattle.spec.specs.Calls.Chart.{chartRefusals, chartAccepted, chartOutput}
-use Rattle.spec.specs.Calls.Call.{chart, outcomeOf}
+use Rattle.spec.specs.Calls.Call.{chart}
 use Rattle.spec.proofs.Laws.Accepted.{ChartReady, chart-ready, waiting-length}
 use Rattle.spec.proofs.Calls.Refused.{length-starts, Written, untouched, written, output-written}
 use Rattle.occupancy.specs.Charted.{startSlots}
 use Rattle.occupancy.proofs.StartsAndSegments.{starts-column}
 use Rattle.sound.specs.Checks.{tablesRefusal}
-use Rattle.decide.specs.Reply.{refusedWith}
 use Rattle.decide.specs.Chart.{chartMatch, chartReply}
-use Rattle.queue.specs.Gives.{Reply, said, Gives}
+use Rattle.queue.specs.Gives.{Reply, Gives}
 use Rattle.queue.proofs.Laws.Refusals.{chart-told}
-use Rattle.queue.proofs.Laws.Replies.{answers, unless-within, unchanged, given}
+use Rattle.queue.proofs.Laws.Replies.{unless-within, read-gives}
 
 -- ---- an accepted chart's output: the start slots of the waiting requests' deadlines, and what stood beyond
 charted : (output : List ℕ) (s : State) → firstMatch (chartRefusals output s) ≡ 0
@@ -39,17 +37,6 @@ charted output s z = go (output-written output s)
     go : {l : List ℕ} → Written output s l → startSlots (s .head .setup) (deadlinesOf (waiting s)) ++ drop (s .head .waiting) output ≡ l
     go (untouched n) = absurd (n z)
     go (written e) = rw (starts-column (s .head .setup) (waiting s), count)
-
-chart-answers : (output : List ℕ) (s : State) {refusal : ℕ} {r : Reply} → refusal ≡ firstMatch (chartRefusals output s)
-    → r ≡ chartReply refusal (s .head) → (said r ≡ outcomeOf (chart output) s .answers) × (r .head ≡ outcomeOf (chart output) s .after .head)
-unfolding outcomeOf chartAccepted
-chart-answers output s {refusal} found e = rw (← found, e) (go (eqb refusal 0))
-  where
-    go : (b : Bool) → let q = cond b (chartAccepted s) (refusing refusal s) in
-        let r = cond b (record { head = s .head; answer = Charted (s .head .waiting) }) (refusedWith (s .head) refusal) in
-        (said r ≡ q .answers) × (r .head ≡ q .after .head)
-    go true = (refl, refl)
-    go false = (refl, refl)
 
 module _ (head : Head) (ws : List Request) (xs : List ℕ) where
   abbrev s : State
@@ -103,10 +90,5 @@ module _ (head : Head) (ws : List Request) (xs : List ℕ) where
               (untouched-output z (output-written output s))
 
     pub chart-gives : (r : Reply) → r ≡ chartReply refusal head → Gives (chart output) s r (stateOf (r .head) ws xs)
-    unfolding outcomeOf chartAccepted
-    chart-gives r a =
-        let q = unchanged (chartRefusals output s) s (chartAccepted s) refl in
-        let b = chart-answers output s told a in
-        given (chart output) s
-        (ap (λ (t : State). t .waitingTable) (sym q))
-        (answers (b .0) (b .1) (ap (λ (t : State). t .clientNumbers) (sym q)))
+    unfolding chartAccepted
+    chart-gives r a = read-gives (chart output) s (Charted (head .waiting)) told (λ z. refl) a

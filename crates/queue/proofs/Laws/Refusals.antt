@@ -24,7 +24,7 @@ use Rattle.decide.specs.Chart.{chartMatch}
 use Rattle.decide.proofs.Matching.{submitOwn}
 
 -- what the tables call for is a state's refusal 4 or 5, or none where neither matches
-tables-told : {t : ℕ} (own : List Refusal) (s : State) → t ≡ tablesRefusal s
+pub tables-told : {t : ℕ} (own : List Refusal) (s : State) → t ≡ tablesRefusal s
     → firstMatch (ofTables t ∷ own) ≡ firstMatch (refusal4 s ∷ refusal5 s ∷ own)
 unfolding tablesRefusal firstMatch
 tables-told {t} own s found = go (refusal4 s .holds) (refusal5 s .holds) found

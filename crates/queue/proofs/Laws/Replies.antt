@@ -10,14 +10,14 @@ use lib.ListN.{length, getD}
 use Rattle.slots.proofs.Laws.Tests.{Same, same-yes, same-no, same}
 use Rattle.spec.specs.declared.types.Request.{Request}
 use Rattle.spec.specs.declared.types.Counts.{Counts}
+use Rattle.spec.specs.declared.types.Answer.{Answer}
 use Rattle.spec.specs.Tables.{zeroCounts, State, clientTable, stateOf, numbersOf}
 use Rattle.spec.specs.Setup.{Refusal, firstMatch}
-use Rattle.spec.specs.Calls.Outcome.{Outcome, refusing, unlessRefused}
-use Rattle.spec.specs.Calls.Call.{Call, outcomeOf}
+use Rattle.spec.specs.Calls.Outcome.{Outcome, saying, refusing, unlessRefused}
+use Rattle.spec.specs.Calls.Call.{Call, outcomeOf, refusalsOf, acceptedOf}
 use Rattle.spec.proofs.Laws.Every.{cond-true}
 use Rattle.spec.proofs.Laws.Layout.{numbers-records}
 use Rattle.spec.proofs.Laws.Sound.{Shaped}
-use Rattle.spec.proofs.Laws.Accepted.{Decided as Settled, accepts, refuses as declines, decided as settled}
 use Rattle.spec.proofs.Calls.Keeps.{Tidy}
 use Rattle.table.specs.Widths.{largest32, largest64, saturatingNext}
 use Rattle.decide.specs.Reply.{refusedWith, replyUnless}
@@ -73,14 +73,6 @@ unless-within refusal records n most e h = go (eqb refusal 0) (same refusal 0) e
     go true (same-yes z) q = omega (arith, q, h z)
     go false (same-no z) q = omega (arith, q)
 
--- a call whose accepted part leaves the state leaves it, refused or not
-pub unchanged : (rs : List Refusal) (s : State) (o : Outcome) → o .after ≡ s → unlessRefused rs s o .after ≡ s
-unchanged rs s o e = go (settled rs s o)
-  where
-    go : {q : Outcome} → Settled rs s o q → q .after ≡ s
-    go (accepts z) = e
-    go (declines z) = refl
-
 -- the waiting table, and what a reply and the client table answer
 pub given : (c : Call) (s : State) {r : Reply} {ws : List Request} {xs : List ℕ} → ws ≡ outcomeOf c s .after .waitingTable
     → ReplyMatches (outcomeOf c s) r xs → Gives c s r (stateOf (r .head) ws xs)
@@ -91,3 +83,24 @@ given c s w a =
       after-same =
           λ i. record { head = a .head-same i; waitingTable = w i; clientNumbers = a .numbers-same i };
     }
+
+-- A call that changes nothing and answers a, where its first match is t: it hands back that answer or the refusal, and the head
+pub read-gives : (c : Call) (s : State) (a : Answer) {t : ℕ} {r : Reply} → t ≡ firstMatch (refusalsOf c s)
+    → (t ≡ 0 → acceptedOf c s ≡ saying a s)
+    → r ≡ replyUnless t (s .head) (record { head = s .head; answer = a })
+    → Gives c s r (stateOf (r .head) (s .waitingTable) (s .clientNumbers))
+unfolding outcomeOf
+read-gives c s a {t} {r} found goes e =
+    let q = go (eqb t 0) (same t 0) in
+    record {
+      answers-same = rw (← found, e) (q .0);
+      head-kept = refl;
+      after-same = rw (← found, e) (q .1);
+    }
+  where
+    go : (b : Bool) → Same t 0 b
+        → let x = cond b (record { head = s .head; answer = a }) (refusedWith (s .head) t) in
+        let o = cond b (acceptedOf c s) (refusing t s) in
+        (said x ≡ o .answers) × (stateOf (x .head) (s .waitingTable) (s .clientNumbers) ≡ o .after)
+    go true (same-yes z) = rw (goes z) (refl, refl)
+    go false (same-no n) = (refl, refl)

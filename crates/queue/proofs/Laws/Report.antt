@@ -1,10 +1,8 @@
 -- What the parts of a report come to together. Assumes nothing.
 use Prim.Native.Nat.{ℕ}
-use mathlib.Core.Path.{_≡_, refl, sym, ap, _∙_}
-use mathlib.Core.Bool.{Bool, true, false, cond}
+use mathlib.Core.Path.{_≡_, sym, ap, _∙_}
 use mathlib.Core.List.{List}
 use native.Mathlib.Omega.{arith}
-use lib.Dec.{eqb}
 use lib.ListN.{getD}
 use Rattle.spec.specs.declared.types.Head.{Head}
 use Rattle.spec.specs.declared.types.Request.{Request}
@@ -12,39 +10,24 @@ use Rattle.spec.specs.declared.types.Counts.{Counts}
 use Rattle.spec.specs.Tables.{zeroCounts, recordsOf, State, waiting, clientTable, stateOf}
 use Rattle.spec.specs.Setup.{firstMatch}
 use Rattle.spec.specs.Sound.{waitingOf}
-use Rattle.spec.specs.Calls.Report.{reportRefusals, reportAccepted}
-use Rattle.spec.specs.Calls.Call.{report, outcomeOf}
+use Rattle.spec.specs.Calls.Outcome.{saying}
+use Rattle.spec.specs.Calls.Report.{reportRefusals, reportAnswer, reportAccepted}
+use Rattle.spec.specs.Calls.Call.{report}
 use Rattle.spec.proofs.Laws.Accepted.{report-ready}
 use Rattle.table.specs.Clients.{waitingCount}
 use Rattle.sound.specs.Checks.{tablesRefusal}
-use Rattle.decide.specs.Report.{reportMatch, reportedWith, reportReply}
+use Rattle.decide.specs.Report.{reportMatch, reportReply}
 use Rattle.queue.specs.Gives.{Reply, Gives}
 use Rattle.queue.proofs.Laws.Refusals.{report-told}
-use Rattle.queue.proofs.Laws.Replies.{ReplyMatches, answers, unless-answers, unchanged, given}
+use Rattle.queue.proofs.Laws.Replies.{read-gives}
 
 -- the counts of a client balance, so that what is neither served nor dropped waits
-report-answers : (client : ℕ) (s : State) {refusal : ℕ} {r : Reply}
-    → refusal ≡ firstMatch (reportRefusals client s)
-    → r ≡ reportReply refusal (s .head) client (getD (clientTable s) client zeroCounts)
-    → ReplyMatches (outcomeOf (report client) s) r (s .clientNumbers)
-unfolding outcomeOf reportAccepted
-report-answers client s {refusal} found e =
-    unless-answers (reportRefusals client s) s (reportAccepted client s) found
-    {accepted = reportedWith (s .head) client own} {ys = s .clientNumbers}
-    (λ z. answers (rw (← balance z)) refl refl) e (go (eqb refusal 0))
-  where
-    own : Counts
-    own = getD (clientTable s) client zeroCounts
-
-    balance : refusal ≡ 0 → waitingCount own ≡ waitingOf client (waiting s)
-    balance z =
-        let r = report-ready client s (sym found ∙ z) in
-        let b = r .ready .sound .balanced client (omega (arith, r .exists, r .ready .shape .clients)) in
-        omega (arith, b)
-
-    go : (b : Bool) → s .clientNumbers ≡ cond b (s .clientNumbers) (s .clientNumbers)
-    go true = refl
-    go false = refl
+balance : (client : ℕ) (s : State) → firstMatch (reportRefusals client s) ≡ 0
+    → waitingCount (getD (clientTable s) client zeroCounts) ≡ waitingOf client (waiting s)
+balance client s z =
+    let r = report-ready client s z in
+    let b = r .ready .sound .balanced client (omega (arith, r .exists, r .ready .shape .clients)) in
+    omega (arith, b)
 
 module _ (head : Head) (ws : List Request) (xs : List ℕ) where
   abbrev s : State
@@ -54,8 +37,9 @@ module _ (head : Head) (ws : List Request) (xs : List ℕ) where
       → refusal ≡ reportMatch tables head client
       → r ≡ reportReply refusal head client (getD (recordsOf xs) client zeroCounts)
       → Gives (report client) s r (stateOf (r .head) ws xs)
-  unfolding outcomeOf reportAccepted
+  unfolding reportAccepted
   reported client tables refusal r e f a =
-      given (report client) s
-      (ap (λ (t : State). t .waitingTable) (sym (unchanged (reportRefusals client s) s (reportAccepted client s) refl)))
-      (report-answers client s (f ∙ report-told s e client) a)
+      let own : Counts = getD (recordsOf xs) client zeroCounts in
+      let found = f ∙ report-told s e client in
+      read-gives (report client) s (reportAnswer client own (waitingCount own)) found
+      (λ z. ap (λ (n : ℕ). saying (reportAnswer client own n) s) (sym (balance client s (sym found ∙ z)))) a

@@ -1,8 +1,8 @@
--- `decide::open::reply` meets its contract. Assumes nothing.
+-- `decide::reply::unless` meets its contract. Assumes nothing.
 use borrow.Author.Needs.{needs}
 use borrow.Author.Tests.{eq-eqb, ne-eqb}
-use Rattle.decide.proofs.open.reply.Statement.{statement}
-use Rattle.decide.proofs.open.reply.Tie as tie
+use Rattle.decide.proofs.reply.unless.Statement.{statement}
+use Rattle.decide.proofs.reply.unless.Tie as tie
 
 refused-requires : tie.Need-refused-requires
 refused-requires c κs = search needs
@@ -13,5 +13,5 @@ returns c = rw (ne-eqb _ 0 (c .before .if1 .taken)) (c .refused .ensures)
 returns-2 : tie.Need-returns-2
 returns-2 c = rw (eq-eqb _ 0 (c .if1 .left))
 
-pub reply-spec : {M : Type 1} → statement M
-reply-spec = tie.close (tie.spec refused-requires returns returns-2)
+pub unless-spec : {M : Type 1} → statement M
+unless-spec = tie.close (tie.spec refused-requires returns returns-2)
