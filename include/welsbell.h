@@ -1,5 +1,5 @@
 /*
- * Welsbell, the recorder's read queue: five calls over a head and tables that the caller lends. Clients submit reads with
+ * Welsbell, the recorder's read queue: calls over a head and tables that the caller lends. Clients submit reads with
  * deadlines, one read is served in each slot, and where not all can finish one is dropped. Link with libwelsbell.a.
  *
  * The short way is a welsbell_queue, which names once what is lent:
@@ -253,7 +253,7 @@ typedef struct welsbell_answer {
     WELSBELL_LEND_TABLE(queue, welsbell_request, (queue)->waiting, (queue)->waiting_length), \
     WELSBELL_LEND_TABLE(queue, welsbell_client, (queue)->clients, 3 * (queue)->clients_length)
 
-/* The five calls on a queue. */
+/* The calls on a queue. */
 static inline welsbell_answer welsbell_queue_open(welsbell_queue *queue, welsbell_setup setup)
 {
     welsbell_answer answer = WELSBELL_NO_ANSWER;

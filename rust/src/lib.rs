@@ -1,5 +1,5 @@
 //! The recorder's read queue. Clients submit reads with deadlines, one read is served in each slot, and where not all can finish
-//! one is dropped, fairly shared among the clients. This crate wraps the five calls of the proved library, each of which is proved
+//! one is dropped, fairly shared among the clients. This crate wraps the calls of the proved library, each of which is proved
 //! equal to its definition for all input.
 //!
 //! The caller lends the head and the tables and keeps them: a call allocates nothing, keeps nothing from one call to the next and
@@ -29,8 +29,6 @@
 //! assert_eq!(tables.head.clock, 2);
 //! ```
 #![no_std]
-
-pub mod raw;
 
 use core::fmt::{self, Display, Formatter};
 use core::ptr::{from_mut, from_ref};
@@ -241,7 +239,7 @@ impl Answer {
             },
             raw::CHARTED => Answer::Charted { count: a },
             raw::REFUSED => Answer::Refused(Refusal::new(a)),
-            _ => unreachable!("the calls are proved to answer one of the eight kinds"),
+            _ => unreachable!("the calls are proved to answer one of these kinds"),
         }
     }
 }
@@ -409,4 +407,57 @@ impl Queue<'_> {
     pub fn chart(&self, output: &mut [u64]) -> Answer {
         lend!(welsbell_chart, self, from_ref, as_ptr, output.as_mut_ptr(), output.len())
     }
+}
+
+/// The exported calls as they are linked: a head, a setup and the values are a pointer each, a table is a pointer and then a
+/// length. The client table's length is in numbers, three a record. The result is the answer's kind; its values go to the front
+/// of the five, and those behind them stay. `include/welsbell.h` says the same in C.
+///
+/// # Safety
+///
+/// Each pointer has to be aligned and not null: one to a table or an output good for as much as the length behind it says, even
+/// where that is 0, and one to a head, a setup or values for one of these. Nothing that is lent to a call may overlap, and nobody else
+/// may write it, or use what is written, until the call is over.
+pub mod raw {
+    use crate::{Client, Head, Request, Setup};
+
+    pub const OPENED: u64 = 0x81;
+    pub const KEPT: u64 = 0x82;
+    pub const DROPPED: u64 = 0x83;
+    pub const SERVED: u64 = 0x84;
+    pub const IDLE: u64 = 0x85;
+    pub const REPORTED: u64 = 0x86;
+    pub const CHARTED: u64 = 0x88;
+    pub const REFUSED: u64 = 0xFF;
+
+    /// The values of an answer.
+    pub type Values = [u64; 5];
+
+    extern "C" {
+        /// The archive's version. It asks nothing of its caller.
+        pub fn welsbell_version() -> u64;
+    }
+
+    // Declares a call: the head and the tables, to be written (`mut`) or only read (`const`), its own arguments, and the values.
+    macro_rules! exported {
+        ($name:ident, $access:tt $(, $argument:ident: $type:ty)*) => {
+            extern "C" {
+                pub fn $name(
+                    head: *$access Head,
+                    waiting: *$access Request,
+                    waiting_length: usize,
+                    clients: *$access Client,
+                    client_numbers: usize,
+                    $($argument: $type,)*
+                    values: *mut Values,
+                ) -> u64;
+            }
+        };
+    }
+
+    exported!(welsbell_open, mut, setup: *const Setup);
+    exported!(welsbell_submit, mut, client: u64, deadline: u64);
+    exported!(welsbell_tick, mut);
+    exported!(welsbell_report, const, client: u64);
+    exported!(welsbell_chart, const, output: *mut u64, output_length: usize);
 }

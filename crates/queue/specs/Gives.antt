@@ -1,4 +1,4 @@
--- What a call of the library does: one contract for all five. Assumes nothing.
+-- What a call of the library does: one contract for every call. Assumes nothing.
 use mathlib.Core.Path.{_≡_}
 use Rattle.spec.specs.Tables.{State}
 use Rattle.spec.specs.Calls.Call.{Call, outcomeOf}

@@ -1,4 +1,4 @@
-// The recorder's read queue: five calls over the head, by value, and lent tables. Nothing is asked of the caller: where tables
+// The recorder's read queue: its calls, over the head, by value, and lent tables. Nothing is asked of the caller: where tables
 // or arguments are not as they should be the call is refused by its number, and head, tables and output stay as they were.
 mod submission;
 

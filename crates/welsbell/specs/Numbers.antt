@@ -32,7 +32,7 @@ valueNumbers a = map (λ f. f .value) (valuesOf a)
 unfoldable pub written : List ℕ → List ℕ → List ℕ
 written xs ys = xs ++ drop (length xs) ys
 
--- what an exported call does, one contract for all five: from what a caller lends, the array of values among it, to what it then has.
+-- what an exported call does, one contract for every call: from what a caller lends, the array of values among it, to what it then has.
 -- The definition gives one answer; the result is its kind, and its values and all that head and tables hold are what the definition
 -- says
 pub record Exported (c : Call) (before : State) (values₀ : List ℕ) (r : ℕ) (values : List ℕ) (after : State) : Type 0 where

@@ -1,4 +1,4 @@
-// The five calls for programs in other languages, and the version. A setup and a head are arrays of their numbers, in the
+// The calls for programs in other languages, and the version. A setup and a head are arrays of their numbers, in the
 // order of their fields. The result is the answer's kind; its values go over the front of an array, and what stands behind them stays.
 // Nothing is asked of the caller but pointers that are good for what is behind them, none lent twice.
 mod numbers;

@@ -1,4 +1,4 @@
--- The five calls: arguments and state in, answers and state out, for every state and all arguments. Document 01, "Calls". `meaning` goes
+-- The calls: arguments and state in, answers and state out, for every state and all arguments. Document 01, "Calls". `meaning` goes
 -- by cases on calls, and whatever else is asked of a call is read off it. Assumes nothing.
 use Prim.Native.Nat.{ℕ}
 use mathlib.Core.List.{List}
