@@ -4,9 +4,9 @@ use mathlib.Core.List.{[], _∷_}
 use lib.ListN.{replicate}
 use Rattle.spec.specs.declared.types.Head.{Head}
 use Rattle.spec.specs.declared.types.Answer.the-variants.{Charted}
+use Rattle.spec.specs.declared.types.Reply.{Reply}
 use Rattle.spec.specs.Setup.{firstMatch}
 use Rattle.spec.specs.Calls.Refusals.{refusal12}
-use Rattle.decide.specs.declared.reply.Reply.{Reply}
 use Rattle.decide.specs.Reply.{replyUnless}
 use Rattle.decide.specs.Refusal.{ofTables, told}
 

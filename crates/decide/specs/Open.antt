@@ -7,10 +7,10 @@ use lib.ListN.{length, replicate}
 use Rattle.spec.specs.declared.types.Setup.{Setup}
 use Rattle.spec.specs.declared.types.Head.{Head}
 use Rattle.spec.specs.declared.types.Answer.the-variants.{Opened}
+use Rattle.spec.specs.declared.types.Reply.{Reply}
 use Rattle.spec.specs.Tables.{openHead, State}
 use Rattle.spec.specs.Setup.{firstMatch}
 use Rattle.spec.specs.Calls.Open.{openRefusals}
-use Rattle.decide.specs.declared.reply.Reply.{Reply}
 use Rattle.decide.specs.Reply.{replyUnless}
 use Rattle.decide.specs.Refusal.{told}
 

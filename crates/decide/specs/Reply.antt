@@ -1,16 +1,10 @@
--- What a call hands back. Assumes nothing.
+-- What a call hands back where it is refused, and where it is not. Assumes nothing.
 use Prim.Native.Nat.{ℕ}
 use mathlib.Core.Bool.{cond}
-use mathlib.Core.List.{List, [], _∷_}
 use lib.Dec.{eqb}
 use Rattle.spec.specs.declared.types.Head.{Head}
-use Rattle.spec.specs.declared.types.Answer.{Answer}
 use Rattle.spec.specs.declared.types.Answer.the-variants.{Refused}
-use Rattle.decide.specs.declared.reply.Reply.{Reply}
-
--- the answers that a reply stands for: the one that it has
-abbrev pub said : Reply → List Answer
-said r = r .answer ∷ []
+use Rattle.spec.specs.declared.types.Reply.{Reply}
 
 -- "Each answers with its number only; head, tables and output stay unchanged."
 abbrev pub refusedWith : Head → ℕ → Reply

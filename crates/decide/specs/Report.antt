@@ -4,10 +4,10 @@ use mathlib.Core.List.{[], _∷_}
 use Rattle.spec.specs.declared.types.Head.{Head}
 use Rattle.spec.specs.declared.types.Counts.{Counts}
 use Rattle.spec.specs.declared.types.Answer.the-variants.{Reported}
+use Rattle.spec.specs.declared.types.Reply.{Reply}
 use Rattle.spec.specs.Setup.{firstMatch}
 use Rattle.spec.specs.Calls.Refusals.{refusal6}
 use Rattle.table.specs.Clients.{waitingCount}
-use Rattle.decide.specs.declared.reply.Reply.{Reply}
 use Rattle.decide.specs.Reply.{replyUnless}
 use Rattle.decide.specs.Refusal.{ofTables, told}
 

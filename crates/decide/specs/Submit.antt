@@ -7,6 +7,7 @@ use Rattle.spec.specs.declared.types.Head.{Head}
 use Rattle.spec.specs.declared.types.Request.{Request}
 use Rattle.spec.specs.declared.types.Counts.{Counts}
 use Rattle.spec.specs.declared.types.Answer.the-variants.{Kept, Dropped}
+use Rattle.spec.specs.declared.types.Reply.{Reply}
 use Rattle.spec.specs.Setup.{firstMatch}
 use Rattle.spec.specs.Calls.Refusals.{refusal6, refusal7, refusal8, refusal9, refusal10}
 use Rattle.table.specs.Widths.{largest64, saturatingNext}
@@ -15,7 +16,6 @@ use Rattle.table.specs.Clients.{changedAt, oneMoreUnlessFull}
 use Rattle.occupancy.specs.Scans.{smallestRatioPlace}
 use Rattle.decide.specs.declared.submit.Decision.{Decision}
 use Rattle.decide.specs.declared.submit.Decision.the-variants.{Refuse, Keep, Drop}
-use Rattle.decide.specs.declared.reply.Reply.{Reply}
 use Rattle.decide.specs.Reply.{refusedWith}
 use Rattle.decide.specs.Refusal.{ofTables, told}
 

@@ -7,12 +7,12 @@ use Rattle.spec.specs.declared.types.Head.{Head}
 use Rattle.spec.specs.declared.types.Request.{Request}
 use Rattle.spec.specs.declared.types.Answer.{Answer}
 use Rattle.spec.specs.declared.types.Answer.the-variants.{Served, Idle}
+use Rattle.spec.specs.declared.types.Reply.{Reply}
 use Rattle.spec.specs.Setup.{firstMatch}
 use Rattle.spec.specs.Calls.Refusals.{refusal11}
 use Rattle.table.specs.Widths.{largest64, saturatingNext}
 use Rattle.table.specs.declared.clients.Count.the-variants as count
 use Rattle.table.specs.Clients.{changedAt, oneMoreUnlessFull, restartedNumbers}
-use Rattle.decide.specs.declared.reply.Reply.{Reply}
 use Rattle.decide.specs.Reply.{replyUnless}
 use Rattle.decide.specs.Refusal.{ofTables, told}
 

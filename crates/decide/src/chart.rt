@@ -1,8 +1,8 @@
 // Chart, the call: its refusal, and what it hands back.
 use crate::reply;
-use crate::reply::Reply;
 use spec::types::Answer;
 use spec::types::Head;
+use spec::types::Reply;
 ghost use mathlib.Core.Path.{_≡_};
 ghost use Rattle.decide.specs.Chart.{chartMatch, chartReply};
 

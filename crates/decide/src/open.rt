@@ -1,10 +1,10 @@
 // Open: its refusal, and what it hands back.
 use crate::reply;
-use crate::reply::Reply;
 use sound::check;
 use spec::bounds;
 use spec::types::Answer;
 use spec::types::Head;
+use spec::types::Reply;
 use spec::types::Setup;
 use table::clients;
 ghost use mathlib.Core.Path.{_≡_};

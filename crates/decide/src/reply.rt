@@ -1,17 +1,12 @@
-// What a call hands back, and what the replies of several calls are made of.
+// What the replies of several calls are made of.
 use spec::types::Answer;
 use spec::types::Head;
+use spec::types::Reply;
 ghost use mathlib.Core.Path.{_≡_};
 ghost use mathlib.Core.Bool.{cond};
 ghost use lib.Dec.{eqb};
 ghost use Rattle.table.specs.Widths.{largest64, saturatingNext};
 ghost use Rattle.decide.specs.Reply.{refusedWith, replyUnless};
-
-// The head after the call, and beside it the answer.
-pub struct Reply {
-    pub head: Head,
-    pub answer: Answer,
-}
 
 // A refused call hands the head back as it was, and answers with its number only.
 pub(crate) fn refused(head: Head, number: u64) -> Reply

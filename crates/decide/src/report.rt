@@ -1,8 +1,8 @@
 // Report: its refusal, and what it hands back.
 use crate::reply;
-use crate::reply::Reply;
 use spec::types::Answer;
 use spec::types::Head;
+use spec::types::Reply;
 use table::clients;
 ghost use mathlib.Core.Path.{_≡_};
 ghost use lib.ListN.{getD};

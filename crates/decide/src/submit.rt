@@ -1,11 +1,11 @@
 // Submit: its refusal, what it decides, and what it hands back. `tables` is what the tables call for, 4 or 5 or 0, however it was
 // found: refusals 4 and 5 stand first in every list but open's.
 use crate::reply;
-use crate::reply::Reply;
 use occupancy::overfull;
 use spec::bounds;
 use spec::types::Answer;
 use spec::types::Head;
+use spec::types::Reply;
 use spec::types::Request;
 use table::clients;
 use table::clients::Count;

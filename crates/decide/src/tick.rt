@@ -1,9 +1,9 @@
 // Tick: its refusal, and what it hands back. `gone` is the record that went out of the waiting table, where one waits.
 use crate::reply;
-use crate::reply::Reply;
 use spec::bounds;
 use spec::types::Answer;
 use spec::types::Head;
+use spec::types::Reply;
 use spec::types::Request;
 use table::clients;
 use table::clients::Count;

@@ -2,8 +2,8 @@
 use mathlib.Core.Path.{refl}
 use denote.RattleType.{RattleType}
 use Rattle.walk.proofs.Plain.{PlainType, of-struct, of-enum}
-use Rattle.decide.proofs.reply.Reply as TR
-use Rattle.decide.proofs.reply.Reply.Laws as TR′
+use Rattle.spec.proofs.types.Reply as TR
+use Rattle.spec.proofs.types.Reply.Laws as TR′
 use Rattle.decide.proofs.submit.Decision as TD
 use Rattle.decide.proofs.submit.Decision.Laws as TD′
 

@@ -2,11 +2,11 @@
 // or arguments are not as they should be the call is refused by its number, and head, tables and output stay as they were.
 mod submission;
 
-pub use decide::reply::Reply;
 use decide::reply::unless_refused;
 use occupancy::starts;
 use sound::check;
 use spec::types::Head;
+pub use spec::types::Reply;
 use spec::types::Request;
 use spec::types::Setup;
 pub use submission::submit;

@@ -1,10 +1,10 @@
 // Submit: what it decides, from the searches in the waiting records, what it does to the waiting table, and the call itself.
-use decide::reply::Reply;
 use decide::submit::Decision;
 use occupancy::overfull;
 use sound::check;
 use spec::bounds::MOST_CLIENTS;
 use spec::types::Head;
+use spec::types::Reply;
 use spec::types::Request;
 use table::waiting;
 ghost use mathlib.Core.Path.{_≡_};

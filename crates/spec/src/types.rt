@@ -70,6 +70,12 @@ pub enum Answer {
     },
 }
 
+// What a call hands back: the head after it, and beside it the answer.
+pub struct Reply {
+    pub head: Head,
+    pub answer: Answer,
+}
+
 // A session line, document 01, "Session lines"; `Bad` is a line that is no frame.
 pub enum Frame {
     Open { setup: Setup, records: u64 },
