@@ -19,7 +19,7 @@ pub fn refusal(tables: u64, head: Head, entries: usize) -> u64
     0
 }
 
-// What it hands back.
+// The reply of a chart: how many start slots it writes.
 pub fn reply(head: Head, refusal: u64) -> Reply
     ensures { λ r. ⌜ r ≡ chartReply refusal head ⌝ }
 {

@@ -37,7 +37,7 @@ pub fn clear_counts(numbers: &mut [u32], refusal: u64)
     clients::clear(numbers);
 }
 
-// What it hands back.
+// The reply of an open: a head that has this setup, and nothing else in it.
 pub fn reply(head: Head, refusal: u64, setup: Setup) -> Reply
     ensures { λ r. ⌜ r ≡ openReply refusal head setup ⌝ }
 {

@@ -22,7 +22,7 @@ pub fn refusal(tables: u64, head: Head, client: u64) -> u64
     0
 }
 
-// What it hands back. What a client submitted and was neither served nor dropped waits.
+// The reply of a report: the client's counts. What it submitted and was neither served nor dropped waits.
 pub fn reply(head: Head, numbers: &[u32], refusal: u64, client: u64) -> Reply
     ensures { λ r. ⌜ r ≡ reportReply refusal head client
         (getD (recordsOf (now (numbers .entry))) client zeroCounts) ⌝ }

@@ -63,7 +63,7 @@ pub fn refusal(
     0
 }
 
-// A refused submit's decision.
+// The decision of a submit that is refused.
 pub fn refuse(number: u64) -> Decision
     ensures { λ r. ⌜ r ≡ Refuse number ⌝ }
 {
@@ -151,7 +151,7 @@ fn head_after_submit(head: Head, waiting: u64) -> Head
     }
 }
 
-// Where all are kept.
+// The reply where all are kept: the new number, and its place.
 fn kept(head: Head, place: usize) -> Reply
     ensures { λ r. ⌜ r ≡ keptWith head place ⌝ }
 {
@@ -167,7 +167,7 @@ fn kept(head: Head, place: usize) -> Reply
     }
 }
 
-// Where one is dropped.
+// The reply where one is dropped: the new number, and which one went out.
 fn dropped(head: Head, gone: Request) -> Reply
     ensures { λ r. ⌜ r ≡ droppedWith head gone ⌝ }
 {
@@ -183,7 +183,7 @@ fn dropped(head: Head, gone: Request) -> Reply
     }
 }
 
-// What it hands back.
+// The reply of a submit, by what it decided.
 pub fn reply(head: Head, decision: Decision, gone: Request) -> Reply
     ensures { λ r. ⌜ r ≡ submitReply head gone decision ⌝ }
 {

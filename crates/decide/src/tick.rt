@@ -64,7 +64,7 @@ pub fn count(numbers: &mut [u32], head: Head, refusal: u64, gone: Request)
     end_slot(numbers, head);
 }
 
-// One less; 0 stays 0.
+// One less, where there is one.
 fn one_less(n: u64) -> u64
     ensures { λ r. ⌜ r ≡ n - 1 ⌝ }
 {
@@ -103,7 +103,7 @@ fn answer(head: Head, gone: Request) -> Answer
     Answer::Idle { slot: head.clock }
 }
 
-// What it hands back.
+// The reply of a tick.
 pub fn reply(head: Head, refusal: u64, gone: Request) -> Reply
     ensures { λ r. ⌜ r ≡ tickReply refusal head gone ⌝ }
 {

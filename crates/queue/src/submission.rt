@@ -43,7 +43,7 @@ fn accepted_decision(
     decide::submit::choice(head, &latest, clients, client, place, found)
 }
 
-// What a submit has to do.
+// What a submit has to do: it is refused, or goes on.
 fn submit_decision(
     waiting: &[Request],
     clients: &[u32],

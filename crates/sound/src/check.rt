@@ -123,7 +123,7 @@ fn balance_rest(tally: &[u16], numbers: &[u32], from: usize, to: usize, ok: bool
     balanced
 }
 
-// Whether those of the first n clients do.
+// Whether the counts of the first n clients balance with the tally.
 pub(crate) fn are_balanced(tally: &[u16], numbers: &[u32], n: usize) -> bool
     requires { ⌜ (clientWidth * n ≤ length (now numbers)) × (n ≤ mostClients) × (length (now tally) ≡ tallySize) ⌝ }
     ensures { λ r. ⌜ r ≡ everyFrom (λ c k. doesBalance k (talliedOf (now (tally .entry)) c)) 0
