@@ -1,20 +1,17 @@
 -- Laws of what is put one part behind the other: lines, and the segments' lines. Assumes nothing.
 use Prim.Native.Nat.{ℕ, _+_, _*_, _≤_}
 use mathlib.Core.List.{List, [], _∷_, _++_, append-assoc, append-nil}
-use mathlib.Core.Path.{_≡_, refl, sym, ap}
+use mathlib.Core.Path.{_≡_, sym, ap}
 use native.Mathlib.Omega.{arith}
-use types.Run.{OneOf, miss}
-use denote.Enum.Declared.{tagOf}
 use lib.ListN.{length, take, drop, length-append}
 use lib.Seq.{length-take-le}
 use Rattle.spec.specs.declared.types.Setup.{Setup}
 use Rattle.spec.specs.declared.types.Answer.{Answer}
-use Rattle.spec.specs.declared.types.Answer.the-variants.{Opened, Kept, Dropped, Served, Idle, Reported, Charted, Refused}
 use Rattle.spec.specs.Chart.{Segment, segmentsOf}
 use Rattle.spec.specs.Calls.Readings.{Field, field}
-use Rattle.spec.specs.Lines.Frames.{lineFeed, digits, fieldDigits, lineOf, answerLine, segmentLines, answerLines}
+use Rattle.spec.specs.Lines.Frames.{lineFeed, digits, fieldDigits, lineOf, answerLine, segmentLines, answerLines, linesBy}
 use Rattle.occupancy.specs.Charted.{segment}
-use Rattle.spec.proofs.types.Answer.{the-type}
+use Rattle.spec.proofs.Laws.Answers.{NotCharted, not-charted}
 use Rattle.table.proofs.Remaining.{rest-none}
 
 -- ---- lines
@@ -72,13 +69,5 @@ segments-end setup starts n i h = rw (rest-none starts n i h)
 
 -- ---- replies
 -- an answer of a variant that is not a chart's is its line
-pub line-alone : (setup : Setup) (a : Answer) (starts : List ℕ) → OneOf (0 ∷ 1 ∷ 2 ∷ 3 ∷ 4 ∷ 5 ∷ 7 ∷ []) (tagOf the-type a)
-    → answerLines setup starts a ≡ answerLine a
-line-alone setup Opened starts h = refl
-line-alone setup (Kept number place) starts h = refl
-line-alone setup (Dropped number victim client) starts h = refl
-line-alone setup (Served slot number client) starts h = refl
-line-alone setup (Idle slot) starts h = refl
-line-alone setup (Reported client submitted served dropped waiting) starts h = refl
-line-alone setup (Charted count) starts h = absurd (miss (0 ∷ 1 ∷ 2 ∷ 3 ∷ 4 ∷ 5 ∷ 7 ∷ []) 6 tt h)
-line-alone setup (Refused number) starts h = refl
+pub line-alone : (setup : Setup) (a : Answer) (starts : List ℕ) → NotCharted a → answerLines setup starts a ≡ answerLine a
+line-alone setup a starts other = ap (λ (counts : List ℕ). linesBy counts setup starts a) (not-charted a other)

@@ -6,9 +6,8 @@ use Rattle.spec.specs.declared.types.Answer.{Answer}
 use Rattle.spec.specs.declared.types.Answer.the-variants.{Refused}
 use Rattle.spec.specs.Every.{largest}
 use Rattle.spec.specs.Tables.{mostRecords}
-use Rattle.spec.specs.Calls.Readings.{reading, valuesOf}
+use Rattle.spec.specs.Calls.Readings.{reading, valuesOf, shown}
 use Rattle.spec.specs.Lines.Frames.{lineLength, segmentFields, countFields}
-use Rattle.spec.specs.Lines.Printed.{shown}
 use Rattle.table.specs.Widths.{largest64}
 
 -- a segment's line, and their count's

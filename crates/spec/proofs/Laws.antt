@@ -10,3 +10,4 @@ pub mod Clients
 pub mod Sound
 pub mod Accepted
 pub mod Digits
+pub mod Answers

@@ -35,7 +35,7 @@ pub struct Head {
     pub waiting: u64,
 }
 
-// What a call answers. specs/Frames.antt gives the paper's number and values of each case.
+// What a call answers. `reading` in specs/Calls/Readings.antt gives the paper's number and values of each case.
 pub enum Answer {
     Opened,
     Kept {

@@ -1,17 +1,18 @@
 -- Lists of exported calls: each is a list of the library's calls, so what is proved of those holds of it. Assumes nothing.
 use Prim.Native.Nat.{ℕ}
-use mathlib.Core.Path.{_≡_, refl, sym, _∙_}
-use mathlib.Core.Bool.{true, false}
+use mathlib.Core.Path.{_≡_, refl, sym, ap, _∙_}
+use mathlib.Core.Bool.{false}
 use mathlib.Core.List.{List, [], _∷_}
-use native.Mathlib.Omega.{arith}
+use lib.Dec.{eqb}
 use Rattle.spec.specs.declared.types.Setup.{Setup}
 use Rattle.spec.specs.declared.types.Answer.{Answer}
-use Rattle.spec.specs.declared.types.Answer.the-variants.{Opened, Kept, Dropped, Served, Idle, Reported, Charted, Refused}
+use Rattle.spec.specs.declared.types.Answer.the-variants.{Opened, Refused}
 use Rattle.spec.specs.Every.{exists}
 use Rattle.spec.specs.Tables.{State}
 use Rattle.spec.specs.Calls.Readings.{isRefused, kindOf, reading}
-use Rattle.spec.specs.Calls.Call.{Call, opening, outcomeOf}
+use Rattle.spec.specs.Calls.Call.{Call, opening}
 use Rattle.spec.specs.Lists.{Event, isOpened, refusedEvent}
+use Rattle.spec.proofs.Laws.Answers.{readable}
 use Rattle.spec.proofs.Demands.Demand1.{CountsGiven}
 use Rattle.spec.proofs.Demands.Demand3.{Largest}
 use Rattle.queue.specs.Gives.{Reply, said, Gives}
@@ -50,14 +51,7 @@ answering-ran (refused {es} {now} {other} {otherAfter} c values₀ kind values n
 
 -- an answer of the kind opened is no refusal
 opened-accepted : (a : Answer) → kindOf a ≡ kindOf Opened → reading a .refuses ≡ false
-opened-accepted Opened e = refl
-opened-accepted (Kept number place) e = refl
-opened-accepted (Dropped number victim client) e = refl
-opened-accepted (Served slot number client) e = refl
-opened-accepted (Idle slot) e = refl
-opened-accepted (Reported client submitted served dropped waiting) e = refl
-opened-accepted (Charted count) e = refl
-opened-accepted (Refused number) e = absurd (omega (arith, e))
+opened-accepted a e = readable a .refusal-kind ∙ ap (λ (k : ℕ). eqb k (kindOf (Refused 0))) e
 
 -- an exported open that gave the kind opened, and a list of exported calls from there on in which no other open is accepted
 module _ (setup : Setup) (before from after : State) (values₀ : List ℕ) (kind : ℕ) (values : List ℕ) (es : List Event)

@@ -11,15 +11,13 @@ use lib.ListN.{length, drop, length-append, length-take, length-drop}
 use types.Run.{OneOf, miss}
 use denote.Enum.Declared.{tagOf}
 use Rattle.spec.specs.declared.types.Answer.{Answer}
-use Rattle.spec.specs.declared.types.Answer.the-variants.{Opened, Kept, Dropped, Served, Idle, Reported, Charted, Refused}
+use Rattle.spec.specs.declared.types.Answer.the-variants.{Refused}
 use Rattle.spec.specs.declared.types.Frame.{Frame}
 use Rattle.spec.specs.declared.types.Frame.the-variants.{Open, Submit, Tick, Report, Chart, Bad}
 use Rattle.spec.specs.Tables.{mostRecords, mostClients, clientWidth}
-use Rattle.spec.specs.Calls.Readings.{isRefused, reading}
 use Rattle.spec.specs.Lines.Frames.{frameOf, answerLine, longestFrame}
 use Rattle.spec.specs.Lines.Session.{textOf, task}
 use Rattle.spec.proofs.Laws.Every.{or-none, same-test}
-use Rattle.spec.proofs.types.Answer as answers
 use Rattle.spec.proofs.types.Frame as frames
 use Rattle.frame.specs.Lines.{NoFeed, FirstFeed, slice}
 use Rattle.frame.specs.LineLengths.{mostBytes}
@@ -159,7 +157,7 @@ pub next-as : (line : List ℕ) (behind : ℕ) (fed : Fed) (can : Bool) (turn : 
     → NextIf ends full line behind fed can turn → Next line behind fed can turn
 next-as line behind fed can turn ends full e f = subst₂ (λ (x y : Bool). NextIf x y line behind fed can turn) (sym e) (sym f)
 
--- ---- frames and answers of a variant, and of the others
+-- ---- frames of a variant, and of the others
 -- only an open names lengths
 names-none : (f : Frame) → OneOf (1 ∷ 2 ∷ 3 ∷ 4 ∷ 5 ∷ []) (tagOf frames.the-type f) → task f .named ≡ []
 names-none (Open setup records) h = absurd (miss (1 ∷ 2 ∷ 3 ∷ 4 ∷ 5 ∷ []) 0 tt h)
@@ -180,16 +178,6 @@ module _ (f : Frame) (others : OneOf (1 ∷ 2 ∷ 3 ∷ 4 ∷ 5 ∷ []) (tagOf f
   pub after-other : (a : Answer) (before : ℕ) → recordsAfter f a before ≡ before
   unfolding recordsAfter
   after-other a before = rw (names-none f others)
-
-pub not-refused : (a : Answer) → OneOf (0 ∷ 1 ∷ 2 ∷ 3 ∷ 4 ∷ 5 ∷ 6 ∷ []) (tagOf answers.the-type a) → reading a .refuses ≡ false
-not-refused Opened h = refl
-not-refused (Kept number place) h = refl
-not-refused (Dropped number victim client) h = refl
-not-refused (Served slot number client) h = refl
-not-refused (Idle slot) h = refl
-not-refused (Reported client submitted served dropped waiting) h = refl
-not-refused (Charted count) h = refl
-not-refused (Refused number) h = absurd (miss (0 ∷ 1 ∷ 2 ∷ 3 ∷ 4 ∷ 5 ∷ 6 ∷ []) 7 tt h)
 
 -- ---- room, and the end of the input
 pub room-left : (put out : ℕ) → put ≤ out → leb mostBytes (out - put) ≡ leb (put + mostBytes) out

@@ -1,24 +1,21 @@
 -- A list with events among its own that are no accepted tick, ask for nothing, serve nothing and drop nothing, as refused calls are:
 -- whatever is read off the list is the same with them. Assumes nothing.
 use Prim.Native.Nat.{ℕ}
-use mathlib.Core.Path.{_≡_, refl, sym, ap, _∙_}
-use mathlib.Core.Bool.{true, false, not, _||_, true≢false}
+use mathlib.Core.Path.{_≡_, refl, ap, _∙_}
+use mathlib.Core.Bool.{false, not, _||_}
 use mathlib.Core.List.{List, [], _∷_, _++_, map}
 use native.Mathlib.Omega.{arith}
 use lib.Dec.{eqb}
-use Rattle.spec.specs.declared.types.Answer.{Answer}
-use Rattle.spec.specs.declared.types.Answer.the-variants.{Opened, Kept, Dropped, Served, Idle, Reported, Charted, Refused}
 use Rattle.spec.specs.Every.{exists, countIf, select}
 use Rattle.spec.specs.Tables.{State, waiting}
 use Rattle.spec.specs.Chart.{startsOf}
-use Rattle.spec.specs.Calls.Readings.{isRefused, Booking, Victim}
-use Rattle.spec.specs.Calls.Call.{Call}
+use Rattle.spec.specs.Calls.Readings.{Booking, Victim}
 use Rattle.spec.specs.Lists.{Event, WithRefused, isOpened, ticks, Asked, asked, bookings, victims, servedRequests}
 use Rattle.spec.specs.Lists.{waitingRequests, ownPlan, slotFor, chartBookings, submitters, servedClients, victimClients}
-use Rattle.spec.specs.Lists.{waitingBy, sinceStart, countsSince, refusedEvent, empty, own, refused, Among, other}
+use Rattle.spec.specs.Lists.{waitingBy, sinceStart, countsSince, empty, own, refused, Among, other}
 use Rattle.spec.specs.Lists.{RefusedCall}
 use Rattle.spec.proofs.Laws.Every.{or-none}
-use Rattle.spec.proofs.Lists.Trace.{event, Passing, refused-passing}
+use Rattle.spec.proofs.Lists.Trace.{Passing, refused-passing}
 use Rattle.spec.proofs.Lists.Trace.{same-ticks as same-ticks-one, same-asked as same-asked-one}
 use Rattle.spec.proofs.Lists.Trace.{same-bookings as same-bookings-one, same-victims as same-victims-one}
 

@@ -1,7 +1,7 @@
 -- What is read off the lines that a session prints: each line's answer is the one that was printed. Assumes nothing.
 use Prim.Native.Nat.{ℕ, _+_, _≤_, _<_}
 use mathlib.Core.Path.{_≡_, refl, sym, ap, _∙_}
-use mathlib.Core.Bool.{Bool, true, false, cond}
+use mathlib.Core.Bool.{true, false}
 use mathlib.Core.List.{List, [], _∷_, _++_, map, append-assoc, append-nil}
 use native.Mathlib.Omega.{arith}
 use lib.Dec.{eqb}
@@ -10,16 +10,15 @@ use lib.Seq.{take-at, drop-at}
 use Rattle.slots.proofs.Laws.Sums.{All, all-append}
 use Rattle.spec.specs.declared.types.Setup.{Setup}
 use Rattle.spec.specs.declared.types.Answer.{Answer}
-use Rattle.spec.specs.declared.types.Answer.the-variants.{Opened, Kept, Dropped, Served, Idle, Reported, Charted, Refused}
+use Rattle.spec.specs.declared.types.Answer.the-variants.{Charted, Refused}
 use Rattle.spec.specs.declared.types.Frame.{Frame}
 use Rattle.spec.specs.declared.types.Frame.the-variants.{Open, Submit, Tick, Report, Chart, Bad}
 use Rattle.spec.specs.Every.{select, gather}
-use Rattle.spec.specs.Tables.{State, waiting, mostRecords}
-use Rattle.spec.specs.Chart.{Segment, startsOf, segmentsOf}
-use Rattle.spec.specs.Calls.Readings.{isRefused, Field, field, kindOf, valuesOf, reading}
+use Rattle.spec.specs.Tables.{State, mostRecords}
+use Rattle.spec.specs.Chart.{Segment, segmentsOf}
+use Rattle.spec.specs.Calls.Readings.{Field, field, kindOf, valuesOf, reading}
 use Rattle.spec.specs.Calls.Outcome.{Outcome}
-use Rattle.spec.specs.Calls.Chart.{chartAccepted, chartOutput}
-use Rattle.spec.specs.Calls.Call.{opening, submit, tick, report, chart, outcomeOf, Call}
+use Rattle.spec.specs.Calls.Call.{Call}
 use Rattle.spec.specs.Lines.Frames.{lineFeed, numberFrom, digits, fieldDigits, lineOf, answerLine, segmentLines, frameOf}
 use Rattle.spec.specs.Lines.Frames.{answerLines, linesBy, segmentKind, segmentFields}
 use Rattle.spec.specs.Lines.Session.{Text, textOf, atStart, lent, blank, lineOutcome, replies, atEnd, session, task, outcomeBy}
@@ -29,6 +28,7 @@ use Rattle.spec.proofs.Demands.Words.{FitsField}
 use Rattle.spec.proofs.Calls.Refused.{firstAnswer, call-answers, output-length}
 use Rattle.spec.proofs.Calls.Widths.{segments-length}
 use Rattle.spec.proofs.Demands.Demand1.{values-fit}
+use Rattle.spec.proofs.Laws.Answers.{readable}
 use Rattle.spec.proofs.Laws.Digits.{Clean, digits-clean, fields-clean, length-digits, number-digits, FieldsRead, reads-back}
 
 -- ---- lines
@@ -64,31 +64,6 @@ kind-read kind fs h =
 fields-read : (kind : ℕ) (fs : List Field) → All FitsField fs → FieldsRead 1 (printed kind fs) fs
 fields-read kind fs a =
     reads-back 1 (printed kind fs) fs (drop-at (digits 2 kind) (fieldDigits fs) 2 (length-digits 2 kind)) a
-
--- what is so of each answer's reading
-pub record Readable (a : Answer) : Type 0 where
-  pub kind-byte : kindOf a < 256
-  pub no-segment : eqb (kindOf a) segmentKind ≡ false
-  pub read-off : (line : List ℕ) → FieldsRead 1 line (valuesOf a) → answerWith (kindOf a) line ≡ a
-
-pub readable : (a : Answer) → Readable a
-unfolding answerWith
-readable Opened = record { kind-byte = omega arith; no-segment = refl; read-off = λ line r. refl }
-readable (Kept number place) =
-    record { kind-byte = omega arith; no-segment = refl; read-off = λ line r i. Kept (r .0 i) (r .1 .0 i) }
-readable (Dropped number victim client) =
-    record { kind-byte = omega arith; no-segment = refl; read-off = λ line r i. Dropped (r .0 i) (r .1 .0 i) (r .1 .1 .0 i) }
-readable (Served slot number client) =
-    record { kind-byte = omega arith; no-segment = refl; read-off = λ line r i. Served (r .0 i) (r .1 .0 i) (r .1 .1 .0 i) }
-readable (Idle slot) = record { kind-byte = omega arith; no-segment = refl; read-off = λ line r i. Idle (r .0 i) }
-readable (Reported client submitted served dropped waiting) =
-    record {
-      kind-byte = omega arith;
-      no-segment = refl;
-      read-off = λ line r i. Reported (r .0 i) (r .1 .0 i) (r .1 .1 .0 i) (r .1 .1 .1 .0 i) (r .1 .1 .1 .1 .0 i);
-    }
-readable (Charted count) = record { kind-byte = omega arith; no-segment = refl; read-off = λ line r i. Charted (r .0 i) }
-readable (Refused number) = record { kind-byte = omega arith; no-segment = refl; read-off = λ line r i. Refused (r .0 i) }
 
 -- ---- lines and answers
 abbrev pub answersOf : List ℕ → List Answer

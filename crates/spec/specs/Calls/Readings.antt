@@ -1,8 +1,9 @@
--- What an answer says: document 01, "Session lines" and "Lists and plans". `reading` goes by cases on answers, and whatever else is
--- asked of an answer is read off it. Assumes nothing.
+-- What an answer says: document 01, "Session lines" and "Lists and plans". `reading` goes by cases on answers, `shown` lists those that
+-- a printed line shows, and whatever else is asked of an answer is read off the two. Assumes nothing.
 use Prim.Native.Nat.{ℕ}
 use mathlib.Core.Bool.{Bool, true, false}
 use mathlib.Core.List.{List, [], _∷_}
+use lib.ListN.{getD}
 use Rattle.spec.specs.declared.types.Answer.{Answer}
 use Rattle.spec.specs.declared.types.Answer.the-variants.{Opened, Kept, Dropped, Served, Idle, Reported, Charted, Refused}
 use Rattle.spec.specs.Every.{gather, firstOr}
@@ -79,6 +80,19 @@ reading (Charted count) =
     record { kind = 0x88; fields = field 2 count ∷ []; refuses = false; names = nobody; charted = count ∷ [] }
 reading (Refused number) =
     record { kind = 0xFF; fields = field 1 number ∷ []; refuses = true; names = nobody; charted = [] }
+
+-- "Kinds out: 81 opened; 82 kept, number (8), place (2); ..": each answer that a printed line shows, made of its values. Its kind and
+-- the widths of its fields are those of `reading`
+abbrev pub shown : List (List ℕ → Answer)
+shown =
+    (λ values. Opened)
+    ∷ (λ values. Kept (getD values 0 0) (getD values 1 0))
+    ∷ (λ values. Dropped (getD values 0 0) (getD values 1 0) (getD values 2 0))
+    ∷ (λ values. Served (getD values 0 0) (getD values 1 0) (getD values 2 0))
+    ∷ (λ values. Idle (getD values 0 0))
+    ∷ (λ values. Reported (getD values 0 0) (getD values 1 0) (getD values 2 0) (getD values 3 0) (getD values 4 0))
+    ∷ (λ values. Charted (getD values 0 0))
+    ∷ []
 
 abbrev pub kindOf : Answer → ℕ
 kindOf a = reading a .kind

@@ -4,33 +4,19 @@ use Prim.Native.Nat.{ℕ}
 use mathlib.Core.Bool.{Bool, not, cond}
 use mathlib.Core.List.{List, [], _∷_, _++_, map}
 use lib.Dec.{eqb}
-use lib.ListN.{getD}
 use Rattle.spec.specs.declared.types.Setup.{Setup}
 use Rattle.spec.specs.declared.types.Answer.{Answer}
-use Rattle.spec.specs.declared.types.Answer.the-variants.{Opened, Kept, Dropped, Served, Idle, Reported, Charted, Refused}
+use Rattle.spec.specs.declared.types.Answer.the-variants.{Charted, Refused}
 use Rattle.spec.specs.declared.types.Frame.{Frame}
 use Rattle.spec.specs.Every.{select}
 use Rattle.spec.specs.Tables.{zeroSetup}
-use Rattle.spec.specs.Calls.Readings.{kindOf, valuesOf}
+use Rattle.spec.specs.Calls.Readings.{kindOf, valuesOf, shown}
 use Rattle.spec.specs.Calls.Call.{Call, chart, meaning}
 use Rattle.spec.specs.Lists.{Event, refusedEvent, Among, isOpened}
 use Rattle.spec.specs.Lines.Frames.{fieldAt, valuesAt, frameOf, segmentKind}
 use Rattle.spec.specs.Lines.Session.{textOf, task, blank}
 
 -- ---- answers
--- "Kinds out: 81 opened; 82 kept, number (8), place (2); ..": each answer that a printed line shows, made of its values. Its kind and
--- the widths of its fields are those of `reading`
-abbrev pub shown : List (List ℕ → Answer)
-shown =
-    (λ values. Opened)
-    ∷ (λ values. Kept (getD values 0 0) (getD values 1 0))
-    ∷ (λ values. Dropped (getD values 0 0) (getD values 1 0) (getD values 2 0))
-    ∷ (λ values. Served (getD values 0 0) (getD values 1 0) (getD values 2 0))
-    ∷ (λ values. Idle (getD values 0 0))
-    ∷ (λ values. Reported (getD values 0 0) (getD values 1 0) (getD values 2 0) (getD values 3 0) (getD values 4 0))
-    ∷ (λ values. Charted (getD values 0 0))
-    ∷ []
-
 -- the answer whose kind byte is k, and a refusal where it is no other's. The library's chart answers the count of start slots, a session
 -- prints that of segments. The answer read off has the printed one: nothing that is read off a list depends on it
 abbrev pub answerAmong : List (List ℕ → Answer) → ℕ → List ℕ → Answer

@@ -1,7 +1,7 @@
 -- `session::turns::is_refused` meets its contract. Assumes nothing.
 use mathlib.Core.Path.{sym}
 use borrow.Author.Needs.{needs}
-use Rattle.session.proofs.Laws.NextLine.{not-refused}
+use Rattle.spec.proofs.Laws.Answers.{not-refused}
 use Rattle.session.proofs.turns.is_refused.Statement.{statement}
 use Rattle.session.proofs.turns.is_refused.Tie as tie
 
