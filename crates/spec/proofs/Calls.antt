@@ -1,4 +1,5 @@
--- What each call does: refusals, soundness, the victim, the chart.
+-- What each call does: its kind, refusals, soundness, the victim, the chart.
+pub mod Kinds
 pub mod Refused
 pub mod Victim
 pub mod Keeps

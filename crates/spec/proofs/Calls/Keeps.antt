@@ -24,9 +24,7 @@ use Rattle.spec.specs.Calls.Open.{openAccepted}
 use Rattle.spec.specs.Calls.Submit.{newRequest, countedIn, withNew, kept, requestAt, droppedAt, victimPlace}
 use Rattle.spec.specs.Calls.Submit.{submitAccepted}
 use Rattle.spec.specs.Calls.Tick.{isPeriodStart, restarted, countsAfter, oneLater, tickAccepted}
-use Rattle.spec.specs.Calls.Report.{reportAccepted}
-use Rattle.spec.specs.Calls.Chart.{chartAccepted}
-use Rattle.spec.specs.Calls.Call.{Call, opening, submit, tick, report, chart, outcomeOf, acceptedOf, refusalsOf}
+use Rattle.spec.specs.Calls.Call.{Call, outcomeOf, acceptedOf, refusalsOf}
 use Rattle.spec.proofs.Laws.Clients.{of-yes, of-no, waitingOf-none, waitingOf-put, waitingOf-remove, Changed, changes}
 use Rattle.spec.proofs.Laws.Clients.{stays, changed, length-change}
 use Rattle.spec.proofs.Laws.Room.{capacity-one, room-back, room-step, room-split, room-next}
@@ -36,9 +34,10 @@ use Rattle.spec.proofs.Laws.Order.{InOrder, Before, before-deadline, or
 use Rattle.spec.proofs.Laws.Feasible.{FeasibleAt, Feasible, feasible-facts, due-yes, dueBy-cons, dueBy-none, dueBy-self}
 use Rattle.spec.proofs.Laws.Sound.{Shaped, Ahead, Given, ClientExists, Balanced}
 use Rattle.spec.proofs.Laws.Accepted.{Decided, accepts, refuses, Ready, OpenReady, open-ready, SubmitReady, submit-ready}
-use Rattle.spec.proofs.Laws.Accepted.{TickReady, tick-ready, report-ready, chart-ready, waiting-length, next-waiting}
+use Rattle.spec.proofs.Laws.Accepted.{TickReady, tick-ready, waiting-length, next-waiting}
 use Rattle.spec.proofs.Laws.Accepted.{next-behind, next-length}
 use Rattle.spec.proofs.Laws.Layout.{length-numbers, records-numbers}
+use Rattle.spec.proofs.Calls.Kinds.{CallKind, is-open, is-submit, is-tick, reads-only, call-kind, read-ready}
 use Rattle.spec.proofs.Calls.Victim.{victim-place}
 use Rattle.spec.proofs.Calls.Refused.{outcome-decided, accepted-none, accepted-same}
 
@@ -354,12 +353,13 @@ tick-keeps s r =
 
 -- ---- every call
 accepted-keeps : (c : Call) (s : State) → firstMatch (refusalsOf c s) ≡ 0 → Ready (acceptedOf c s .after)
-unfolding reportAccepted chartAccepted
-accepted-keeps (opening setup) s e = open-keeps setup s (open-ready setup s e)
-accepted-keeps (submit client deadline) s e = submit-keeps client deadline s (submit-ready client deadline s e)
-accepted-keeps tick s e = tick-keeps s (tick-ready s e)
-accepted-keeps (report client) s e = report-ready client s e .ready
-accepted-keeps (chart output) s e = chart-ready output s e .ready
+accepted-keeps c s e = by-kind (call-kind c s) e
+  where
+    by-kind : {c : Call} → CallKind s c → firstMatch (refusalsOf c s) ≡ 0 → Ready (acceptedOf c s .after)
+    by-kind (is-open setup) e = open-keeps setup s (open-ready setup s e)
+    by-kind (is-submit client deadline) e = submit-keeps client deadline s (submit-ready client deadline s e)
+    by-kind is-tick e = tick-keeps s (tick-ready s e)
+    by-kind (reads-only c r) e = rw (r .accepted-is) (read-ready r e)
 
 -- ---- tables keep their lengths
 abbrev pub SameLengths : State → State → Type 0
@@ -419,24 +419,28 @@ tick-lengths s r = go (waiting s) (omega (arith, waiting-length s (r .shape), r 
         next-lengths (suc (s .head .clock)) (s .head .last) ws (after ws cs) s (r .shape) (omega arith)
         (counted ws cs ∙ length-change oneMoreServed (w .client) (clientTable s))
 
-accepted-lengths : (c : Call) (s : State) → firstMatch (refusalsOf c s) ≡ 0 → SameLengths s (acceptedOf c s .after)
-unfolding openAccepted reportAccepted chartAccepted
-accepted-lengths (opening setup) s e =
-    let l = open-ready setup s e .lengths in
+open-lengths : (setup : Setup) (s : State) → OpenReady setup s → SameLengths s (openAccepted setup s .after)
+unfolding openAccepted
+open-lengths setup s r =
     let none = replicate (length (clientTable s)) zeroCounts in (
       length-replicate (length (s .waitingTable)) zeroRequest,
       omega (
         arith,
         length-numbers none,
         length-replicate (length (clientTable s)) zeroCounts,
-        l .numbers-length,
-        l .clients-length,
+        r .lengths .numbers-length,
+        r .lengths .clients-length,
       ),
     )
-accepted-lengths (submit client deadline) s e = submit-lengths client deadline s (submit-ready client deadline s e)
-accepted-lengths tick s e = tick-lengths s (tick-ready s e .ready)
-accepted-lengths (report client) s e = (refl, refl)
-accepted-lengths (chart output) s e = (refl, refl)
+
+accepted-lengths : (c : Call) (s : State) → firstMatch (refusalsOf c s) ≡ 0 → SameLengths s (acceptedOf c s .after)
+accepted-lengths c s e = by-kind (call-kind c s) e
+  where
+    by-kind : {c : Call} → CallKind s c → firstMatch (refusalsOf c s) ≡ 0 → SameLengths s (acceptedOf c s .after)
+    by-kind (is-open setup) e = open-lengths setup s (open-ready setup s e)
+    by-kind (is-submit client deadline) e = submit-lengths client deadline s (submit-ready client deadline s e)
+    by-kind is-tick e = tick-lengths s (tick-ready s e .ready)
+    by-kind (reads-only c r) e = rw (r .accepted-is) (refl, refl)
 
 -- of every call, refused ones too
 pub same-lengths : (c : Call) (s : State) → SameLengths s (outcomeOf c s .after)

@@ -1,5 +1,5 @@
 -- Refused calls: document 01, "Refusals, first match wins". Assumes nothing.
-use Prim.Native.Nat.{ℕ, suc, _≤_}
+use Prim.Native.Nat.{ℕ, suc}
 use mathlib.Core.Path.{_≡_, refl, ap}
 use mathlib.Core.Logic.{_≢_}
 use mathlib.Core.Bool.{Bool, true, false, cond, true≢false}
@@ -18,16 +18,16 @@ use Rattle.spec.specs.Tables.{State, waiting, nextState}
 use Rattle.spec.specs.Setup.{Refusal, firstMatch, setupRefusals}
 use Rattle.spec.specs.Chart.{startsOf, hasNoOverfull}
 use Rattle.spec.specs.Calls.Readings.{isRefused, reading}
-use Rattle.spec.specs.Calls.Outcome.{Outcome, unlessRefused, saying}
+use Rattle.spec.specs.Calls.Outcome.{Outcome, saying}
 use Rattle.spec.specs.Calls.Open.{openRefusals, openAccepted}
 use Rattle.spec.specs.Calls.Submit.{submitRefusals, kept, droppedAt, victimPlace, withNew, submitAccepted}
 use Rattle.spec.specs.Calls.Tick.{tickRefusals, tickAccepted}
-use Rattle.spec.specs.Calls.Report.{reportRefusals, reportAccepted}
-use Rattle.spec.specs.Calls.Chart.{chartRefusals, chartAccepted, chartOutput}
-use Rattle.spec.specs.Calls.Call.{Call, opening, submit, tick, report, chart, outcomeOf, acceptedOf, refusalsOf, meaning}
+use Rattle.spec.specs.Calls.Chart.{chartRefusals, chartOutput}
+use Rattle.spec.specs.Calls.Call.{Call, opening, submit, tick, outcomeOf, acceptedOf, refusalsOf, meaning}
 use Rattle.spec.proofs.Demands.Words.{FirstHolds, here, further}
 use Rattle.spec.proofs.Laws.Accepted.{Decided, accepts, refuses, decided, SubmitReady, submit-none, chart-ready}
 use Rattle.spec.proofs.Laws.Accepted.{waiting-length}
+use Rattle.spec.proofs.Calls.Kinds.{Listed, CallKind, is-open, is-submit, is-tick, reads-only, call-kind}
 
 -- ---- each call is its refusals and what it does where none holds
 pub outcome-decided : (c : Call) (s : State) → Decided (refusalsOf c s) s (acceptedOf c s) (outcomeOf c s)
@@ -55,30 +55,30 @@ accepted-one : (c : Call) (s : State) (a : Answer) (t : State) → reading a .re
 accepted-one c s a t r u h = record { answered = record { one = refl; uncharted = λ e. u }; unrefused = r; same-setup = h }
 
 pub call-accepted : (c : Call) (s : State) → Accepted c s (acceptedOf c s)
-unfolding openAccepted submitAccepted kept droppedAt tickAccepted reportAccepted chartAccepted nextState
-call-accepted (opening setup) s = accepted-one (opening setup) s _ _ refl refl (λ e. absurd (true≢false e))
-call-accepted (submit client deadline) s = go (hasNoOverfull (s .head) (withNew client deadline s))
+unfolding openAccepted submitAccepted kept droppedAt tickAccepted nextState
+call-accepted c s = by-kind (call-kind c s)
   where
-    go : (x : Bool)
+    submitted : (client deadline : ℕ) (x : Bool)
         → Accepted (submit client deadline) s
         (cond x (kept client deadline s) (droppedAt (victimPlace client deadline s) client deadline s))
-    go true = accepted-one (submit client deadline) s _ _ refl refl (λ e. refl)
-    go false = accepted-one (submit client deadline) s _ _ refl refl (λ e. refl)
-call-accepted tick s = go (waiting s)
-  where
-    go : (ws : List Request) → Accepted tick s (tickAccepted ws s)
-    go [] = accepted-one tick s _ _ refl refl (λ e. refl)
-    go (w ∷ ws) = accepted-one tick s _ _ refl refl (λ e. refl)
-call-accepted (report client) s = accepted-one (report client) s _ _ refl refl (λ e. refl)
-call-accepted (chart output) s =
-    record {
-      answered = record { one = refl; uncharted = λ e. absurd (some-none e) };
-      unrefused = refl;
-      same-setup = λ e. refl;
-    }
-  where
-    some-none : {x : List ℕ} {xs : List (List ℕ)} → x ∷ xs ≡ [] → ⊥
-    some-none e = omega (arith, ap length e)
+    submitted client deadline true = accepted-one (submit client deadline) s _ _ refl refl (λ e. refl)
+    submitted client deadline false = accepted-one (submit client deadline) s _ _ refl refl (λ e. refl)
+
+    ticked : (ws : List Request) → Accepted tick s (tickAccepted ws s)
+    ticked [] = accepted-one tick s _ _ refl refl (λ e. refl)
+    ticked (w ∷ ws) = accepted-one tick s _ _ refl refl (λ e. refl)
+
+    by-kind : {c : Call} → CallKind s c → Accepted c s (acceptedOf c s)
+    by-kind (is-open setup) = accepted-one (opening setup) s _ _ refl refl (λ e. absurd (true≢false e))
+    by-kind (is-submit client deadline) = submitted client deadline (hasNoOverfull (s .head) (withNew client deadline s))
+    by-kind is-tick = ticked (waiting s)
+    by-kind (reads-only c r) =
+        rw (r .accepted-is)
+        (record {
+          answered = record { one = refl; uncharted = r .uncharted };
+          unrefused = r .unrefused;
+          same-setup = λ e. refl;
+        })
 
 pub accepted-answer : (c : Call) (s : State) → isRefused (acceptedOf c s .answers) ≡ false
 accepted-answer c s = call-accepted c s .unrefused
@@ -113,21 +113,19 @@ unfolding firstMatch
 first-match (here e) = rw e
 first-match (further e f) = rw e (first-match f)
 
--- a number of the paper's list
-abbrev pub Listed : ℕ → Type 0
-Listed n = (1 ≤ n) × (n ≤ 12)
-
 pub first-listed : {rs : List Refusal} {n : ℕ} → FirstHolds rs n → All (λ (r : Refusal). Listed (r .number)) rs → Listed n
 first-listed (here e) a = a .0
 first-listed (further e f) a = first-listed f (a .1)
 
 pub listed : (c : Call) (s : State) → All (λ (r : Refusal). Listed (r .number)) (refusalsOf c s)
-unfolding setupRefusals openRefusals submitRefusals tickRefusals reportRefusals chartRefusals
-listed (opening setup) s = omega arith
-listed (submit client deadline) s = omega arith
-listed tick s = omega arith
-listed (report client) s = omega arith
-listed (chart output) s = omega arith
+unfolding setupRefusals openRefusals submitRefusals tickRefusals
+listed c s = by-kind (call-kind c s)
+  where
+    by-kind : {c : Call} → CallKind s c → All (λ (r : Refusal). Listed (r .number)) (refusalsOf c s)
+    by-kind (is-open setup) = omega arith
+    by-kind (is-submit client deadline) = omega arith
+    by-kind is-tick = omega arith
+    by-kind (reads-only c r) = rw (r .refusals-are) (omega arith, (omega arith, r .own-listed))
 
 -- a call that is not refused meets none of its refusals, and comes to what an accepted call does
 pub accepted-none : (c : Call) (s : State) → isRefused (outcomeOf c s .answers) ≡ false → firstMatch (refusalsOf c s) ≡ 0
@@ -161,6 +159,14 @@ left-same c s = go (outcome-decided c s)
   where
     go : {o : Outcome} → Decided (refusalsOf c s) s (acceptedOf c s) o → cond (isRefused (o .answers)) s (o .after) ≡ o .after
     go (accepts e) = rw (accepted-answer c s)
+    go (refuses e) = refl
+
+-- a call that changes nothing where it is accepted changes nothing
+pub state-stays : (c : Call) (s : State) → acceptedOf c s .after ≡ s → outcomeOf c s .after ≡ s
+state-stays c s h = go (outcome-decided c s)
+  where
+    go : {o : Outcome} → Decided (refusalsOf c s) s (acceptedOf c s) o → o .after ≡ s
+    go (accepts e) = h
     go (refuses e) = refl
 
 -- ---- the output of chart

@@ -4,7 +4,6 @@ use mathlib.Core.Path.{_≡_}
 use mathlib.Core.Bool.{Bool, true, false, cond}
 use mathlib.Core.List.{List, [], _∷_}
 use native.Mathlib.Omega.{arith}
-use lib.Dec.{eqb}
 use lib.ListN.{length}
 use Rattle.slots.proofs.Laws.Sums.{All, all-imp}
 use Rattle.spec.specs.declared.types.Setup.{Setup}
@@ -13,21 +12,19 @@ use Rattle.spec.specs.declared.types.Answer.{Answer}
 use Rattle.spec.specs.Tables.{mostAhead, zeroRequest, State, waiting}
 use Rattle.spec.specs.Setup.{firstMatch}
 use Rattle.spec.specs.Chart.{startsOf, Segment, doTouch, joinLeft, segmentsOf, hasNoOverfull}
-use Rattle.spec.specs.Sound.{waitingOf}
 use Rattle.spec.specs.Calls.Readings.{field, valuesOf}
 use Rattle.spec.specs.Calls.Outcome.{Outcome}
 use Rattle.spec.specs.Calls.Open.{openAccepted}
 use Rattle.spec.specs.Calls.Submit.{newRequest, withNew, kept, droppedAt, victimPlace, submitAccepted}
 use Rattle.spec.specs.Calls.Tick.{tickAccepted}
-use Rattle.spec.specs.Calls.Report.{reportAccepted}
-use Rattle.spec.specs.Calls.Chart.{chartAccepted}
-use Rattle.spec.specs.Calls.Call.{Call, opening, submit, tick, report, chart, outcomeOf, acceptedOf, refusalsOf}
+use Rattle.spec.specs.Calls.Call.{Call, outcomeOf, acceptedOf, refusalsOf}
 use Rattle.spec.proofs.Demands.Words.{Finish, FitsField}
-use Rattle.spec.proofs.Laws.Every.{all-at, count-most}
+use Rattle.spec.proofs.Laws.Every.{all-at}
 use Rattle.spec.proofs.Laws.Order.{place-most}
 use Rattle.spec.proofs.Laws.Sound.{Ahead}
 use Rattle.spec.proofs.Laws.Accepted.{Decided, accepts, refuses, Ready, SubmitReady, submit-ready, tick-ready}
-use Rattle.spec.proofs.Laws.Accepted.{report-ready, chart-ready, waiting-length}
+use Rattle.spec.proofs.Laws.Accepted.{waiting-length}
+use Rattle.spec.proofs.Calls.Kinds.{CallKind, is-open, is-submit, is-tick, reads-only, call-kind}
 use Rattle.spec.proofs.Calls.Refused.{length-starts, outcome-decided, first-holds, first-listed, listed}
 use Rattle.spec.proofs.Calls.Victim.{victim-place}
 use Rattle.spec.proofs.Calls.LatestSlots.{ready-chart, segments-all}
@@ -88,33 +85,16 @@ tick-fits s r = go (waiting s) (r .sound .given) (r .sound .owned)
     go (w ∷ ws) g o =
         omega (arith, r .sound .headed .clock, r .sound .headed .last, r .sound .headed .setup .most-clients, g .0, o .0)
 
--- ---- report
-report-fits : (client : ℕ) (s : State) → Ready s → client < s .head .setup .clients → AllFit (reportAccepted client s .answers)
-unfolding reportAccepted
-report-fits client s r h =
-    omega (
-      arith,
-      r .sound .headed .setup .most-clients,
-      r .sound .balanced client (omega (arith, r .shape .clients)),
-      waits-most,
-      waiting-length s (r .shape),
-      r .shape .waits,
-      r .shape .most-records,
-    )
-  where
-    waits-most : waitingOf client (waiting s) ≤ length (waiting s)
-    waits-most = unfold waitingOf in count-most (λ w. eqb (w .client) client) (waiting s)
-
 -- ---- every call, refused ones too
 accepted-fits : (c : Call) (s : State) → firstMatch (refusalsOf c s) ≡ 0 → AllFit (acceptedOf c s .answers)
-unfolding openAccepted chartAccepted
-accepted-fits (opening setup) s e = (tt, tt)
-accepted-fits (submit client deadline) s e = submit-fits client deadline s (submit-ready client deadline s e)
-accepted-fits tick s e = tick-fits s (tick-ready s e .ready)
-accepted-fits (report client) s e =
-    let r = report-ready client s e in report-fits client s (r .ready) (r .exists)
-accepted-fits (chart output) s e =
-    let r = chart-ready output s e .ready in omega (arith, r .shape .waits, r .shape .most-records)
+unfolding openAccepted
+accepted-fits c s e = by-kind (call-kind c s) e
+  where
+    by-kind : {c : Call} → CallKind s c → firstMatch (refusalsOf c s) ≡ 0 → AllFit (acceptedOf c s .answers)
+    by-kind (is-open setup) e = (tt, tt)
+    by-kind (is-submit client deadline) e = submit-fits client deadline s (submit-ready client deadline s e)
+    by-kind is-tick e = tick-fits s (tick-ready s e .ready)
+    by-kind (reads-only c r) e = rw (r .accepted-is) (r .fits e, tt)
 
 pub call-fits : (c : Call) (s : State) → AllFit (outcomeOf c s .answers)
 call-fits c s = go (outcome-decided c s)

@@ -92,7 +92,7 @@ pub record Ready (s : State) : Type 0 where
   pub shape : Shaped s
   pub sound : Sound s
 
-ready : (s : State) (rs : List Refusal) → firstMatch (refusal4 s ∷ refusal5 s ∷ rs) ≡ 0 → Ready s × (firstMatch rs ≡ 0)
+pub ready : (s : State) (rs : List Refusal) → firstMatch (refusal4 s ∷ refusal5 s ∷ rs) ≡ 0 → Ready s × (firstMatch rs ≡ 0)
 ready s rs e =
     let p = none-match (refusal4 s) (refusal5 s ∷ rs) (omega arith) e in
     let q = none-match (refusal5 s) rs (omega arith) (p .1) in

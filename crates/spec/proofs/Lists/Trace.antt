@@ -15,7 +15,6 @@ use Rattle.slots.proofs.Laws.Sums.{total-map, total-one, total-cons}
 use Rattle.spec.specs.declared.types.Setup.{Setup}
 use Rattle.spec.specs.declared.types.Request.{Request}
 use Rattle.spec.specs.declared.types.Answer.{Answer}
-use Rattle.spec.specs.declared.types.Answer.the-variants.{Refused}
 use Rattle.spec.specs.Every.{exists, countIf, select}
 use Rattle.spec.specs.Tables.{zeroRequest, State, waiting, nextState}
 use Rattle.spec.specs.Setup.{firstMatch}
@@ -26,9 +25,7 @@ use Rattle.spec.specs.Calls.Outcome.{Outcome}
 use Rattle.spec.specs.Calls.Open.{openAccepted}
 use Rattle.spec.specs.Calls.Submit.{submitAccepted, kept, droppedAt, withNew, newRequest, requestAt, victimPlace}
 use Rattle.spec.specs.Calls.Tick.{tickAccepted}
-use Rattle.spec.specs.Calls.Report.{reportAccepted}
-use Rattle.spec.specs.Calls.Chart.{chartAccepted}
-use Rattle.spec.specs.Calls.Call.{Call, opening, submit, tick, report, chart, outcomeOf, acceptedOf, refusalsOf, meaning}
+use Rattle.spec.specs.Calls.Call.{Call, opening, submit, tick, outcomeOf, acceptedOf, refusalsOf, meaning}
 use Rattle.spec.specs.Lists.{run, Event, history, isOpened, isTick, ticks, Asked, askedBy, asked, servedIn, bookings}
 use Rattle.spec.specs.Lists.{victims, servedRequests, waitingRequests, refusedEvent}
 use Rattle.spec.proofs.Demands.Words.{Numbered}
@@ -38,6 +35,7 @@ use Rattle.spec.proofs.Laws.Order.{total-put, all-put}
 use Rattle.spec.proofs.Laws.Sound.{Given}
 use Rattle.spec.proofs.Laws.Accepted.{kept-waiting, dropped-waiting, ticked-waiting, Ready, OpenReady, SubmitReady}
 use Rattle.spec.proofs.Laws.Accepted.{TickReady, open-ready, submit-ready, tick-ready, Decided, accepts, refuses}
+use Rattle.spec.proofs.Calls.Kinds.{ReadsOnly, CallKind, is-open, is-submit, is-tick, reads-only, call-kind}
 use Rattle.spec.proofs.Calls.Refused.{outcome-decided, accepted-none, accepted-same}
 use Rattle.spec.proofs.Calls.Keeps.{open-keeps, submit-keeps, tick-keeps}
 use Rattle.spec.proofs.Calls.Victim.{victim-place}
@@ -490,7 +488,7 @@ module _ (s : State) (es : List Event) (T : Traced es s) where
 pub traced-tick : (s : State) (es : List Event) → TickReady s → Traced es s → Then Traced tick (tickAccepted (waiting s) s) es
 traced-tick s es r T = traced-ticked s es T (waiting s) refl (tick-keeps s r)
 
--- ---- events that leave the state: refused calls, reports and charts
+-- ---- events that leave the state: refused calls, and those that change nothing
 pub record Passing (e : Event) : Type 0 where
   pub no-tick : isTick e ≡ false
   pub none-asked : (clock : ℕ) → askedBy e clock ≡ []
@@ -503,6 +501,15 @@ refused-passing c n =
   where
     no-tick : isTick (refusedEvent c n) ≡ false
     no-tick = and-false (meaning c .isTick)
+
+read-passing : {c : Call} {s : State} (r : ReadsOnly c s) → Passing (event c (r .answer ∷ []))
+read-passing {c} {s} r =
+    record {
+      no-tick = rw (r .no-tick);
+      none-asked = λ t. rw (r .unrefused, r .wants-none);
+      none-served = rw (r .no-tick);
+      none-dropped = rw (r .names-nobody);
+    }
 
 module _ (e : Event) (es : List Event) (p : Passing e) where
   pub same-ticks : ticks (e ∷ es) ≡ ticks es
@@ -556,16 +563,15 @@ eventOf c s = event c (outcomeOf c s .answers)
 
 accepted-step : (c : Call) (s : State) → firstMatch (refusalsOf c s) ≡ 0 → isOpened (event c (acceptedOf c s .answers)) ≡ false
     → Step s (event c (acceptedOf c s .answers)) (acceptedOf c s .after)
-unfolding openAccepted reportAccepted chartAccepted
-accepted-step (opening setup) s e h = absurd (true≢false h)
-accepted-step (submit client deadline) s e h = submits client deadline (submit-ready client deadline s e)
-accepted-step tick s e h = serves (tick-ready s e)
-accepted-step (report client) s e h =
-    passes (event (report client) (reportAccepted client s .answers))
-    (record { no-tick = refl; none-asked = λ t. refl; none-served = refl; none-dropped = refl })
-accepted-step (chart output) s e h =
-    passes (event (chart output) (chartAccepted s .answers))
-    (record { no-tick = refl; none-asked = λ t. refl; none-served = refl; none-dropped = refl })
+unfolding openAccepted
+accepted-step c s e h = by-kind (call-kind c s) e h
+  where
+    by-kind : {c : Call} → CallKind s c → firstMatch (refusalsOf c s) ≡ 0 → isOpened (event c (acceptedOf c s .answers)) ≡ false
+        → Step s (event c (acceptedOf c s .answers)) (acceptedOf c s .after)
+    by-kind (is-open setup) e h = absurd (true≢false h)
+    by-kind (is-submit client deadline) e h = submits client deadline (submit-ready client deadline s e)
+    by-kind is-tick e h = serves (tick-ready s e)
+    by-kind (reads-only c r) e h = rw (r .accepted-is) (passes (event c (r .answer ∷ [])) (read-passing r))
 
 pub step : (c : Call) (s : State) → isOpened (eventOf c s) ≡ false → Step s (eventOf c s) (outcomeOf c s .after)
 step c s = go (outcome-decided c s)
