@@ -1,6 +1,6 @@
 -- What a call on the lent parts of the tables comes to is the frame's reply in the session. Assumes nothing.
 use Prim.Native.Nat.{ℕ, _≤_, _*_}
-use mathlib.Core.Path.{_≡_, refl, sym, ap, _∙_}
+use mathlib.Core.Path.{_≡_, refl, sym, ap, _∙_, subst}
 use mathlib.Core.Bool.{true, cond}
 use mathlib.Core.List.{List, [], _∷_, _++_, append-nil}
 use native.Mathlib.Omega.{arith}
@@ -9,8 +9,7 @@ use lib.ListN.{length, take, drop, length-take, length-replicate, take-append-dr
 use lib.Seq.{take-at}
 use Rattle.spec.specs.declared.types.Setup.{Setup}
 use Rattle.spec.specs.declared.types.Frame.{Frame}
-use Rattle.spec.specs.declared.types.Frame.the-variants.{Open, Submit, Tick, Report, Chart, Bad}
-use Rattle.spec.specs.declared.types.Answer.{Answer}
+use Rattle.spec.specs.declared.types.Frame.the-variants.{Open, Chart, Bad}
 use Rattle.spec.specs.declared.types.Answer.the-variants.{Opened, Refused}
 use Rattle.spec.specs.declared.types.Head.{Head}
 use Rattle.spec.specs.declared.types.Request.{Request}
@@ -19,13 +18,14 @@ use Rattle.spec.specs.Tables.{mostRecords, mostClients, State, zeroRequest, zer
 use Rattle.spec.specs.Calls.Readings.{isRefused}
 use Rattle.spec.specs.Calls.Outcome.{Outcome, refusing}
 use Rattle.spec.specs.Calls.Open.{openRefusals, openAccepted}
-use Rattle.spec.specs.Calls.Call.{opening as opening-call, outcomeOf, submit, tick, report}
+use Rattle.spec.specs.Calls.Call.{opening as opening-call, outcomeOf}
 use Rattle.spec.specs.Lines.Frames.{answerLine, answerLines}
-use Rattle.spec.specs.Lines.Session.{LineOutcome as SessionReply, lineOutcome, lent, blank, task}
+use Rattle.spec.specs.Lines.Session.{LineOutcome as SessionReply, lineOutcome, outcomeBy, lent, blank, Task, task}
 use Rattle.spec.proofs.Laws.Layout.{length-numbers, whole-records}
 use Rattle.spec.proofs.Laws.Accepted.{OpenReady, open-ready}
 use Rattle.frame.specs.LineLengths.{CanDraw}
 use Rattle.spec.proofs.Calls.Refused.{firstAnswer}
+use Rattle.spec.proofs.Lists.FrameCalls.{Asks, asks-open, asks-chart, asks-nothing, asks-call, asks}
 use Rattle.queue.specs.Gives.{Reply, said}
 use Rattle.session.specs.declared.types.Session.{Session}
 use Rattle.session.specs.Answered.{Answered, outcomeFor}
@@ -243,13 +243,17 @@ module _ (s : Session) (ws : List Request) (xs starts : List ℕ)
 
   -- ---- every frame
   handed-replied : (frame : Frame) → LentParts frame (recordsFor frame s) (numbersFor frame s) → Done frame
-  handed-replied (Open setup records) h = open-replied setup records (unfold recordsFor numbersFor in h)
-  handed-replied (Submit client deadline) h =
-      plain-replied (Submit client deadline) refl (call-plain starts held (submit client deadline) refl refl) h
-  handed-replied Tick h = plain-replied Tick refl (call-plain starts held tick refl refl) h
-  handed-replied (Report client) h = plain-replied (Report client) refl (call-plain starts held (report client) refl refl) h
-  handed-replied Chart h = plain-replied Chart refl (chart-plain starts held (r .answer) (facts .starts-long)) h
-  handed-replied Bad h = plain-replied Bad refl (bad-plain starts held) h
+  handed-replied frame = by-case (asks frame)
+    where
+      by-case : {frame : Frame} → Asks frame → LentParts frame (recordsFor frame s) (numbersFor frame s) → Done frame
+      by-case (asks-open setup records) h = open-replied setup records (unfold recordsFor numbersFor in h)
+      by-case asks-chart h = plain-replied Chart refl (chart-plain starts held (r .answer) (facts .starts-long)) h
+      by-case asks-nothing h = plain-replied Bad refl (bad-plain starts held) h
+      by-case (asks-call frame c e no-open none) h =
+          plain-replied frame (ap (λ (t : Task). t .named) e)
+          (subst (λ (t : Task). r .answer ∷ [] ≡ outcomeBy (t .calls starts) held .answers → Plain (t .calls) starts held (r .answer)) (sym e)
+          (call-plain starts held c no-open (none held)))
+          h
 
 -- with the parts that came back in front of the rest of the tables
 pub replied : (frame : Frame) (s : Session) (ws : List Request) (xs starts : List ℕ)

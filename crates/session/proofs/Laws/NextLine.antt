@@ -2,23 +2,21 @@
 -- Assumes nothing.
 use Prim.Native.Nat.{ℕ, zero, suc, _+_, _-_, _≤_, _<_, _*_}
 use mathlib.Core.Bool.{Bool, true, false, false≢true, not, cond, _&&_, _||_}
-use mathlib.Core.List.{List, [], _∷_, _++_, append-nil}
+use mathlib.Core.List.{List, [], _++_, append-nil}
 use mathlib.Core.Path.{_≡_, refl, sym, _∙_, subst, subst₂}
 use native.Mathlib.Omega.{arith}
 use borrow.Author.Tests.{ltb-true, ltb-false, leb-true, lt-ltb, le-ltb, le-leb, eqb-true}
 use lib.Dec.{ltb, leb, eqb}
 use lib.ListN.{length, drop, length-append, length-take, length-drop}
-use types.Run.{OneOf, miss}
-use denote.Enum.Declared.{tagOf}
 use Rattle.spec.specs.declared.types.Answer.{Answer}
 use Rattle.spec.specs.declared.types.Answer.the-variants.{Refused}
 use Rattle.spec.specs.declared.types.Frame.{Frame}
-use Rattle.spec.specs.declared.types.Frame.the-variants.{Open, Submit, Tick, Report, Chart, Bad}
+use Rattle.spec.specs.declared.types.Frame.the-variants.{Bad}
 use Rattle.spec.specs.Tables.{mostRecords, mostClients, clientWidth}
 use Rattle.spec.specs.Lines.Frames.{frameOf, answerLine, longestFrame}
-use Rattle.spec.specs.Lines.Session.{textOf, task}
+use Rattle.spec.specs.Lines.Session.{textOf}
 use Rattle.spec.proofs.Laws.Every.{or-none, same-test}
-use Rattle.spec.proofs.types.Frame as frames
+use Rattle.spec.proofs.Lists.FrameCalls.{NotOpen, not-open}
 use Rattle.frame.specs.Lines.{NoFeed, FirstFeed, slice}
 use Rattle.frame.specs.LineLengths.{mostBytes}
 use Rattle.frame.proofs.FrameKinds.{frame-length}
@@ -157,27 +155,18 @@ pub next-as : (line : List ℕ) (behind : ℕ) (fed : Fed) (can : Bool) (turn : 
     → NextIf ends full line behind fed can turn → Next line behind fed can turn
 next-as line behind fed can turn ends full e f = subst₂ (λ (x y : Bool). NextIf x y line behind fed can turn) (sym e) (sym f)
 
--- ---- frames of a variant, and of the others
--- only an open names lengths
-names-none : (f : Frame) → OneOf (1 ∷ 2 ∷ 3 ∷ 4 ∷ 5 ∷ []) (tagOf frames.the-type f) → task f .named ≡ []
-names-none (Open setup records) h = absurd (miss (1 ∷ 2 ∷ 3 ∷ 4 ∷ 5 ∷ []) 0 tt h)
-names-none (Submit client deadline) h = refl
-names-none Tick h = refl
-names-none (Report client) h = refl
-names-none Chart h = refl
-names-none Bad h = refl
-
-module _ (f : Frame) (others : OneOf (1 ∷ 2 ∷ 3 ∷ 4 ∷ 5 ∷ []) (tagOf frames.the-type f)) where
-  -- any other is lent what is in use
+-- ---- frames that open no session
+module _ (f : Frame) (others : NotOpen f) where
+  -- it is lent what is in use
   pub share-other : (s : Session)
       → (recordsFor f s ≡ upTo mostRecords (s .records)) × (numbersFor f s ≡ clientWidth * upTo mostClients (s .head .setup .clients))
   unfolding recordsFor numbersFor
-  share-other s = rw (names-none f others) (refl, refl)
+  share-other s = rw (not-open f others) (refl, refl)
 
   -- and as many records are in use after it
   pub after-other : (a : Answer) (before : ℕ) → recordsAfter f a before ≡ before
   unfolding recordsAfter
-  after-other a before = rw (names-none f others)
+  after-other a before = rw (not-open f others)
 
 -- ---- room, and the end of the input
 pub room-left : (put out : ℕ) → put ≤ out → leb mostBytes (out - put) ≡ leb (put + mostBytes) out

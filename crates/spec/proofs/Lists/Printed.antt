@@ -1,6 +1,6 @@
 -- What is read off the lines that a session prints: each line's answer is the one that was printed. Assumes nothing.
 use Prim.Native.Nat.{ℕ, _+_, _≤_, _<_}
-use mathlib.Core.Path.{_≡_, refl, sym, ap, _∙_}
+use mathlib.Core.Path.{_≡_, refl, sym, ap, _∙_, subst}
 use mathlib.Core.Bool.{true, false}
 use mathlib.Core.List.{List, [], _∷_, _++_, map, append-assoc, append-nil}
 use native.Mathlib.Omega.{arith}
@@ -12,7 +12,6 @@ use Rattle.spec.specs.declared.types.Setup.{Setup}
 use Rattle.spec.specs.declared.types.Answer.{Answer}
 use Rattle.spec.specs.declared.types.Answer.the-variants.{Charted, Refused}
 use Rattle.spec.specs.declared.types.Frame.{Frame}
-use Rattle.spec.specs.declared.types.Frame.the-variants.{Open, Submit, Tick, Report, Chart, Bad}
 use Rattle.spec.specs.Every.{select, gather}
 use Rattle.spec.specs.Tables.{State, mostRecords}
 use Rattle.spec.specs.Chart.{Segment, segmentsOf}
@@ -21,7 +20,7 @@ use Rattle.spec.specs.Calls.Outcome.{Outcome}
 use Rattle.spec.specs.Calls.Call.{Call}
 use Rattle.spec.specs.Lines.Frames.{lineFeed, numberFrom, digits, fieldDigits, lineOf, answerLine, segmentLines, frameOf}
 use Rattle.spec.specs.Lines.Frames.{answerLines, linesBy, segmentKind, segmentFields}
-use Rattle.spec.specs.Lines.Session.{Text, textOf, atStart, lent, blank, lineOutcome, replies, atEnd, session, task, outcomeBy}
+use Rattle.spec.specs.Lines.Session.{Text, textOf, atStart, lent, blank, lineOutcome, replies, atEnd, session, Task, task, outcomeBy}
 use Rattle.spec.specs.Lines.Session.{outputBy}
 use Rattle.spec.specs.Lines.Printed.{answerWith, kindIn, answersIn, unended}
 use Rattle.spec.proofs.Demands.Words.{FitsField}
@@ -29,6 +28,7 @@ use Rattle.spec.proofs.Calls.Refused.{firstAnswer, call-answers, output
 use Rattle.spec.proofs.Calls.Widths.{segments-length}
 use Rattle.spec.proofs.Demands.Demand1.{values-fit}
 use Rattle.spec.proofs.Laws.Answers.{readable}
+use Rattle.spec.proofs.Lists.FrameCalls.{Asks, asks-open, asks-chart, asks-nothing, asks-call, asks}
 use Rattle.spec.proofs.Laws.Digits.{Clean, digits-clean, fields-clean, length-digits, number-digits, FieldsRead, reads-back}
 
 -- ---- lines
@@ -136,14 +136,17 @@ module _ (setup : Setup) (starts : List ℕ) (short : length starts ≤ mostReco
       ∙ ap (λ (l : List Answer). shownAs setup starts a ∷ l) (answers-read answers ys (f .1))
 
 -- ---- a line's reply
-abbrev pub callsIn : Frame → List Call
-callsIn frame = task frame .calls blank
+abbrev pub callsIn : Task → List Call
+callsIn t = t .calls blank
 
-abbrev pub lentIn : Frame → State → State
-lentIn frame s = lent (task frame .named) s
+abbrev pub lentIn : Task → State → State
+lentIn t s = lent (t .named) s
 
-abbrev pub outcomeIn : Frame → State → Outcome
-outcomeIn frame s = outcomeBy (callsIn frame) (lentIn frame s)
+abbrev pub outcomeIn : Task → State → Outcome
+outcomeIn t s = outcomeBy (callsIn t) (lentIn t s)
+
+abbrev pub outputIn : Task → State → List ℕ
+outputIn t s = outputBy (callsIn t) blank (lentIn t s)
 
 -- its values fit, and its output is no longer than the session's own
 fits-by : (calls : List Call) (s : State) → All (λ (a : Answer). All FitsField (valuesOf a)) (outcomeBy calls s .answers)
@@ -153,40 +156,40 @@ fits-by (c ∷ cs) s = values-fit c s
 blank-short : length blank ≤ mostRecords
 blank-short = omega (arith, length-replicate {A = ℕ} mostRecords 0)
 
-output-short : (frame : Frame) (s : State) → length (outputBy (callsIn frame) blank s) ≤ mostRecords
-output-short (Open setup records) s = blank-short
-output-short (Submit client deadline) s = blank-short
-output-short Tick s = blank-short
-output-short (Report client) s = blank-short
-output-short Chart s = omega (arith, output-length blank s, blank-short)
-output-short Bad s = blank-short
+output-short : (frame : Frame) (s : State) → length (outputIn (task frame) s) ≤ mostRecords
+output-short frame s = by-case (asks frame)
+  where
+    by-case : {frame : Frame} → Asks frame → length (outputIn (task frame) s) ≤ mostRecords
+    by-case (asks-open setup records) = blank-short
+    by-case asks-chart = omega (arith, output-length blank s, blank-short)
+    by-case asks-nothing = blank-short
+    by-case (asks-call frame c e no-open none) =
+        subst (λ (t : Task). length (outputIn t s) ≤ mostRecords) (sym e) (rw (none s) blank-short)
 
 -- it is one answer
 one-by : (calls : List Call) (s : State) → outcomeBy calls s .answers ≡ firstAnswer (outcomeBy calls s .answers) ∷ []
 one-by [] s = refl
 one-by (c ∷ cs) s = call-answers c s .one
 
--- the answer that is read off the lines that are printed for a frame
-abbrev pub answerTo : Frame → State → Answer
-answerTo frame s =
-    shownAs (outcomeIn frame s .after .head .setup) (outputBy (callsIn frame) blank (lentIn frame s))
-    (firstAnswer (outcomeIn frame s .answers))
+-- the answer that is read off the lines that are printed for a frame, by what it asks for
+abbrev pub answerTo : Task → State → Answer
+answerTo t s = shownAs (outcomeIn t s .after .head .setup) (outputIn t s) (firstAnswer (outcomeIn t s .answers))
 
-pub reply-read : (frame : Frame) (s : State) (ys : List ℕ) → answersOf (lineOutcome frame s .bytes ++ ys) ≡ answerTo frame s ∷ answersOf ys
+pub reply-read : (frame : Frame) (s : State) (ys : List ℕ)
+    → answersOf (lineOutcome frame s .bytes ++ ys) ≡ answerTo (task frame) s ∷ answersOf ys
 unfolding lineOutcome
 reply-read frame s ys =
-    let t = lentIn frame s in
-    let o = outcomeIn frame s in
+    let t = task frame in
+    let o = outcomeIn t s in
     let setup = o .after .head .setup in
-    let output = outputBy (callsIn frame) blank t in
-    answers-read setup output (output-short frame t) (o .answers) ys (fits-by (callsIn frame) t)
-    ∙ ap (λ (l : List Answer). map (shownAs setup output) l ++ answersOf ys) (one-by (callsIn frame) t)
+    answers-read setup (outputIn t s) (output-short frame s) (o .answers) ys (fits-by (callsIn t) (lentIn t s))
+    ∙ ap (λ (l : List Answer). map (shownAs setup (outputIn t s)) l ++ answersOf ys) (one-by (callsIn t) (lentIn t s))
 
 -- ---- all lines
 -- the first line's answer, and those of the others
 pub line-answered : (line : List ℕ) (lines : List (List ℕ)) (s : State) (ys : List ℕ)
     → answersOf (replies s (line ∷ lines) ++ ys)
-    ≡ answerTo (frameOf line) s ∷ answersOf (replies (lineOutcome (frameOf line) s .after) lines ++ ys)
+    ≡ answerTo (task (frameOf line)) s ∷ answersOf (replies (lineOutcome (frameOf line) s .after) lines ++ ys)
 unfolding replies
 line-answered line lines s ys =
     let f = frameOf line in

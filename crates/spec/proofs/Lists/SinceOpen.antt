@@ -3,13 +3,13 @@
 use Prim.Native.Nat.{ℕ}
 use mathlib.Core.Path.{_≡_, refl, sym, ap, subst, subst₂}
 use mathlib.Core.Bool.{true, false, cond, and-false, true≢false}
-use mathlib.Core.List.{List, [], _∷_, _++_}
+use mathlib.Core.List.{List, [], _∷_, _++_, map}
 use lib.ListN.{length, take}
 use Rattle.spec.specs.declared.types.Setup.{Setup}
 use Rattle.spec.specs.declared.types.Answer.{Answer}
 use Rattle.spec.specs.declared.types.Answer.the-variants.{Charted}
 use Rattle.spec.specs.declared.types.Frame.{Frame}
-use Rattle.spec.specs.declared.types.Frame.the-variants.{Open, Submit, Tick, Report, Chart, Bad}
+use Rattle.spec.specs.declared.types.Frame.the-variants.{Open}
 use Rattle.spec.specs.Every.{exists}
 use Rattle.spec.specs.Tables.{State}
 use Rattle.spec.specs.Setup.{firstMatch}
@@ -18,11 +18,11 @@ use Rattle.spec.specs.Calls.Readings.{isRefused}
 use Rattle.spec.specs.Calls.Outcome.{Outcome}
 use Rattle.spec.specs.Calls.Open.{openAccepted, openRefusals}
 use Rattle.spec.specs.Calls.Chart.{chartAccepted, chartRefusals}
-use Rattle.spec.specs.Calls.Call.{Call, opening, submit, tick, report, chart, outcomeOf, meaning}
-use Rattle.spec.specs.Lists.{run, Event, history, isOpened, empty, own, refused, Among, other, refusedEvent}
+use Rattle.spec.specs.Calls.Call.{Call, opening, chart, outcomeOf, meaning}
+use Rattle.spec.specs.Lists.{run, Event, history, isOpened, empty, own, other, refusedEvent}
 use Rattle.spec.specs.Lines.Frames.{frameOf}
-use Rattle.spec.specs.Lines.Session.{textOf, atStart, lent, blank, lineOutcome, replies, stateAfter, atEnd, session}
-use Rattle.spec.specs.Lines.Session.{sessionState}
+use Rattle.spec.specs.Lines.Session.{textOf, atStart, blank, lineOutcome, replies, stateAfter, atEnd, session}
+use Rattle.spec.specs.Lines.Session.{sessionState, Task, task, lineOutcomeOf}
 use Rattle.spec.specs.Lines.Printed.{eventsBy, eventsFrom, eventsIn, sinceOpen, setupIn, AsPrinted, charted, Beside}
 use Rattle.spec.specs.Lines.Printed.{refused-one}
 use Rattle.spec.proofs.Demands.Words.{FromOpen}
@@ -30,7 +30,8 @@ use Rattle.spec.proofs.Laws.Accepted.{Decided, accepts, refuses}
 use Rattle.spec.proofs.Calls.Refused.{outcome-decided, firstAnswer, call-answers, left-same, none-accepted}
 use Rattle.spec.proofs.Lists.Trace.{event, Passing, refused-passing}
 use Rattle.spec.proofs.Lists.Passing.{WithPassing, among-pass}
-use Rattle.spec.proofs.Lists.Printed.{answersOf, shownAs, lentIn, answerTo, line-answered}
+use Rattle.spec.proofs.Lists.FrameCalls.{Asks, asks-open, asks-chart, asks-nothing, asks-call, asks}
+use Rattle.spec.proofs.Lists.Printed.{answersOf, shownAs, callsIn, lentIn, outcomeIn, outputIn, answerTo, line-answered}
 
 -- nothing that is read off the list depends on what it has beside those calls
 beside-pass : (e : Event) → Beside e → Passing e
@@ -142,14 +143,20 @@ module _ (es : List Event) (s : State) (so-far : SinceOpened es s) where
           let count = length (segmentsOf setup (take (s .head .waiting) output)) in
           event-goes-on (event (chart blank) (Charted count ∷ [])) refl (charted count)
 
-  frame-goes-on : (frame : Frame) → SinceOpened (eventsBy frame (answerTo frame s) ++ es) (lineOutcome frame s .after)
+  -- a line that asks for this
+  abbrev GoesOn : Task → Type 0
+  GoesOn t =
+      SinceOpened (map (λ c. event c (answerTo t s ∷ [])) (callsIn t) ++ es) (lineOutcomeOf s (outcomeIn t s) (outputIn t s) .after)
+
+  frame-goes-on : (frame : Frame) → SinceOpened (eventsBy frame (answerTo (task frame) s) ++ es) (lineOutcome frame s .after)
   unfolding lineOutcome
-  frame-goes-on (Open setup records) = open-goes-on setup (lentIn (Open setup records) s) _ _
-  frame-goes-on (Submit client deadline) = plain-goes-on (submit client deadline) refl refl _ _
-  frame-goes-on Tick = plain-goes-on tick refl refl _ _
-  frame-goes-on (Report client) = plain-goes-on (report client) refl refl _ _
-  frame-goes-on Chart = chart-goes-on _ _
-  frame-goes-on Bad = so-far
+  frame-goes-on frame = by-case (asks frame)
+    where
+      by-case : {frame : Frame} → Asks frame → GoesOn (task frame)
+      by-case (asks-open setup records) = open-goes-on setup (lentIn (task (Open setup records)) s) _ _
+      by-case asks-chart = chart-goes-on _ _
+      by-case asks-nothing = so-far
+      by-case (asks-call frame c e no-open none) = subst GoesOn (sym e) (plain-goes-on c no-open (none s) _ _)
 
 -- ---- all lines
 lines-go-on : (lines : List (List ℕ)) (es : List Event) (s : State) (ys : List ℕ) → SinceOpened es s
@@ -161,7 +168,7 @@ lines-go-on (line ∷ lines) es s ys k =
     let t = lineOutcome f s .after in
     subst (λ (answers : List Answer). SinceOpened (eventsFrom es (line ∷ lines) answers) (stateAfter t lines))
     (sym (line-answered line lines s ys))
-    (lines-go-on lines (eventsBy f (answerTo f s) ++ es) t ys (frame-goes-on es s k f))
+    (lines-go-on lines (eventsBy f (answerTo (task f) s) ++ es) t ys (frame-goes-on es s k f))
 
 pub since-opened : (input : List ℕ) → SinceOpened (eventsIn input (session input)) (sessionState input)
 unfolding eventsIn session sessionState exists
