@@ -8,12 +8,10 @@ use native.Mathlib.Omega.{arith}
 use lib.Dec.{T}
 use lib.ListN.{length, take, drop}
 use Rattle.spec.specs.declared.types.Frame.{Frame}
-use Rattle.spec.specs.declared.types.Frame.the-variants.{Open, Submit, Tick, Report, Chart, Bad}
 use Rattle.spec.specs.declared.types.Head.{Head}
 use Rattle.spec.specs.declared.types.Request.{Request}
 use Rattle.spec.specs.Tables.{mostRecords, mostClients, clientWidth, stateOf}
-use Rattle.spec.specs.Lines.Frames.{answerLines}
-use Rattle.spec.specs.Lines.Session.{task}
+use Rattle.spec.specs.Lines.Frames.{answerLines, task}
 use Rattle.frame.specs.LineLengths.{mostBytes, CanDraw}
 use Rattle.queue.specs.Gives.{Reply}
 use Rattle.session.specs.declared.types.Session.{Session}

@@ -5,7 +5,8 @@ use mathlib.Core.List.{List}
 use Rattle.spec.specs.declared.types.Frame.{Frame}
 use Rattle.spec.specs.Tables.{State}
 use Rattle.spec.specs.Calls.Outcome.{Outcome}
-use Rattle.spec.specs.Lines.Session.{task, outcomeBy, outputBy}
+use Rattle.spec.specs.Lines.Frames.{task}
+use Rattle.spec.specs.Lines.Session.{outcomeBy, outputBy}
 use Rattle.queue.specs.Gives.{Reply, said}
 
 -- what the call gives that a frame asks for, where the chart's output is starts

@@ -11,9 +11,9 @@ use Rattle.spec.specs.declared.types.Answer.{Answer}
 use Rattle.spec.specs.declared.types.Request.{Request}
 use Rattle.spec.specs.Every.{firstOr}
 use Rattle.spec.specs.Tables.{mostRecords, mostClients, clientWidth, State, stateOf}
-use Rattle.spec.specs.Calls.Readings.{isRefused, reading}
-use Rattle.spec.specs.Lines.Frames.{longestFrame}
-use Rattle.spec.specs.Lines.Session.{textOf, replies, Lengths, task}
+use Rattle.spec.specs.Calls.Readings.{reading}
+use Rattle.spec.specs.Lines.Frames.{longestFrame, Lengths, task}
+use Rattle.spec.specs.Lines.Session.{textOf, replies}
 unfoldable pub use Rattle.spec.specs.Lines.Session.{stateAfter}
 use Rattle.session.specs.declared.types.Session.{Session}
 

@@ -4,6 +4,6 @@ pub mod Counts
 pub mod Largest
 pub mod Passing
 pub mod Windows
-pub mod FrameCalls
+pub mod FrameTasks
 pub mod Printed
 pub mod SinceOpen

@@ -1,5 +1,5 @@
--- Lines in and out, document 01, "Session lines". Characters and bytes are numbers; a line stands without its line feed.
--- Assumes nothing.
+-- Lines in and out, and the call that a line in asks for: document 01, "Session lines". Characters and bytes are numbers; a line stands
+-- without its line feed. Assumes nothing.
 use Prim.Native.Nat.{ℕ, zero, suc, _+_, _-_, _*_, _/_, _%_}
 use mathlib.Core.Bool.{Bool, cond, _&&_}
 use mathlib.Core.List.{List, [], _∷_, _++_, map}
@@ -10,9 +10,10 @@ use Rattle.spec.specs.declared.types.Answer.{Answer}
 use Rattle.spec.specs.declared.types.Frame.{Frame}
 use Rattle.spec.specs.declared.types.Frame.the-variants.{Open, Submit, Tick, Report, Chart, Bad}
 use Rattle.spec.specs.Every.{isWithin, every, sum, largest}
-use Rattle.spec.specs.Tables.{mostRecords, setupWidth, setupOf}
+use Rattle.spec.specs.Tables.{setupWidth, setupOf}
 use Rattle.spec.specs.Chart.{Segment, segmentsOf}
 use Rattle.spec.specs.Calls.Readings.{Field, field, reading, kindOf, valuesOf}
+use Rattle.spec.specs.Calls.Call.{Call, opening, submit, tick, report, chart}
 
 -- "then a line feed (byte 0A)"
 abbrev pub lineFeed : ℕ
@@ -113,6 +114,29 @@ frameOf line = cond (every isDigit line) (frameWith (fieldAt 0 1 line) (length l
 -- "the longest frame whose values are in bounds": how many digits it has
 abbrev pub longestFrame : ℕ
 longestFrame = largest (map (λ kind. digitsFor (kind .widths)) frameKinds)
+
+-- ---- what a line asks for
+-- lengths of tables: waiting records, and clients
+pub record Lengths : Type 0 where
+  pub records : ℕ
+  pub clients : ℕ
+
+-- the call that a line asks for, where a chart's output is the one given, none where it is no frame; and the lengths that an open names
+pub record Task : Type 0 where
+  pub calls : List ℕ → List Call
+  pub named : List Lengths
+
+abbrev pub taskBy : (List ℕ → List Call) → Task
+taskBy calls = record { calls = calls; named = [] }
+
+abbrev pub task : Frame → Task
+task (Open setup records) =
+    record { calls = λ output. opening setup ∷ []; named = record { records = records; clients = setup .clients } ∷ [] }
+task (Submit client deadline) = taskBy (λ output. submit client deadline ∷ [])
+task Tick = taskBy (λ output. tick ∷ [])
+task (Report client) = taskBy (λ output. report client ∷ [])
+task Chart = taskBy (λ output. chart output ∷ [])
+task Bad = taskBy (λ output. [])
 
 -- ---- lines out
 unfoldable pub fieldDigits : List Field → List ℕ

@@ -13,8 +13,8 @@ use Rattle.spec.specs.Tables.{zeroSetup}
 use Rattle.spec.specs.Calls.Readings.{kindOf, valuesOf, shown}
 use Rattle.spec.specs.Calls.Call.{Call, chart, meaning}
 use Rattle.spec.specs.Lists.{Event, refusedEvent, Among, isOpened}
-use Rattle.spec.specs.Lines.Frames.{fieldAt, valuesAt, frameOf, segmentKind}
-use Rattle.spec.specs.Lines.Session.{textOf, task, blank}
+use Rattle.spec.specs.Lines.Frames.{fieldAt, valuesAt, frameOf, segmentKind, task}
+use Rattle.spec.specs.Lines.Session.{textOf, blank}
 
 -- ---- answers
 -- the answer whose kind byte is k, and a refusal where it is no other's. The library's chart answers the count of start slots, a session

@@ -6,13 +6,12 @@ use lib.Dec.{eqb}
 use lib.ListN.{replicate}
 use Rattle.spec.specs.declared.types.Answer.the-variants.{Refused}
 use Rattle.spec.specs.declared.types.Frame.{Frame}
-use Rattle.spec.specs.declared.types.Frame.the-variants.{Open, Submit, Tick, Report, Chart, Bad}
 use Rattle.spec.specs.Every.{gather, firstOr}
 use Rattle.spec.specs.Tables.{mostRecords, zeroSetup, zeroRequest, zeroCounts, openHead, State, numbersOf}
 use Rattle.spec.specs.Calls.Readings.{isRefused}
 use Rattle.spec.specs.Calls.Outcome.{Outcome, refusing}
-use Rattle.spec.specs.Calls.Call.{Call, opening, submit, tick, report, chart, meaning, outcomeOf}
-use Rattle.spec.specs.Lines.Frames.{lineFeed, frameOf, answerLine, answerLines}
+use Rattle.spec.specs.Calls.Call.{Call, meaning, outcomeOf}
+use Rattle.spec.specs.Lines.Frames.{lineFeed, frameOf, Lengths, task, answerLine, answerLines}
 
 -- ---- lines
 -- the lines that a line feed ends, in order, and the characters behind the last line feed
@@ -32,29 +31,7 @@ unfoldable pub textOf : List ℕ → Text
 textOf [] = record { lines = []; rest = [] }
 textOf (b ∷ bs) = read b (textOf bs)
 
--- ---- what a line asks for
--- lengths of tables: waiting records, and clients
-pub record Lengths : Type 0 where
-  pub records : ℕ
-  pub clients : ℕ
-
--- the call that a line asks for, where a chart's output is the one given, none where it is no frame; and the lengths that an open names
-pub record Task : Type 0 where
-  pub calls : List ℕ → List Call
-  pub named : List Lengths
-
-abbrev pub taskBy : (List ℕ → List Call) → Task
-taskBy calls = record { calls = calls; named = [] }
-
-abbrev pub task : Frame → Task
-task (Open setup records) =
-    record { calls = λ output. opening setup ∷ []; named = record { records = records; clients = setup .clients } ∷ [] }
-task (Submit client deadline) = taskBy (λ output. submit client deadline ∷ [])
-task Tick = taskBy (λ output. tick ∷ [])
-task (Report client) = taskBy (λ output. report client ∷ [])
-task Chart = taskBy (λ output. chart output ∷ [])
-task Bad = taskBy (λ output. [])
-
+-- ---- what a line gets
 -- what the call gives; "refusal 1" where there is none
 abbrev pub outcomeBy : List Call → State → Outcome
 outcomeBy [] s = refusing 1 s

@@ -12,7 +12,7 @@ use Rattle.spec.specs.declared.types.Frame.{Frame}
 use Rattle.spec.specs.declared.types.Frame.the-variants.{Open, Submit, Tick, Report, Chart, Bad}
 use Rattle.spec.specs.Tables.{State}
 use Rattle.spec.specs.Calls.Call.{Call, submit, tick, report, meaning}
-use Rattle.spec.specs.Lines.Session.{Task, taskBy, task}
+use Rattle.spec.specs.Lines.Frames.{Task, taskBy, task}
 use Rattle.spec.proofs.types.Frame.{the-type}
 
 pub data Asks : Frame → Type 0 where
