@@ -1,5 +1,5 @@
 -- What each call does: its kind, refusals, soundness, the victim, the chart.
-pub mod Kinds
+pub mod CallKinds
 pub mod Refused
 pub mod Victim
 pub mod Keeps

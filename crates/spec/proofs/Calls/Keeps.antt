@@ -37,7 +37,7 @@ use Rattle.spec.proofs.Laws.Accepted.{Decided, accepts, refuses, Ready,
 use Rattle.spec.proofs.Laws.Accepted.{TickReady, tick-ready, waiting-length, next-waiting}
 use Rattle.spec.proofs.Laws.Accepted.{next-behind, next-length}
 use Rattle.spec.proofs.Laws.Layout.{length-numbers, records-numbers}
-use Rattle.spec.proofs.Calls.Kinds.{CallKind, is-open, is-submit, is-tick, reads-only, call-kind, read-ready}
+use Rattle.spec.proofs.Calls.CallKinds.{CallKind, is-open, is-submit, is-tick, reads-only, call-kind, read-ready}
 use Rattle.spec.proofs.Calls.Victim.{victim-place}
 use Rattle.spec.proofs.Calls.Refused.{outcome-decided, accepted-none, accepted-same}
 

@@ -27,7 +27,7 @@ use Rattle.spec.specs.Calls.Call.{Call, opening, submit, tick, outcomeOf
 use Rattle.spec.proofs.Demands.Words.{FirstHolds, here, further}
 use Rattle.spec.proofs.Laws.Accepted.{Decided, accepts, refuses, decided, SubmitReady, submit-none, chart-ready}
 use Rattle.spec.proofs.Laws.Accepted.{waiting-length}
-use Rattle.spec.proofs.Calls.Kinds.{Listed, CallKind, is-open, is-submit, is-tick, reads-only, call-kind}
+use Rattle.spec.proofs.Calls.CallKinds.{Listed, CallKind, is-open, is-submit, is-tick, reads-only, call-kind}
 
 -- ---- each call is its refusals and what it does where none holds
 pub outcome-decided : (c : Call) (s : State) → Decided (refusalsOf c s) s (acceptedOf c s) (outcomeOf c s)

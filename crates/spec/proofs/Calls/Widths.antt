@@ -24,7 +24,7 @@ use Rattle.spec.proofs.Laws.Order.{place-most}
 use Rattle.spec.proofs.Laws.Sound.{Ahead}
 use Rattle.spec.proofs.Laws.Accepted.{Decided, accepts, refuses, Ready, SubmitReady, submit-ready, tick-ready}
 use Rattle.spec.proofs.Laws.Accepted.{waiting-length}
-use Rattle.spec.proofs.Calls.Kinds.{CallKind, is-open, is-submit, is-tick, reads-only, call-kind}
+use Rattle.spec.proofs.Calls.CallKinds.{CallKind, is-open, is-submit, is-tick, reads-only, call-kind}
 use Rattle.spec.proofs.Calls.Refused.{length-starts, outcome-decided, first-holds, first-listed, listed}
 use Rattle.spec.proofs.Calls.Victim.{victim-place}
 use Rattle.spec.proofs.Calls.LatestSlots.{ready-chart, segments-all}

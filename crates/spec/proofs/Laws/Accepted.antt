@@ -13,7 +13,6 @@ use Rattle.slots.proofs.Laws.Tests.{Same, same-yes, same-no, same}
 use Rattle.spec.specs.declared.types.Setup.{Setup}
 use Rattle.spec.specs.declared.types.Counts.{Counts}
 use Rattle.spec.specs.declared.types.Request.{Request}
-use Rattle.spec.specs.declared.types.Answer.the-variants.{Refused}
 use Rattle.spec.specs.Every.{isWithin}
 use Rattle.spec.specs.Tables.{mostRecords, mostCounted, clockEnd, numberEnd, mostAhead, clientTable, clientWidth, zeroRequest}
 use Rattle.spec.specs.Tables.{zeroCounts, State, waiting, behind, holding, nextState, change, oneMoreDropped}

@@ -35,7 +35,7 @@ use Rattle.spec.proofs.Laws.Order.{total-put, all-put}
 use Rattle.spec.proofs.Laws.Sound.{Given}
 use Rattle.spec.proofs.Laws.Accepted.{kept-waiting, dropped-waiting, ticked-waiting, Ready, OpenReady, SubmitReady}
 use Rattle.spec.proofs.Laws.Accepted.{TickReady, open-ready, submit-ready, tick-ready, Decided, accepts, refuses}
-use Rattle.spec.proofs.Calls.Kinds.{ReadsOnly, CallKind, is-open, is-submit, is-tick, reads-only, call-kind}
+use Rattle.spec.proofs.Calls.CallKinds.{ReadsOnly, CallKind, is-open, is-submit, is-tick, reads-only, call-kind}
 use Rattle.spec.proofs.Calls.Refused.{outcome-decided, accepted-none, accepted-same}
 use Rattle.spec.proofs.Calls.Keeps.{open-keeps, submit-keeps, tick-keeps}
 use Rattle.spec.proofs.Calls.Victim.{victim-place}
