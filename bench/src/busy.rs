@@ -66,7 +66,7 @@ impl Busy {
             4 => frames::open(300, 1_000, 10).to_lowercase(),
             5 => frames::TICK.to_string() + "\r",
             6 => frames::report(client)[1..].into(),
-            7 => "06".into(),
+            7 => "7F".into(),
             8 => frames::open(0, 1_000, 10),
             9 => frames::open(257, 0, 10),
             10 => frames::open(1, 0, 10),

@@ -155,7 +155,7 @@ fn all_but_open_refused(s: &mut Session, number: u8) {
 
 fn before_an_open(s: &mut Session) {
     all_but_open_refused(s, 4);
-    for line in ["", "0", "00", "06", "0102", "03 ", "no frame"] {
+    for line in ["", "0", "00", "7F", "0102", "03 ", "no frame"] {
         s.line(line).refused(1);
     }
     s.open(0, 1, 1).refused(2);

@@ -206,7 +206,7 @@ impl Writer {
     }
 
     fn unknown_kind(&mut self) -> Vec<u8> {
-        let kind = self.random.one_of(&[0x00, 0x06, 0x07, 0x10, 0x81, 0x88, 0xFF]);
+        let kind = self.random.one_of(&[0x00, 0x07, 0x10, 0x7F, 0x81, 0x88, 0xFF]);
         let digits = self.random.one_of(&[0, 4, 16, 20]);
         [format!("{kind:02X}").into(), self.digits(digits)].concat()
     }

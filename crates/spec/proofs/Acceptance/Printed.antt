@@ -8,7 +8,7 @@ use Rattle.spec.specs.declared.types.Setup.{Setup}
 use Rattle.spec.specs.declared.types.Answer.{Answer}
 use Rattle.spec.specs.declared.types.Answer.the-variants.{Kept, Dropped, Served, Reported, Charted, Refused}
 use Rattle.spec.specs.Every.{exists, select}
-use Rattle.spec.specs.Calls.Readings.{field, kindOf, valuesOf}
+use Rattle.spec.specs.Calls.Readings.{field}
 use Rattle.spec.specs.Calls.Chart.{chartOutput}
 use Rattle.spec.specs.Calls.Call.{Call, opening, submit, tick, report, chart}
 use Rattle.spec.specs.Lists.{Event, isOpened, ticks, Asked, asked, bookings, victims, servedRequests, waitingRequests}
@@ -25,7 +25,7 @@ openLine clients period records = lineOf 0x01 (field 2 clients ∷ field 4 perio
 abbrev submitLine : ℕ → ℕ → List ℕ
 submitLine client deadline = lineOf 0x02 (field 2 client ∷ field 8 deadline ∷ [])
 
--- a session of its own first; the line 010002000000640801 and one of kind 06 between two submits; "a last line without its line feed"
+-- a session of its own first; the line 010002000000640801 and one of kind 7F between two submits; "a last line without its line feed"
 abbrev input : List ℕ
 input =
     openLine 1 7 2
@@ -34,7 +34,7 @@ input =
     ++ submitLine 0 1
     ++ submitLine 1 2
     ++ openLine 2 100 2049
-    ++ lineOf 0x06 []
+    ++ lineOf 0x7F []
     ++ submitLine 1 1
     ++ lineOf 0x05 []
     ++ lineOf 0x03 []
@@ -52,8 +52,8 @@ pub record Printout : Type 0 where
 abbrev numbers : List Asked → List ℕ
 numbers rs = map (λ (a : Asked). a .request .number) rs
 
-abbrev shown : List Event → Printout
-shown es =
+abbrev printoutOf : List Event → Printout
+printoutOf es =
     record {
       opened = exists isOpened es;
       setup = setupIn es;
@@ -87,6 +87,6 @@ unfoldable lines : Unit {0}
 unfolding digits characterOf digitOf numberFrom frameWith frameOf fieldDigits lineOf segmentLines textOf
 lines = tt
 
-pub read-off : shown (eventsIn input (session input)) ≡ expected
+pub read-off : printoutOf (eventsIn input (session input)) ≡ expected
 unfolding calls chartOutput lines atStart lineOutcome replies session answerWith answersIn eventsFrom eventsIn sinceOpen setupIn exists select ticks asked bookings victims servedRequests waitingRequests
 read-off = refl

@@ -9,7 +9,6 @@ use Rattle.spec.specs.declared.types.Frame.{Frame}
 use Rattle.spec.specs.declared.types.Frame.the-variants.{Open, Submit, Tick, Report, Chart, Bad}
 use Rattle.spec.specs.Every.{every}
 use Rattle.spec.specs.Chart.{Segment}
-use Rattle.spec.specs.Calls.Readings.{kindOf, valuesOf}
 use Rattle.spec.specs.Calls.Chart.{chartOutput}
 use Rattle.spec.specs.Lines.Frames.{answerLine, digitOf, characterOf, numberFrom, digits, frameWith, frameOf}
 use Rattle.spec.specs.Lines.Frames.{fieldDigits, lineOf, segmentLines}
@@ -72,7 +71,7 @@ dialogues =
     -- "Empty input prints nothing."
     ∷ dialogue [] "" []
     -- "An empty line, an unknown kind, a wrong length, or a last line without its line feed gets refusal 1."
-    ∷ dialogue ("" ∷ "06" ∷ "81" ∷ "0300" ∷ "0500" ∷ "04" ∷ "0" ∷ "030" ∷ []) "03"
+    ∷ dialogue ("" ∷ "7F" ∷ "81" ∷ "0300" ∷ "0500" ∷ "04" ∷ "0" ∷ "030" ∷ []) "03"
     ("FF01" ∷ "FF01" ∷ "FF01" ∷ "FF01" ∷ "FF01" ∷ "FF01" ∷ "FF01" ∷ "FF01" ∷ "FF01" ∷ [])
     -- "pairs of upper-case hexadecimal digits"
     ∷ dialogue (" 03" ∷ "03 " ∷ "03\r" ∷ "01000100000f640008" ∷ []) "" ("FF01" ∷ "FF01" ∷ "FF01" ∷ "FF01" ∷ [])
