@@ -2,75 +2,78 @@
 use crate::digits;
 use spec::types::Frame;
 use spec::types::Setup;
+ghost use mathlib.Core.Bool.{true};
+ghost use mathlib.Core.List.{[]};
 ghost use mathlib.Core.Path.{_≡_};
-ghost use Rattle.spec.specs.Lines.Frames.{frameOf};
+ghost use Rattle.spec.specs.Every.{every};
+ghost use Rattle.spec.specs.Lines.Frames.{isDigit, openKind, submitKind, reportKind, frameOf};
 ghost use Rattle.frame.specs.Digits.{digitTable};
-ghost use Rattle.frame.specs.Kinds.{kindBy};
+ghost use Rattle.frame.specs.Kinds.{whereLong, frameAs};
 
-// The digits of each kind of frame: two for its kind byte, and two for each byte of its fields.
+// The digits of each frame: two for its kind byte, and two for each byte of its fields.
+const BARE_DIGITS: usize = 2 * 1;
+
 const OPEN_DIGITS: usize = 2 * (1 + 2 + 4 + 2);
 
 const SUBMIT_DIGITS: usize = 2 * (1 + 2 + 8);
 
-const TICK_DIGITS: usize = 2 * 1;
-
 const REPORT_DIGITS: usize = 2 * (1 + 2);
 
-const CHART_DIGITS: usize = 2 * 1;
-
-// The digits of the longest frame, submit's; no frame has fewer than tick.
+// The digits of the longest frame, submit's; no frame has fewer than a kind byte.
 pub const LONGEST_FRAME: usize = SUBMIT_DIGITS;
 
-pub enum Kind {
-    Open,
-    Submit,
-    Tick,
-    Report,
-    Chart,
-    Bad,
+// The open that a line with its kind byte is; one of another length is `Bad`.
+fn open_frame(table: &[u8], line: &[u8]) -> Frame
+    requires { ⌜ (now table ≡ digitTable) × (every isDigit (now line) ≡ true) ⌝ }
+    ensures { λ r. ⌜ r ≡ frameAs openKind (now (line .entry)) ⌝ }
+{
+    if line.len() != OPEN_DIGITS {
+        return Frame::Bad;
+    }
+    Frame::Open {
+        setup: Setup {
+            clients: digits::field_at(table, line, 1, 2),
+            period: digits::field_at(table, line, 3, 4),
+        },
+        records: digits::field_at(table, line, 7, 2),
+    }
 }
 
-// Which kind of frame a kind byte with so many digits is: "an unknown kind, a wrong length" are none.
-fn kind_of(kind: u64, count: usize) -> Kind
-    ensures { λ r. ⌜ r ≡ kindBy kind count ⌝ }
+// The submit that a line with its kind byte is.
+fn submit_frame(table: &[u8], line: &[u8]) -> Frame
+    requires { ⌜ (now table ≡ digitTable) × (every isDigit (now line) ≡ true) ⌝ }
+    ensures { λ r. ⌜ r ≡ frameAs submitKind (now (line .entry)) ⌝ }
 {
-    match kind {
-        0x01 => {
-            if count == OPEN_DIGITS {
-                Kind::Open
-            } else {
-                Kind::Bad
-            }
-        }
-        0x02 => {
-            if count == SUBMIT_DIGITS {
-                Kind::Submit
-            } else {
-                Kind::Bad
-            }
-        }
-        0x03 => {
-            if count == TICK_DIGITS {
-                Kind::Tick
-            } else {
-                Kind::Bad
-            }
-        }
-        0x04 => {
-            if count == REPORT_DIGITS {
-                Kind::Report
-            } else {
-                Kind::Bad
-            }
-        }
-        0x05 => {
-            if count == CHART_DIGITS {
-                Kind::Chart
-            } else {
-                Kind::Bad
-            }
-        }
-        0 | 6..=18446744073709551615 => Kind::Bad,
+    if line.len() != SUBMIT_DIGITS {
+        return Frame::Bad;
+    }
+    Frame::Submit {
+        client: digits::field_at(table, line, 1, 2),
+        deadline: digits::field_at(table, line, 3, 8),
+    }
+}
+
+// The report that a line with its kind byte is.
+fn report_frame(table: &[u8], line: &[u8]) -> Frame
+    requires { ⌜ (now table ≡ digitTable) × (every isDigit (now line) ≡ true) ⌝ }
+    ensures { λ r. ⌜ r ≡ frameAs reportKind (now (line .entry)) ⌝ }
+{
+    if line.len() != REPORT_DIGITS {
+        return Frame::Bad;
+    }
+    Frame::Report {
+        client: digits::field_at(table, line, 1, 2),
+    }
+}
+
+// The frame without fields that a line of so many digits is; with more than its kind byte it is none.
+fn bare_frame(frame: Frame, count: usize) -> Frame
+    ensures { λ r. ⌜ r ≡ whereLong [] count frame ⌝ }
+{
+    if count == BARE_DIGITS {
+        frame
+    } else {
+        Frame::Bad
     }
 }
 
@@ -80,7 +83,7 @@ pub fn frame_of(table: &[u8], line: &[u8]) -> Frame
     ensures { λ r. ⌜ r ≡ frameOf (now (line .entry)) ⌝ }
 {
     let count = line.len();
-    if count < TICK_DIGITS {
+    if count < BARE_DIGITS {
         return Frame::Bad;
     }
     if count > LONGEST_FRAME {
@@ -89,24 +92,12 @@ pub fn frame_of(table: &[u8], line: &[u8]) -> Frame
     if !digits::are_digits(table, line) {
         return Frame::Bad;
     }
-    let kind = digits::field_at(table, line, 0, 1);
-    match kind_of(kind, count) {
-        Kind::Open => Frame::Open {
-            setup: Setup {
-                clients: digits::field_at(table, line, 1, 2),
-                period: digits::field_at(table, line, 3, 4),
-            },
-            records: digits::field_at(table, line, 7, 2),
-        },
-        Kind::Submit => Frame::Submit {
-            client: digits::field_at(table, line, 1, 2),
-            deadline: digits::field_at(table, line, 3, 8),
-        },
-        Kind::Tick => Frame::Tick,
-        Kind::Report => Frame::Report {
-            client: digits::field_at(table, line, 1, 2),
-        },
-        Kind::Chart => Frame::Chart,
-        Kind::Bad => Frame::Bad,
+    match digits::field_at(table, line, 0, 1) {
+        0x01 => open_frame(table, line),
+        0x02 => submit_frame(table, line),
+        0x03 => bare_frame(Frame::Tick, count),
+        0x04 => report_frame(table, line),
+        0x05 => bare_frame(Frame::Chart, count),
+        0 | 6..=18446744073709551615 => Frame::Bad,
     }
 }
