@@ -1,33 +1,15 @@
 -- What the parts of an exported call come to together. Assumes nothing.
 use Prim.Native.Nat.{ℕ}
-use mathlib.Core.Path.{_≡_, refl, sym, ap, subst, _∙_}
+use mathlib.Core.Path.{_≡_, sym, ap, subst, _∙_}
 use mathlib.Core.List.{List}
 use Rattle.spec.specs.declared.types.Head.{Head}
 use Rattle.spec.specs.declared.types.Request.{Request}
 use Rattle.spec.specs.Tables.{State, stateOf}
-use Rattle.spec.specs.Setup.{Refusal}
 use Rattle.spec.specs.Calls.Readings.{kindOf}
-use Rattle.spec.specs.Calls.Outcome.{Outcome}
-use Rattle.spec.specs.Calls.Report.{reportAccepted}
-use Rattle.spec.specs.Calls.Chart.{chartAccepted}
-use Rattle.spec.specs.Calls.Call.{Call, report, chart, outcomeOf}
-use Rattle.spec.proofs.Laws.Accepted.{Decided, accepts, refuses}
-use Rattle.spec.proofs.Calls.Refused.{outcome-decided}
+use Rattle.spec.specs.Calls.Call.{Call, outcomeOf, acceptedOf}
+use Rattle.spec.proofs.Calls.Refused.{state-stays}
 use Rattle.queue.specs.Gives.{Reply, Gives}
 use Rattle.welsbell.specs.Numbers.{headOf, valueNumbers, written, Exported}
-
--- a report and a chart leave the state as it was, refused or not
-stays : {rs : List Refusal} {s : State} {accepted o : Outcome} → accepted .after ≡ s → Decided rs s accepted o → o .after ≡ s
-stays e (accepts z) = e
-stays e (refuses z) = refl
-
-pub report-stays : (client : ℕ) (s : State) → outcomeOf (report client) s .after ≡ s
-unfolding reportAccepted
-report-stays client s = stays refl (outcome-decided (report client) s)
-
-pub chart-stays : (output : List ℕ) (s : State) → outcomeOf (chart output) s .after ≡ s
-unfolding chartAccepted
-chart-stays output s = stays refl (outcome-decided (chart output) s)
 
 -- the call c, with the head h that was read, gave this reply, whose values were written
 module _ (c : Call) (head values₀ : List ℕ) {h : Head} (is-head : h ≡ headOf head) {ws ws′ : List Request} {xs xs′ : List ℕ}
@@ -54,6 +36,6 @@ module _ (c : Call) (head values₀ : List ℕ) {h : Head} (is-head : h ≡ head
   pub exports-given : (head′ : List ℕ) → headOf head′ ≡ reply .head → Exported c s values₀ kind values (stateOf (headOf head′) ws′ xs′)
   exports-given head′ headed = exports (ap (λ (x : Head). stateOf x ws′ xs′) headed ∙ given .after-same)
 
-  -- the state stays as it was, so the head need not be written
-  pub exports-read : ((t : State) → outcomeOf c t .after ≡ t) → Exported c s values₀ kind values s
-  exports-read same = exports (sym (same s))
+  -- a call that changes nothing leaves the state as it was, refused or not, so the head need not be written
+  pub exports-read : ((t : State) → acceptedOf c t .after ≡ t) → Exported c s values₀ kind values s
+  exports-read same = exports (sym (state-stays c s (same s)))

@@ -5,7 +5,7 @@ use Rattle.walk.proofs.Prelude.{drop, so, vars, relends, gives, passed-on, made
 use Rattle.queue.proofs.Values.{a-reply}
 use Rattle.spec.specs.declared.types.Head.{Head}
 use Rattle.spec.specs.Tables.{stateOf}
-use Rattle.spec.specs.Calls.Chart.{chartOutput}
+use Rattle.spec.specs.Calls.Chart.{chartAccepted, chartOutput}
 use Rattle.spec.specs.Calls.Call as calls
 use Rattle.table.proofs.Requests.{RequestT}
 use Rattle.table.proofs.Heads.{the-head, a-head}
@@ -13,7 +13,7 @@ use Rattle.walk.proofs.Prelude.{lent, shown, shown-one, lent-one}
 use Rattle.walk.proofs.Prelude.{Shape, Walk, proved}
 use Rattle.walk.proofs.Prelude.{mut-one, passed-on-one, relends-one}
 use Rattle.welsbell.proofs.ExportedCalls.{head-array, values-array, Exports, cites-numbers}
-use Rattle.welsbell.proofs.ExportLaws.{chart-stays, exports-read}
+use Rattle.welsbell.proofs.ExportLaws.{exports-read}
 use Rattle.queue.proofs.chart as chart
 use Rattle.welsbell.proofs.welsbell_chart as f
 
@@ -24,6 +24,7 @@ module _ {M : Type 1} (𝓤 : URA M) (H : Heap 𝓤) (A : Atoms 𝓤) (W : Given
       ((chart.Symbol.name, tripleOf 𝓤 H A chart.signature (chart.spec 𝓤 H A mem run)) ∷ [])
 
   walk : (𝓣 : Tables 𝓤 H) → Walk shape 𝓣
+  unfolding chartAccepted
   walk 𝓣 known-head-of known-write-values known-chart κs qs head waiting clients output values g Q leaves bs =
       drop ! $
       -- let h = numbers::head_of(head);
@@ -35,7 +36,7 @@ module _ {M : Type 1} (𝓤 : URA M) (H : Heap 𝓤) (A : Atoms 𝓤) (W : Given
       -- numbers::write_values(values, reply)
       calls-for ! 𝓣 (4 ∷ []) (mut-one W values ∷ given W a-reply reply reply-is ∷ []) (of-number w64) (λ c. known-write-values) (λ c h. h) (id⊢ 𝓤 _) refl (λ c. vars ! (refl, (refl, tt))) (λ _. refl) (λ r last₃ told kept₃ r-is. gives ! refl refl $
       leaves (vint w64 r) r (last₂ .1 .1 .1 .0, (last₃ .0, tt)) (kept₂ .1 .1 .0, tt) (made W (of-number w64) r r-is)
-      (so 𝓤 (exports-read (calls.chart (output .list)) (head .held) (values .held) is-head (gave .0) told (chart-stays (output .list)), gave .1 ∙ ap (λ (x : Head). chartOutput (output .list) (stateOf x (waiting .list) (clients .list))) is-head)))))
+      (so 𝓤 (exports-read (calls.chart (output .list)) (head .held) (values .held) is-head (gave .0) told (λ t. refl), gave .1 ∙ ap (λ (x : Head). chartOutput (output .list) (stateOf x (waiting .list) (clients .list))) is-head)))))
 
 pub welsbell-chart-spec : {M : Type 1} → f.Statement.statement M
 unfolding f.Code.routine

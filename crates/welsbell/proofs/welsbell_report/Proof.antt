@@ -3,6 +3,7 @@
 use Rattle.walk.proofs.Prelude.{refl, [], _∷_, URA, w64, vint, SProp, Memory, Routine, Heap, Tables, Atoms, Fun, Given, _$_, !, u32, tripleOf, id⊢}
 use Rattle.walk.proofs.Prelude.{drop, number, so, vars, gives, passed-on, made, of-number, calls-for, given}
 use Rattle.queue.proofs.Values.{a-reply}
+use Rattle.spec.specs.Calls.Report.{reportAccepted}
 use Rattle.spec.specs.Calls.Call as calls
 use Rattle.table.proofs.Requests.{RequestT}
 use Rattle.table.proofs.Heads.{the-head, a-head}
@@ -10,7 +11,7 @@ use Rattle.walk.proofs.Prelude.{taken, shown, shown-one, lent-one}
 use Rattle.walk.proofs.Prelude.{Shape, Walk, proved}
 use Rattle.walk.proofs.Prelude.{mut-one, passed-on-one, relends-one}
 use Rattle.welsbell.proofs.ExportedCalls.{head-array, values-array, Exports, cites-numbers}
-use Rattle.welsbell.proofs.ExportLaws.{report-stays, exports-read}
+use Rattle.welsbell.proofs.ExportLaws.{exports-read}
 use Rattle.queue.proofs.report as report
 use Rattle.welsbell.proofs.welsbell_report as f
 
@@ -21,6 +22,7 @@ module _ {M : Type 1} (𝓤 : URA M) (H : Heap 𝓤) (A : Atoms 𝓤) (W : Given
       ((report.Symbol.name, tripleOf 𝓤 H A report.signature (report.spec 𝓤 H A mem run)) ∷ [])
 
   walk : (𝓣 : Tables 𝓤 H) → Walk shape 𝓣
+  unfolding reportAccepted
   walk 𝓣 known-head-of known-write-values known-report κs qs head waiting clients client client-is values g Q leaves bs =
       drop ! $
       -- let h = numbers::head_of(head);
@@ -30,7 +32,7 @@ module _ {M : Type 1} (𝓤 : URA M) (H : Heap 𝓤) (A : Atoms 𝓤) (W : Given
       relends-one ! values refl $
       -- numbers::write_values(values, reply)
       calls-for ! 𝓣 (3 ∷ []) (mut-one W values ∷ given W a-reply reply reply-is ∷ []) (of-number w64) (λ c. known-write-values) (λ c h. h) (id⊢ 𝓤 _) refl (λ c. vars ! (refl, (refl, tt))) (λ _. refl) (λ r last₃ told kept₃ r-is. gives ! refl refl $
-      leaves (vint w64 r) r (last₃ .0, tt) tt (made W (of-number w64) r r-is) (so 𝓤 (exports-read (calls.report client) (head .held) (values .held) is-head gave told (report-stays client))))))
+      leaves (vint w64 r) r (last₃ .0, tt) tt (made W (of-number w64) r r-is) (so 𝓤 (exports-read (calls.report client) (head .held) (values .held) is-head gave told (λ t. refl))))))
 
 pub welsbell-report-spec : {M : Type 1} → f.Statement.statement M
 unfolding f.Code.routine
