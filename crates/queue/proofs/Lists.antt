@@ -7,7 +7,7 @@ use Rattle.spec.specs.declared.types.Setup.{Setup}
 use Rattle.spec.specs.Every.{exists}
 use Rattle.spec.specs.Tables.{State}
 use Rattle.spec.specs.Calls.Readings.{isRefused}
-use Rattle.spec.specs.Calls.Call.{Call, opening, outcomeOf}
+use Rattle.spec.specs.Calls.{Call, opening, outcomeOf}
 use Rattle.spec.specs.Lists.{run, Event, history, isOpened, empty, own, other, refusedEvent, WithRefused}
 use Rattle.spec.specs.Lists.{refused as refused-call}
 use Rattle.spec.proofs.Demands.Demand1.{CountsGiven, counts-given}

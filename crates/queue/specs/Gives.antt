@@ -3,7 +3,7 @@ use mathlib.Core.Path.{_≡_}
 use mathlib.Core.List.{List, [], _∷_}
 use Rattle.spec.specs.declared.types.Answer.{Answer}
 use Rattle.spec.specs.Tables.{State}
-use Rattle.spec.specs.Calls.Call.{Call, outcomeOf}
+use Rattle.spec.specs.Calls.{Call, outcomeOf}
 pub use Rattle.spec.specs.declared.types.Reply.{Reply}
 
 -- the answers that a reply stands for: the one that it has

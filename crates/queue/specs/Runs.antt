@@ -5,7 +5,7 @@ use mathlib.Core.Path.{_≡_}
 use mathlib.Core.List.{List, [], _∷_}
 use Rattle.spec.specs.declared.types.Answer.the-variants.{Refused}
 use Rattle.spec.specs.Tables.{State}
-use Rattle.spec.specs.Calls.Call.{Call}
+use Rattle.spec.specs.Calls.{Call}
 use Rattle.spec.specs.Lists.{Event, refusedEvent}
 use Rattle.queue.specs.Gives.{Reply, said, Gives}
 

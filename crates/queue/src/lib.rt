@@ -14,7 +14,7 @@ use table::waiting;
 ghost use mathlib.Core.Path.{_≡_};
 ghost use Rattle.spec.specs.Tables.{stateOf};
 ghost use Rattle.spec.specs.Calls.Chart.{chartOutput};
-ghost use Rattle.spec.specs.Calls.Call.{opening, tick, report, chart};
+ghost use Rattle.spec.specs.Calls.{opening, tick, report, chart};
 ghost use Rattle.queue.specs.Gives.{Gives};
 
 // Open: the clock, the last number, the waiting count and every record of both tables become zero.

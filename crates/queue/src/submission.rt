@@ -11,7 +11,7 @@ ghost use mathlib.Core.Path.{_≡_};
 ghost use Rattle.spec.specs.Tables.{stateOf};
 ghost use Rattle.spec.specs.Setup.{firstMatch};
 ghost use Rattle.spec.specs.Calls.Submit.{submitRefusals};
-ghost use Rattle.spec.specs.Calls.Call.{submit};
+ghost use Rattle.spec.specs.Calls.{submit};
 ghost use Rattle.queue.specs.Gives.{Gives};
 ghost use Rattle.queue.specs.Placement.{withoutVictim, victimAt, tableAfter, goneAfter};
 ghost use Rattle.queue.specs.Decision.{submitChoice, submitDecision};

@@ -9,7 +9,7 @@ use Rattle.spec.specs.declared.types.Head.{Head}
 use Rattle.spec.specs.declared.types.Request.{Request}
 use Rattle.spec.specs.Every.{firstOr}
 use Rattle.spec.specs.Tables.{State, stateOf}
-use Rattle.spec.specs.Calls.Call.{Call, meaning}
+use Rattle.spec.specs.Calls.{Call, meaning}
 use Rattle.spec.specs.Lines.Frames.{task}
 use Rattle.queue.specs.Gives.{Reply, said, Gives}
 use Rattle.session.specs.Answered.{Answered}

@@ -4,7 +4,7 @@ use mathlib.Core.Path.{_≡_}
 use mathlib.Core.List.{List}
 use Rattle.spec.specs.declared.types.Frame.{Frame}
 use Rattle.spec.specs.Tables.{State}
-use Rattle.spec.specs.Calls.Outcome.{Outcome}
+use Rattle.spec.specs.Calls.Outcomes.{Outcome}
 use Rattle.spec.specs.Lines.Frames.{task}
 use Rattle.spec.specs.Lines.Session.{outcomeBy, outputBy}
 use Rattle.queue.specs.Gives.{Reply, said}

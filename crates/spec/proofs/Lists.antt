@@ -4,6 +4,5 @@ pub mod Counts
 pub mod Largest
 pub mod Passing
 pub mod Windows
-pub mod FrameTasks
 pub mod Printed
 pub mod SinceOpen

@@ -15,7 +15,7 @@ use Rattle.spec.specs.Tables.{State, waiting}
 use Rattle.spec.specs.Chart.{startsOf}
 use Rattle.spec.specs.Calls.Readings.{Booking, Victim, isRefused, newNumber, servedBy, victimsBy}
 use Rattle.spec.specs.Calls.Tick.{isPeriodStart}
-use Rattle.spec.specs.Calls.Call.{Call, meaning, outcomeOf}
+use Rattle.spec.specs.Calls.{Call, meaning, outcomeOf}
 
 -- the state after a list of calls
 unfoldable pub run : State → List Call → State

@@ -6,7 +6,7 @@ use Rattle.spec.specs.declared.types.Head.{Head}
 use Rattle.spec.specs.declared.types.Request.{Request}
 use Rattle.spec.specs.Tables.{State, stateOf}
 use Rattle.spec.specs.Calls.Readings.{kindOf}
-use Rattle.spec.specs.Calls.Call.{Call, outcomeOf, acceptedOf}
+use Rattle.spec.specs.Calls.{Call, outcomeOf, acceptedOf}
 use Rattle.spec.proofs.Calls.Refused.{state-stays}
 use Rattle.queue.specs.Gives.{Reply, Gives}
 use Rattle.welsbell.specs.Numbers.{headOf, valueNumbers, written, Exported}

@@ -10,7 +10,7 @@ use Rattle.spec.specs.declared.types.Answer.the-variants.{Opened, Refused}
 use Rattle.spec.specs.Every.{exists}
 use Rattle.spec.specs.Tables.{State}
 use Rattle.spec.specs.Calls.Readings.{isRefused, kindOf, reading}
-use Rattle.spec.specs.Calls.Call.{Call, opening}
+use Rattle.spec.specs.Calls.{Call, opening}
 use Rattle.spec.specs.Lists.{Event, isOpened, refusedEvent}
 use Rattle.spec.proofs.Laws.Answers.{readable}
 use Rattle.spec.proofs.Demands.Demand1.{CountsGiven}

@@ -7,7 +7,7 @@ use Rattle.spec.specs.declared.types.Head.{Head}
 use Rattle.spec.specs.declared.types.Answer.{Answer}
 use Rattle.spec.specs.Tables.{setupWidth, setupOf, State}
 use Rattle.spec.specs.Calls.Readings.{kindOf, valuesOf}
-use Rattle.spec.specs.Calls.Call.{Call, outcomeOf}
+use Rattle.spec.specs.Calls.{Call, outcomeOf}
 
 -- the version that archive and header share: it rises with each change of a signature, a layout or a number of theirs
 abbrev pub version : ℕ

@@ -15,7 +15,7 @@ use Rattle.spec.specs.Tables.{State, waiting, stateOf, deadlinesOf}
 use Rattle.spec.specs.Setup.{firstMatch}
 use Rattle.spec.specs.Chart.{startsOf}
 use Rattle.spec.specs.Calls.Chart.{chartRefusals, chartAccepted, chartOutput}
-use Rattle.spec.specs.Calls.Call.{chart}
+use Rattle.spec.specs.Calls.{chart}
 use Rattle.spec.proofs.Laws.Accepted.{ChartReady, chart-ready, waiting-length}
 use Rattle.spec.proofs.Calls.Refused.{length-starts, Written, untouched, written, output-written}
 use Rattle.occupancy.specs.Charted.{startSlots}

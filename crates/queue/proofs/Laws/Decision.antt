@@ -14,9 +14,9 @@ use Rattle.spec.specs.Tables.{mostClients, zeroCounts, State, waiting, deadline
 use Rattle.spec.specs.Setup.{firstMatch}
 use Rattle.spec.specs.Order.{placeOf}
 use Rattle.spec.specs.Chart.{dueBy, hasNoOverfull}
-use Rattle.spec.specs.Calls.Outcome.{Outcome, refusing}
+use Rattle.spec.specs.Calls.Outcomes.{Outcome, refusing}
 use Rattle.spec.specs.Calls.Submit.{submitRefusals, newRequest, withNew, victimPlace, kept, droppedAt, submitAccepted}
-use Rattle.spec.specs.Calls.Call.{submit, outcomeOf}
+use Rattle.spec.specs.Calls.{submit, outcomeOf}
 use Rattle.spec.proofs.Laws.Accepted.{SubmitReady}
 use Rattle.table.specs.Widths.{largest32}
 use Rattle.occupancy.specs.Scans.{overfullFrom, latestOf, putAt}

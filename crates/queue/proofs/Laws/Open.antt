@@ -12,9 +12,9 @@ use Rattle.spec.specs.declared.types.Head.{Head}
 use Rattle.spec.specs.declared.types.Request.{Request}
 use Rattle.spec.specs.Tables.{zeroRequest, zeroCounts, State, clientTable, stateOf, numbersOf, clientWidth}
 use Rattle.spec.specs.Setup.{firstMatch}
-use Rattle.spec.specs.Calls.Outcome.{refusing}
+use Rattle.spec.specs.Calls.Outcomes.{refusing}
 use Rattle.spec.specs.Calls.Open.{openRefusals, openAccepted}
-use Rattle.spec.specs.Calls.Call.{opening, outcomeOf}
+use Rattle.spec.specs.Calls.{opening, outcomeOf}
 use Rattle.spec.proofs.Laws.Layout.{numbers-zero}
 use Rattle.spec.proofs.Laws.Accepted.{open-ready}
 use Rattle.decide.specs.Open.{openMatch, openReply, openNumbers}

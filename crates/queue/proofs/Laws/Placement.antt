@@ -12,9 +12,9 @@ use Rattle.spec.specs.declared.types.Request.{Request}
 use Rattle.spec.specs.Tables.{zeroRequest, State, waiting, behind, holding, nextState}
 use Rattle.spec.specs.Setup.{firstMatch}
 use Rattle.spec.specs.Order.{placeOf, insertAt, putInOrder, removeAt}
-use Rattle.spec.specs.Calls.Outcome.{Outcome}
+use Rattle.spec.specs.Calls.Outcomes.{Outcome}
 use Rattle.spec.specs.Calls.Submit.{submitRefusals, newRequest, kept, droppedAt, victimPlace, requestAt}
-use Rattle.spec.specs.Calls.Call.{outcomeOf, submit}
+use Rattle.spec.specs.Calls.{outcomeOf, submit}
 use Rattle.spec.proofs.Laws.Every.{length-insert, length-remove, remove-insert, getD-insert}
 use Rattle.spec.proofs.Laws.Order.{place-most, length-put}
 use Rattle.spec.proofs.Laws.Accepted.{Ready, SubmitReady, submit-ready, tick-ready, waiting-length, table-held}

@@ -13,8 +13,8 @@ use Rattle.spec.specs.declared.types.Counts.{Counts}
 use Rattle.spec.specs.declared.types.Answer.{Answer}
 use Rattle.spec.specs.Tables.{zeroCounts, State, clientTable, stateOf, numbersOf}
 use Rattle.spec.specs.Setup.{Refusal, firstMatch}
-use Rattle.spec.specs.Calls.Outcome.{Outcome, saying, refusing, unlessRefused}
-use Rattle.spec.specs.Calls.Call.{Call, outcomeOf, refusalsOf, acceptedOf}
+use Rattle.spec.specs.Calls.Outcomes.{Outcome, saying, refusing, unlessRefused}
+use Rattle.spec.specs.Calls.{Call, outcomeOf, refusalsOf, acceptedOf}
 use Rattle.spec.proofs.Laws.Every.{cond-true}
 use Rattle.spec.proofs.Laws.Layout.{numbers-records}
 use Rattle.spec.proofs.Laws.Sound.{Shaped}

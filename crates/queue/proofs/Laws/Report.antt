@@ -10,9 +10,9 @@ use Rattle.spec.specs.declared.types.Counts.{Counts}
 use Rattle.spec.specs.Tables.{zeroCounts, recordsOf, State, waiting, clientTable, stateOf}
 use Rattle.spec.specs.Setup.{firstMatch}
 use Rattle.spec.specs.Sound.{waitingOf}
-use Rattle.spec.specs.Calls.Outcome.{saying}
+use Rattle.spec.specs.Calls.Outcomes.{saying}
 use Rattle.spec.specs.Calls.Report.{reportRefusals, reportAnswer, reportAccepted}
-use Rattle.spec.specs.Calls.Call.{report}
+use Rattle.spec.specs.Calls.{report}
 use Rattle.spec.proofs.Laws.Accepted.{report-ready}
 use Rattle.table.specs.Clients.{waitingCount}
 use Rattle.sound.specs.Checks.{tablesRefusal}

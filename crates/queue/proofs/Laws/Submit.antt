@@ -14,11 +14,11 @@ use Rattle.spec.specs.Tables.{zeroRequest, zeroCounts, numbersOf, State, client
 use Rattle.spec.specs.Setup.{firstMatch}
 use Rattle.spec.specs.Order.{placeOf, removeAt}
 use Rattle.spec.specs.Sound.{waitingOf}
-use Rattle.spec.specs.Calls.Outcome.{Outcome, refusing}
+use Rattle.spec.specs.Calls.Outcomes.{Outcome, refusing}
 use Rattle.spec.specs.Calls.Submit.{submitRefusals, newRequest, countedIn, withNew, kept, droppedAt, victimPlace, requestAt}
 use Rattle.spec.specs.Calls.Report.{reportRefusals, reportAccepted}
 use Rattle.spec.specs.Calls.Chart.{chartRefusals, chartAccepted}
-use Rattle.spec.specs.Calls.Call.{chart, outcomeOf, report, submit}
+use Rattle.spec.specs.Calls.{chart, outcomeOf, report, submit}
 use Rattle.spec.proofs.Laws.Every.{length-remove, all-at}
 use Rattle.spec.proofs.Laws.Order.{length-put}
 use Rattle.spec.proofs.Laws.Sound.{ClientExists}

@@ -17,9 +17,9 @@ use Rattle.spec.specs.Tables.{zeroRequest, zeroCounts, State, waiting, behind, 
 use Rattle.spec.specs.Tables.{numbersOf, change, oneMoreServed}
 use Rattle.spec.specs.Setup.{firstMatch}
 use Rattle.spec.specs.Order.{removeAt}
-use Rattle.spec.specs.Calls.Outcome.{Outcome}
+use Rattle.spec.specs.Calls.Outcomes.{Outcome}
 use Rattle.spec.specs.Calls.Tick.{tickRefusals, restarted, countsAfter, oneLater, tickAccepted}
-use Rattle.spec.specs.Calls.Call.{tick, outcomeOf}
+use Rattle.spec.specs.Calls.{tick, outcomeOf}
 use Rattle.spec.proofs.Laws.Every.{length-mapFrom, getD-mapFrom}
 use Rattle.spec.proofs.Laws.Clients.{counts-path}
 use Rattle.spec.proofs.Laws.Sound.{Balanced}

@@ -12,7 +12,7 @@ use Rattle.spec.specs.declared.types.Setup.{Setup}
 use Rattle.spec.specs.Every.{isWithin}
 use Rattle.spec.specs.Tables.{mostRecords, mostClients, State, clientWidth}
 use Rattle.spec.specs.Setup.{Refusal, firstMatch, setupRefusals}
-use Rattle.spec.specs.Calls.Outcome.{Outcome, unlessRefused, refusing}
+use Rattle.spec.specs.Calls.Outcomes.{Outcome, unlessRefused, refusing}
 use Rattle.spec.specs.Calls.Open.{openRefusals}
 use Rattle.spec.proofs.Laws.Every.{Value, is-true, is-false, value, cond-true}
 use Rattle.session.specs.declared.types.Session.{Session}

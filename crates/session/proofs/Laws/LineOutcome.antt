@@ -16,16 +16,16 @@ use Rattle.spec.specs.declared.types.Request.{Request}
 use Rattle.spec.specs.Every.{gather}
 use Rattle.spec.specs.Tables.{mostRecords, mostClients, State, zeroRequest, zeroCounts, clientWidth, stateOf}
 use Rattle.spec.specs.Calls.Readings.{isRefused}
-use Rattle.spec.specs.Calls.Outcome.{Outcome, refusing}
+use Rattle.spec.specs.Calls.Outcomes.{Outcome, refusing}
 use Rattle.spec.specs.Calls.Open.{openRefusals, openAccepted}
-use Rattle.spec.specs.Calls.Call.{opening as opening-call, outcomeOf}
+use Rattle.spec.specs.Calls.{opening as opening-call, outcomeOf}
 use Rattle.spec.specs.Lines.Frames.{answerLine, answerLines, Task, task}
 use Rattle.spec.specs.Lines.Session.{LineOutcome as SessionReply, lineOutcome, outcomeBy, lent, blank}
 use Rattle.spec.proofs.Laws.Layout.{length-numbers, whole-records}
 use Rattle.spec.proofs.Laws.Accepted.{OpenReady, open-ready}
 use Rattle.frame.specs.LineLengths.{CanDraw}
 use Rattle.spec.proofs.Calls.Refused.{firstAnswer}
-use Rattle.spec.proofs.Lists.FrameTasks.{Asks, asks-open, asks-chart, asks-nothing, asks-call, asks}
+use Rattle.spec.proofs.Calls.CallKinds.{Asks, asks-open, asks-chart, asks-nothing, asks-call, asks}
 use Rattle.queue.specs.Gives.{Reply, said}
 use Rattle.session.specs.declared.types.Session.{Session}
 use Rattle.session.specs.Answered.{Answered, outcomeFor}

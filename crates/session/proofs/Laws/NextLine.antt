@@ -16,7 +16,7 @@ use Rattle.spec.specs.Tables.{mostRecords, mostClients, clientWidth}
 use Rattle.spec.specs.Lines.Frames.{frameOf, answerLine, longestFrame}
 use Rattle.spec.specs.Lines.Session.{textOf}
 use Rattle.spec.proofs.Laws.Every.{or-none, same-test}
-use Rattle.spec.proofs.Lists.FrameTasks.{NotOpen, not-open}
+use Rattle.spec.proofs.Calls.CallKinds.{NotOpen, not-open}
 use Rattle.frame.specs.Lines.{NoFeed, FirstFeed, slice}
 use Rattle.frame.specs.LineLengths.{mostBytes}
 use Rattle.frame.proofs.FrameKinds.{frame-length}

@@ -17,9 +17,9 @@ use Rattle.spec.specs.Setup.{firstMatch}
 use Rattle.spec.specs.Chart.{startsOf}
 use Rattle.spec.specs.Calls.Readings.{reading, isRefused}
 use Rattle.spec.specs.Calls.Refusals.{refusal4, refusal5, refusal12}
-use Rattle.spec.specs.Calls.Outcome.{Outcome}
+use Rattle.spec.specs.Calls.Outcomes.{Outcome}
 use Rattle.spec.specs.Calls.Chart.{chartRefusals, chartAccepted, chartOutput}
-use Rattle.spec.specs.Calls.Call.{Call, chart, meaning, outcomeOf}
+use Rattle.spec.specs.Calls.{Call, chart, meaning, outcomeOf}
 use Rattle.spec.specs.Lines.Frames.{answerLine, chartLines, answerLines}
 use Rattle.spec.specs.Lines.Session.{LineOutcome, outcomeBy, outputBy, lineOutcomeOf, blank}
 use Rattle.spec.proofs.Demands.Demand1.{Charts, chart-written}

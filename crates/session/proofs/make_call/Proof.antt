@@ -12,8 +12,8 @@ use Rattle.spec.specs.declared.types.Frame.the-variants.{Open, Submit, Tick, Re
 use Rattle.spec.proofs.types.Frame as TF
 use Rattle.spec.proofs.types.Frame.Laws as TF′
 use Rattle.table.proofs.Requests.{RequestT}
-use Rattle.spec.specs.Calls.Call.{opening as opening-call, submit as submit-call, tick as tick-call, report as report-call}
-use Rattle.spec.specs.Calls.Call.{chart as chart-call, outcomeOf}
+use Rattle.spec.specs.Calls.{opening as opening-call, submit as submit-call, tick as tick-call, report as report-call}
+use Rattle.spec.specs.Calls.{chart as chart-call, outcomeOf}
 use Rattle.session.proofs.FrameCalls.{answers, answers-bad}
 use Rattle.spec.specs.declared.types.Head.{Head}
 use Rattle.table.proofs.Heads.{HeadT, head-vals, a-head, a-setup}

@@ -11,7 +11,7 @@ use Rattle.spec.specs.Every.{gather}
 use Rattle.spec.specs.Tables.{clockEnd, mostPeriod, State, waiting, holding, zeroRequest, zeroCounts, openHead}
 use Rattle.spec.specs.Tables.{clientTable, numbersOf}
 use Rattle.spec.specs.Chart.{Segment, startsOf, segmentsOf}
-use Rattle.spec.specs.Calls.Call.{Call, submit, tick, outcomeOf, opening}
+use Rattle.spec.specs.Calls.{Call, submit, tick, outcomeOf, opening}
 use Rattle.spec.specs.Lists.{run, history, Event}
 use Rattle.spec.proofs.Acceptance.Computed.{setting, calls}
 

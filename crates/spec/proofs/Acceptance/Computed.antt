@@ -14,7 +14,7 @@ use Rattle.spec.specs.Calls.Submit.{submitRefusals, kept, droppedAt, sub
 use Rattle.spec.specs.Calls.Tick.{tickRefusals, tickAccepted}
 use Rattle.spec.specs.Calls.Report.{reportRefusals, reportAccepted}
 use Rattle.spec.specs.Calls.Chart.{chartRefusals, chartAccepted}
-use Rattle.spec.specs.Calls.Call.{outcomeOf}
+use Rattle.spec.specs.Calls.{outcomeOf}
 
 -- what open sets: clients and period
 abbrev pub setting : ℕ → ℕ → Setup

@@ -10,7 +10,7 @@ use Rattle.spec.specs.declared.types.Answer.the-variants.{Kept, Dropped,
 use Rattle.spec.specs.Every.{exists, select}
 use Rattle.spec.specs.Calls.Readings.{field}
 use Rattle.spec.specs.Calls.Chart.{chartOutput}
-use Rattle.spec.specs.Calls.Call.{Call, opening, submit, tick, report, chart}
+use Rattle.spec.specs.Calls.{Call, opening, submit, tick, report, chart}
 use Rattle.spec.specs.Lists.{Event, isOpened, ticks, Asked, asked, bookings, victims, servedRequests, waitingRequests}
 use Rattle.spec.specs.Lines.Frames.{digitOf, characterOf, numberFrom, digits, frameWith, frameOf, fieldDigits, lineOf}
 use Rattle.spec.specs.Lines.Frames.{segmentLines}

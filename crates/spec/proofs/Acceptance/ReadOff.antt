@@ -10,7 +10,7 @@ use Rattle.slots.specs.Plan.{Slot, none, at, since}
 use Rattle.spec.specs.declared.types.Counts.{Counts}
 use Rattle.spec.specs.Every.{exists, select}
 use Rattle.spec.specs.Tables.{zeroRequest, zeroCounts, openHead, State, numbersOf}
-use Rattle.spec.specs.Calls.Call.{Call, opening, submit, tick, report, chart, outcomeOf}
+use Rattle.spec.specs.Calls.{Call, opening, submit, tick, report, chart, outcomeOf}
 use Rattle.spec.specs.Lists.{run, Event, history, isOpened, ticks, Asked, asked, bookings, victims, servedRequests}
 use Rattle.spec.specs.Lists.{waitingRequests, slotFor, chartBookings, ownPlan, waitingBy, sinceStart, countsSince}
 use Rattle.spec.proofs.Lists.Windows.{tickCalls, callWindows, isRefusedEvent}

@@ -12,7 +12,7 @@ use Rattle.spec.specs.declared.types.Answer.the-variants.{Opened, Kept, 
 use Rattle.spec.specs.Every.{select}
 use Rattle.spec.specs.Tables.{mostCounted, clockEnd, numberEnd, State, holding, numbersOf}
 use Rattle.spec.specs.Setup.{Refusal}
-use Rattle.spec.specs.Calls.Call.{Call, opening, submit, tick, report, chart, outcomeOf, refusalsOf}
+use Rattle.spec.specs.Calls.{Call, opening, submit, tick, report, chart, outcomeOf, refusalsOf}
 use Rattle.spec.proofs.Acceptance.Computed.{setting, calls}
 
 -- a call on a state, the numbers of its refusals whose conditions hold, and the answer

@@ -1,6 +1,7 @@
--- The kinds of calls: an open, a submit, a tick, and calls that change nothing, as report and chart. `call-kind` is the only one of the
--- proofs that goes by cases on calls. The laws of every call go by their kinds, so that a new call that changes nothing has its clause
--- here and in no other proof. Assumes nothing.
+-- The kinds of calls, an open, a submit, a tick, and calls that change nothing, as report and chart; and what a frame asks for, an open,
+-- a chart, nothing, or any other call. `call-kind` is the only one of the proofs that goes by cases on calls, and `asks` the only one
+-- that goes by cases on frames. The laws of all calls and of all frames go by these kinds, so that a new call that changes nothing, with a
+-- frame of its own, has its clauses here and in no other proof. Assumes nothing.
 use Prim.Native.Nat.{ℕ, _≤_}
 use mathlib.Core.Path.{_≡_, refl, sym, ap, _∙_}
 use mathlib.Core.Bool.{false}
@@ -17,13 +18,19 @@ use Rattle.spec.specs.Setup.{Refusal, firstMatch}
 use Rattle.spec.specs.Sound.{waitingOf}
 use Rattle.spec.specs.Calls.Readings.{reading, nobody, valuesOf}
 use Rattle.spec.specs.Calls.Refusals.{refusal4, refusal5, refusal6, refusal12}
-use Rattle.spec.specs.Calls.Outcome.{saying}
+use Rattle.spec.specs.Calls.Outcomes.{saying}
 use Rattle.spec.specs.Calls.Report.{reportRefusals, reportAccepted, reportAnswer}
 use Rattle.spec.specs.Calls.Chart.{chartRefusals, chartAccepted}
-use Rattle.spec.specs.Calls.Call.{Call, opening, submit, tick, report, chart, meaning, refusalsOf, acceptedOf}
+use Rattle.spec.specs.Calls.{Call, opening, submit, tick, report, chart, meaning, refusalsOf, acceptedOf}
 use Rattle.spec.proofs.Demands.Words.{FitsField}
 use Rattle.spec.proofs.Laws.Every.{count-most}
 use Rattle.spec.proofs.Laws.Accepted.{Ready, ready, report-ready, chart-ready, waiting-length}
+use types.Run.{OneOf, miss}
+use denote.Enum.Declared.{tagOf}
+use Rattle.spec.specs.declared.types.Frame.{Frame}
+use Rattle.spec.specs.declared.types.Frame.the-variants.{Open, Submit, Tick, Report, Chart, Bad}
+use Rattle.spec.specs.Lines.Frames.{Task, taskBy, task}
+use Rattle.spec.proofs.types.Frame.{the-type}
 
 -- a number of the paper's list of refusals
 abbrev pub Listed : ℕ → Type 0
@@ -120,3 +127,38 @@ call-kind (submit client deadline) s = is-submit client deadline
 call-kind tick s = is-tick
 call-kind (report client) s = reads-only (report client) (report-reads client s)
 call-kind (chart output) s = reads-only (chart output) (chart-reads output s)
+
+-- ---- every frame
+pub data Asks : Frame → Type 0 where
+  asks-open : (setup : Setup) (records : ℕ) → Asks (Open setup records)
+  asks-chart : Asks Chart
+  asks-nothing : Asks Bad
+  -- a call that is no open and is lent no output
+  asks-call :
+      (frame : Frame) (c : Call) → task frame ≡ taskBy (λ output. c ∷ []) → meaning c .isOpen ≡ false
+      → ((s : State) → meaning c .outputs s ≡ []) → Asks frame
+
+pub asks : (frame : Frame) → Asks frame
+asks (Open setup records) = asks-open setup records
+asks (Submit client deadline) = asks-call (Submit client deadline) (submit client deadline) refl refl (λ s. refl)
+asks Tick = asks-call Tick tick refl refl (λ s. refl)
+asks (Report client) = asks-call (Report client) (report client) refl refl (λ s. refl)
+asks Chart = asks-chart
+asks Bad = asks-nothing
+
+-- ---- any frame but an open: those that the last arm of a `match` is left with, by their tags
+abbrev unopenedTags : List ℕ
+unopenedTags = 1 ∷ 2 ∷ 3 ∷ 4 ∷ 5 ∷ []
+
+abbrev pub NotOpen : Frame → Type 0
+NotOpen frame = OneOf unopenedTags (tagOf the-type frame)
+
+-- it names no lengths
+pub not-open : (frame : Frame) → NotOpen frame → task frame .named ≡ []
+not-open frame = by-case (asks frame)
+  where
+    by-case : {frame : Frame} → Asks frame → NotOpen frame → task frame .named ≡ []
+    by-case (asks-open setup records) other = absurd (miss unopenedTags 0 tt other)
+    by-case asks-chart other = refl
+    by-case asks-nothing other = refl
+    by-case (asks-call frame c e no-open none) other = ap (λ (t : Task). t .named) e

@@ -19,12 +19,12 @@ use Rattle.spec.specs.Setup.{firstMatch}
 use Rattle.spec.specs.Order.{putInOrder, removeAt}
 use Rattle.spec.specs.Chart.{dueBy, hasNoOverfull, isCandidate}
 use Rattle.spec.specs.Calls.Readings.{isRefused}
-use Rattle.spec.specs.Calls.Outcome.{Outcome}
+use Rattle.spec.specs.Calls.Outcomes.{Outcome}
 use Rattle.spec.specs.Calls.Open.{openAccepted}
 use Rattle.spec.specs.Calls.Submit.{newRequest, countedIn, withNew, kept, requestAt, droppedAt, victimPlace}
 use Rattle.spec.specs.Calls.Submit.{submitAccepted}
 use Rattle.spec.specs.Calls.Tick.{isPeriodStart, restarted, countsAfter, oneLater, tickAccepted}
-use Rattle.spec.specs.Calls.Call.{Call, outcomeOf, acceptedOf, refusalsOf}
+use Rattle.spec.specs.Calls.{Call, outcomeOf, acceptedOf, refusalsOf}
 use Rattle.spec.proofs.Laws.Clients.{of-yes, of-no, waitingOf-none, waitingOf-put, waitingOf-remove, Changed, changes}
 use Rattle.spec.proofs.Laws.Clients.{stays, changed, length-change}
 use Rattle.spec.proofs.Laws.Room.{capacity-one, room-back, room-step, room-split, room-next}

@@ -18,12 +18,12 @@ use Rattle.spec.specs.Tables.{State, waiting, nextState}
 use Rattle.spec.specs.Setup.{Refusal, firstMatch, setupRefusals}
 use Rattle.spec.specs.Chart.{startsOf, hasNoOverfull}
 use Rattle.spec.specs.Calls.Readings.{isRefused, reading}
-use Rattle.spec.specs.Calls.Outcome.{Outcome, saying}
+use Rattle.spec.specs.Calls.Outcomes.{Outcome, saying}
 use Rattle.spec.specs.Calls.Open.{openRefusals, openAccepted}
 use Rattle.spec.specs.Calls.Submit.{submitRefusals, kept, droppedAt, victimPlace, withNew, submitAccepted}
 use Rattle.spec.specs.Calls.Tick.{tickRefusals, tickAccepted}
 use Rattle.spec.specs.Calls.Chart.{chartRefusals, chartOutput}
-use Rattle.spec.specs.Calls.Call.{Call, opening, submit, tick, outcomeOf, acceptedOf, refusalsOf, meaning}
+use Rattle.spec.specs.Calls.{Call, opening, submit, tick, outcomeOf, acceptedOf, refusalsOf, meaning}
 use Rattle.spec.proofs.Demands.Words.{FirstHolds, here, further}
 use Rattle.spec.proofs.Laws.Accepted.{Decided, accepts, refuses, decided, SubmitReady, submit-none, chart-ready}
 use Rattle.spec.proofs.Laws.Accepted.{waiting-length}

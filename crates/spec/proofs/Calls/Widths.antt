@@ -13,11 +13,11 @@ use Rattle.spec.specs.Tables.{mostAhead, zeroRequest, State, waiting}
 use Rattle.spec.specs.Setup.{firstMatch}
 use Rattle.spec.specs.Chart.{startsOf, Segment, doTouch, joinLeft, segmentsOf, hasNoOverfull}
 use Rattle.spec.specs.Calls.Readings.{field, valuesOf}
-use Rattle.spec.specs.Calls.Outcome.{Outcome}
+use Rattle.spec.specs.Calls.Outcomes.{Outcome}
 use Rattle.spec.specs.Calls.Open.{openAccepted}
 use Rattle.spec.specs.Calls.Submit.{newRequest, withNew, kept, droppedAt, victimPlace, submitAccepted}
 use Rattle.spec.specs.Calls.Tick.{tickAccepted}
-use Rattle.spec.specs.Calls.Call.{Call, outcomeOf, acceptedOf, refusalsOf}
+use Rattle.spec.specs.Calls.{Call, outcomeOf, acceptedOf, refusalsOf}
 use Rattle.spec.proofs.Demands.Words.{Finish, FitsField}
 use Rattle.spec.proofs.Laws.Every.{all-at}
 use Rattle.spec.proofs.Laws.Order.{place-most}

@@ -23,11 +23,11 @@ use Rattle.spec.specs.Chart.{Segment, capacityOf, startsOf, segmentsOf}
 use Rattle.spec.specs.Sound.{isSound}
 use Rattle.spec.specs.Calls.Readings.{field, valuesOf, isRefused}
 use Rattle.spec.specs.Calls.Refusals.{refusal4}
-use Rattle.spec.specs.Calls.Outcome.{Outcome}
+use Rattle.spec.specs.Calls.Outcomes.{Outcome}
 use Rattle.spec.specs.Calls.Tick.{isPeriodStart}
 use Rattle.spec.specs.Calls.Report.{reportAnswer}
 use Rattle.spec.specs.Calls.Chart.{chartRefusals, chartAccepted, chartOutput}
-use Rattle.spec.specs.Calls.Call.{Call, chart, outcomeOf, opening, report, acceptedOf, refusalsOf}
+use Rattle.spec.specs.Calls.{Call, chart, outcomeOf, opening, report, acceptedOf, refusalsOf}
 use Rattle.spec.specs.Lists.{run, Event, history, WithRefused, isOpened, waitingBy, countsSince}
 use Rattle.spec.proofs.Demands.Words.{FitsField, FirstHolds, Ascending, Pairs, Finish, ChartFits}
 use Rattle.spec.proofs.Demands.Words.{LongestRuns}

@@ -17,11 +17,11 @@ use Rattle.spec.specs.Tables.{zeroRequest, State, waiting}
 use Rattle.spec.specs.Order.{isInOrder, placeOf, removeAt}
 use Rattle.spec.specs.Chart.{isOverfull, Search, nothing, found, firstOverfull, hasSmallerRatio, countsAt}
 use Rattle.spec.specs.Calls.Readings.{isRefused}
-use Rattle.spec.specs.Calls.Outcome.{Outcome}
+use Rattle.spec.specs.Calls.Outcomes.{Outcome}
 use Rattle.spec.specs.Calls.Submit.{kept, droppedAt, requestAt, newRequest, countedIn, withNew, victimPlace}
 use Rattle.spec.specs.Calls.Submit.{submitAccepted}
 use Rattle.spec.specs.Calls.Tick.{tickAccepted}
-use Rattle.spec.specs.Calls.Call.{submit, tick, outcomeOf}
+use Rattle.spec.specs.Calls.{submit, tick, outcomeOf}
 use Rattle.spec.proofs.Demands.Words.{CanFinish}
 use Rattle.spec.proofs.Laws.Order.{getD-put, remove-put, order-test, InOrder, first-earliest}
 use Rattle.spec.proofs.Laws.Feasible.{overfull-test, roomy-test, Verdict, fine, over, verdict}

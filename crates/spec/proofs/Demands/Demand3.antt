@@ -18,8 +18,8 @@ use Rattle.spec.specs.Every.{exists}
 use Rattle.spec.specs.Tables.{State, waiting}
 use Rattle.spec.specs.Chart.{capacityOf}
 use Rattle.spec.specs.Calls.Readings.{isRefused, Booking}
-use Rattle.spec.specs.Calls.Outcome.{Outcome}
-use Rattle.spec.specs.Calls.Call.{Call, opening, outcomeOf}
+use Rattle.spec.specs.Calls.Outcomes.{Outcome}
+use Rattle.spec.specs.Calls.{Call, opening, outcomeOf}
 use Rattle.spec.specs.Lists.{asked, run, Event, history, WithRefused, isOpened, ticks, bookings, servedRequests}
 use Rattle.spec.specs.Lists.{waitingRequests, windows, slotFor, ownBookings, ownPlan}
 use Rattle.spec.proofs.Demands.Words.{Numbered}

@@ -9,7 +9,7 @@ use Rattle.spec.specs.declared.types.Setup.{Setup}
 use Rattle.spec.specs.Every.{exists}
 use Rattle.spec.specs.Tables.{State}
 use Rattle.spec.specs.Calls.Readings.{isRefused}
-use Rattle.spec.specs.Calls.Call.{Call, opening, outcomeOf}
+use Rattle.spec.specs.Calls.{Call, opening, outcomeOf}
 use Rattle.spec.specs.Lists.{run, Event, history, isOpened}
 use Rattle.spec.specs.Lines.Session.{textOf, session, sessionState}
 use Rattle.spec.specs.Lines.Printed.{answersIn, eventsIn, sinceOpen, setupIn, unended}

@@ -15,7 +15,7 @@ use Rattle.spec.specs.Tables.{State, deadlinesOf}
 use Rattle.spec.specs.Setup.{Refusal}
 use Rattle.spec.specs.Chart.{capacityOf, Segment}
 use Rattle.spec.specs.Calls.Readings.{Field, isRefused}
-use Rattle.spec.specs.Calls.Call.{Call, opening, outcomeOf}
+use Rattle.spec.specs.Calls.{Call, opening, outcomeOf}
 use Rattle.spec.specs.Lists.{Asked, run, Event, history, isOpened}
 use Rattle.spec.specs.Lines.Printed.{AsPrinted}
 

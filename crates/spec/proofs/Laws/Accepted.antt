@@ -22,7 +22,7 @@ use Rattle.spec.specs.Order.{removeAt}
 use Rattle.spec.specs.Sound.{isClient, isSound}
 use Rattle.spec.specs.Calls.Refusals.{isMisshapen, refusal4Open, refusal4, refusal5, refusal6, refusal7, refusal8}
 use Rattle.spec.specs.Calls.Refusals.{refusal9, refusal10, refusal11, refusal12}
-use Rattle.spec.specs.Calls.Outcome.{Outcome, refusing, unlessRefused}
+use Rattle.spec.specs.Calls.Outcomes.{Outcome, refusing, unlessRefused}
 use Rattle.spec.specs.Calls.Open.{openRefusals}
 use Rattle.spec.specs.Calls.Submit.{submitRefusals, kept, droppedAt, withNew, countedIn, requestAt}
 use Rattle.spec.specs.Calls.Tick.{tickRefusals, tickAccepted, countsAfter}

@@ -19,12 +19,12 @@ use Rattle.spec.specs.Tables.{zeroCounts, State, waiting, nextState, cli
 use Rattle.spec.specs.Tables.{oneMoreServed, oneMoreDropped}
 use Rattle.spec.specs.Sound.{waitingOf}
 use Rattle.spec.specs.Calls.Readings.{isRefused, Victim}
-use Rattle.spec.specs.Calls.Outcome.{Outcome}
+use Rattle.spec.specs.Calls.Outcomes.{Outcome}
 use Rattle.spec.specs.Calls.Open.{openAccepted}
 use Rattle.spec.specs.Calls.Submit.{countedIn, kept, droppedAt, victimPlace, requestAt}
 use Rattle.spec.specs.Calls.Tick.{isPeriodStart, restarted, oneLater, tickAccepted}
 use Rattle.spec.specs.Calls.Report.{reportAccepted, reportAnswer}
-use Rattle.spec.specs.Calls.Call.{Call, submit, tick, report, outcomeOf, opening}
+use Rattle.spec.specs.Calls.{Call, submit, tick, report, outcomeOf, opening}
 use Rattle.spec.specs.Lists.{run, history, Event, isOpened, isTick, ticks, Asked, waitingRequests, waitingBy, submitters}
 use Rattle.spec.specs.Lists.{servedClients, victimClients, startsPeriod, sinceStart, countsSince}
 use Rattle.spec.proofs.Laws.Layout.{records-numbers}

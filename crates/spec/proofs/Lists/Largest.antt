@@ -25,12 +25,12 @@ use Rattle.spec.specs.Tables.{zeroRequest, State, waiting, nextState, cl
 use Rattle.spec.specs.Order.{removeAt}
 use Rattle.spec.specs.Chart.{capacityOf, roomTo, endOf, startsOf, dueBy, hasNoOverfull, Search, isCandidate}
 use Rattle.spec.specs.Calls.Readings.{Booking}
-use Rattle.spec.specs.Calls.Outcome.{Outcome}
+use Rattle.spec.specs.Calls.Outcomes.{Outcome}
 use Rattle.spec.specs.Calls.Open.{openAccepted}
 use Rattle.spec.specs.Calls.Submit.{countedIn, submitAccepted, kept, droppedAt, withNew, newRequest, requestAt}
 use Rattle.spec.specs.Calls.Submit.{victimPlace}
 use Rattle.spec.specs.Calls.Tick.{countsAfter, tickAccepted}
-use Rattle.spec.specs.Calls.Call.{submit, tick}
+use Rattle.spec.specs.Calls.{submit, tick}
 use Rattle.spec.specs.Lists.{Event, ticks, Asked, asked, bookings, servedRequests, waitingRequests, windowOf, windows}
 use Rattle.spec.specs.Lists.{chartBookings, slotFor, ownBookings, ownPlan}
 use Rattle.spec.proofs.Demands.Words.{Numbered}

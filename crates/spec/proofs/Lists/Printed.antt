@@ -16,8 +16,8 @@ use Rattle.spec.specs.Every.{select, gather}
 use Rattle.spec.specs.Tables.{State, mostRecords}
 use Rattle.spec.specs.Chart.{Segment, segmentsOf}
 use Rattle.spec.specs.Calls.Readings.{Field, field, kindOf, valuesOf, reading}
-use Rattle.spec.specs.Calls.Outcome.{Outcome}
-use Rattle.spec.specs.Calls.Call.{Call}
+use Rattle.spec.specs.Calls.Outcomes.{Outcome}
+use Rattle.spec.specs.Calls.{Call}
 use Rattle.spec.specs.Lines.Frames.{lineFeed, numberFrom, digits, fieldDigits, lineOf, answerLine, segmentLines, frameOf}
 use Rattle.spec.specs.Lines.Frames.{answerLines, linesBy, segmentKind, segmentFields, Task, task}
 use Rattle.spec.specs.Lines.Session.{Text, textOf, atStart, lent, blank, lineOutcome, replies, atEnd, session, outcomeBy}
@@ -28,7 +28,7 @@ use Rattle.spec.proofs.Calls.Refused.{firstAnswer, call-answers, output
 use Rattle.spec.proofs.Calls.Widths.{segments-length}
 use Rattle.spec.proofs.Demands.Demand1.{values-fit}
 use Rattle.spec.proofs.Laws.Answers.{readable}
-use Rattle.spec.proofs.Lists.FrameTasks.{Asks, asks-open, asks-chart, asks-nothing, asks-call, asks}
+use Rattle.spec.proofs.Calls.CallKinds.{Asks, asks-open, asks-chart, asks-nothing, asks-call, asks}
 use Rattle.spec.proofs.Laws.Digits.{Clean, digits-clean, fields-clean, length-digits, number-digits, FieldsRead}
 use Rattle.spec.proofs.Laws.Digits.{reads-back}
 

@@ -15,10 +15,10 @@ use Rattle.spec.specs.Tables.{State}
 use Rattle.spec.specs.Setup.{firstMatch}
 use Rattle.spec.specs.Chart.{segmentsOf}
 use Rattle.spec.specs.Calls.Readings.{isRefused}
-use Rattle.spec.specs.Calls.Outcome.{Outcome}
+use Rattle.spec.specs.Calls.Outcomes.{Outcome}
 use Rattle.spec.specs.Calls.Open.{openAccepted, openRefusals}
 use Rattle.spec.specs.Calls.Chart.{chartAccepted, chartRefusals}
-use Rattle.spec.specs.Calls.Call.{Call, opening, chart, outcomeOf, meaning}
+use Rattle.spec.specs.Calls.{Call, opening, chart, outcomeOf, meaning}
 use Rattle.spec.specs.Lists.{run, Event, history, isOpened, empty, own, other, refusedEvent}
 use Rattle.spec.specs.Lines.Frames.{frameOf, Task, task}
 use Rattle.spec.specs.Lines.Session.{textOf, atStart, blank, lineOutcome, replies, stateAfter, atEnd, session, sessionState}
@@ -30,7 +30,7 @@ use Rattle.spec.proofs.Laws.Accepted.{Decided, accepts, refuses}
 use Rattle.spec.proofs.Calls.Refused.{outcome-decided, firstAnswer, call-answers, left-same, none-accepted}
 use Rattle.spec.proofs.Lists.Trace.{event, Passing, refused-passing}
 use Rattle.spec.proofs.Lists.Passing.{WithPassing, among-pass}
-use Rattle.spec.proofs.Lists.FrameTasks.{Asks, asks-open, asks-chart, asks-nothing, asks-call, asks}
+use Rattle.spec.proofs.Calls.CallKinds.{Asks, asks-open, asks-chart, asks-nothing, asks-call, asks}
 use Rattle.spec.proofs.Lists.Printed.{answersOf, shownAs, callsIn, lentIn, outcomeIn, outputIn, answerTo, line-answered}
 
 -- nothing that is read off the list depends on what it has beside those calls

@@ -21,11 +21,11 @@ use Rattle.spec.specs.Setup.{firstMatch}
 use Rattle.spec.specs.Order.{removeAt}
 use Rattle.spec.specs.Chart.{hasNoOverfull}
 use Rattle.spec.specs.Calls.Readings.{isRefused, Booking, Victim, victimsBy}
-use Rattle.spec.specs.Calls.Outcome.{Outcome}
+use Rattle.spec.specs.Calls.Outcomes.{Outcome}
 use Rattle.spec.specs.Calls.Open.{openAccepted}
 use Rattle.spec.specs.Calls.Submit.{submitAccepted, kept, droppedAt, withNew, newRequest, requestAt, victimPlace}
 use Rattle.spec.specs.Calls.Tick.{tickAccepted}
-use Rattle.spec.specs.Calls.Call.{Call, opening, submit, tick, outcomeOf, acceptedOf, refusalsOf, meaning}
+use Rattle.spec.specs.Calls.{Call, opening, submit, tick, outcomeOf, acceptedOf, refusalsOf, meaning}
 use Rattle.spec.specs.Lists.{run, Event, history, isOpened, isTick, ticks, Asked, askedBy, asked, servedIn, bookings}
 use Rattle.spec.specs.Lists.{victims, servedRequests, waitingRequests, refusedEvent}
 use Rattle.spec.proofs.Demands.Words.{Numbered}

@@ -8,7 +8,7 @@ use Rattle.slots.specs.Plan.{Window, since}
 use Rattle.spec.specs.Every.{exists, countIf}
 use Rattle.spec.specs.Tables.{State}
 use Rattle.spec.specs.Calls.Readings.{isRefused}
-use Rattle.spec.specs.Calls.Call.{Call, meaning}
+use Rattle.spec.specs.Calls.{Call, meaning}
 use Rattle.spec.specs.Lists.{Event, history, ticks, askedBy, asked, windowOf, windows}
 use Rattle.spec.proofs.Laws.Every.{or-none}
 

@@ -9,7 +9,7 @@ use Rattle.spec.specs.Tables.{zeroSetup, State, waiting}
 use Rattle.spec.specs.Chart.{startsOf}
 use Rattle.spec.specs.Setup.{Refusal, firstMatch}
 use Rattle.spec.specs.Calls.Refusals.{refusal4, refusal5, refusal12}
-use Rattle.spec.specs.Calls.Outcome.{Outcome, saying, Meaning}
+use Rattle.spec.specs.Calls.Outcomes.{Outcome, saying, Meaning}
 
 -- the refusals, in the paper's order
 unfoldable pub chartRefusals : List ℕ → State → List Refusal

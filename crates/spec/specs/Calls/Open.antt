@@ -7,7 +7,7 @@ use Rattle.spec.specs.declared.types.Answer.the-variants.{Opened}
 use Rattle.spec.specs.Tables.{zeroRequest, zeroCounts, openHead, State, clientTable, numbersOf}
 use Rattle.spec.specs.Setup.{Refusal, setupRefusals}
 use Rattle.spec.specs.Calls.Refusals.{refusal4Open}
-use Rattle.spec.specs.Calls.Outcome.{Outcome, saying, Meaning}
+use Rattle.spec.specs.Calls.Outcomes.{Outcome, saying, Meaning}
 
 -- the refusals, in the paper's order
 unfoldable pub openRefusals : Setup → State → List Refusal

@@ -9,7 +9,7 @@ use Rattle.spec.specs.Tables.{zeroCounts, State, waiting, clientTable}
 use Rattle.spec.specs.Sound.{waitingOf}
 use Rattle.spec.specs.Setup.{Refusal}
 use Rattle.spec.specs.Calls.Refusals.{refusal4, refusal5, refusal6}
-use Rattle.spec.specs.Calls.Outcome.{Outcome, saying, Meaning, plainly}
+use Rattle.spec.specs.Calls.Outcomes.{Outcome, saying, Meaning, plainly}
 
 -- the refusals, in the paper's order
 unfoldable pub reportRefusals : ℕ → State → List Refusal

@@ -12,7 +12,7 @@ use Rattle.spec.specs.Order.{placeOf, putInOrder, removeAt}
 use Rattle.spec.specs.Chart.{hasNoOverfull, victimOf}
 use Rattle.spec.specs.Setup.{Refusal}
 use Rattle.spec.specs.Calls.Refusals.{refusal4, refusal5, refusal6, refusal7, refusal8, refusal9, refusal10}
-use Rattle.spec.specs.Calls.Outcome.{Outcome, saying, Meaning}
+use Rattle.spec.specs.Calls.Outcomes.{Outcome, saying, Meaning}
 
 -- the refusals, in the paper's order
 unfoldable pub submitRefusals : ℕ → ℕ → State → List Refusal

@@ -11,7 +11,7 @@ use Rattle.spec.specs.Tables.{zeroSetup, State, waiting, nextState, clie
 use Rattle.spec.specs.Sound.{waitingOf}
 use Rattle.spec.specs.Setup.{Refusal}
 use Rattle.spec.specs.Calls.Refusals.{refusal4, refusal5, refusal11}
-use Rattle.spec.specs.Calls.Outcome.{Outcome, saying, Meaning}
+use Rattle.spec.specs.Calls.Outcomes.{Outcome, saying, Meaning}
 
 -- the refusals, in the paper's order
 unfoldable pub tickRefusals : State → List Refusal

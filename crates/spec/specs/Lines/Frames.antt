@@ -13,7 +13,7 @@ use Rattle.spec.specs.Every.{isWithin, every, sum, largest}
 use Rattle.spec.specs.Tables.{setupWidth, setupOf}
 use Rattle.spec.specs.Chart.{Segment, segmentsOf}
 use Rattle.spec.specs.Calls.Readings.{Field, field, reading, kindOf, valuesOf}
-use Rattle.spec.specs.Calls.Call.{Call, opening, submit, tick, report, chart}
+use Rattle.spec.specs.Calls.{Call, opening, submit, tick, report, chart}
 
 -- "then a line feed (byte 0A)"
 abbrev pub lineFeed : ℕ

@@ -11,7 +11,7 @@ use Rattle.spec.specs.declared.types.Frame.{Frame}
 use Rattle.spec.specs.Every.{select}
 use Rattle.spec.specs.Tables.{zeroSetup}
 use Rattle.spec.specs.Calls.Readings.{kindOf, valuesOf, shown}
-use Rattle.spec.specs.Calls.Call.{Call, chart, meaning}
+use Rattle.spec.specs.Calls.{Call, chart, meaning}
 use Rattle.spec.specs.Lists.{Event, refusedEvent, Among, isOpened}
 use Rattle.spec.specs.Lines.Frames.{fieldAt, valuesAt, frameOf, segmentKind, task}
 use Rattle.spec.specs.Lines.Session.{textOf, blank}

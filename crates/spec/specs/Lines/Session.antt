@@ -9,8 +9,8 @@ use Rattle.spec.specs.declared.types.Frame.{Frame}
 use Rattle.spec.specs.Every.{gather, firstOr}
 use Rattle.spec.specs.Tables.{mostRecords, zeroSetup, zeroRequest, zeroCounts, openHead, State, numbersOf}
 use Rattle.spec.specs.Calls.Readings.{isRefused}
-use Rattle.spec.specs.Calls.Outcome.{Outcome, refusing}
-use Rattle.spec.specs.Calls.Call.{Call, meaning, outcomeOf}
+use Rattle.spec.specs.Calls.Outcomes.{Outcome, refusing}
+use Rattle.spec.specs.Calls.{Call, meaning, outcomeOf}
 use Rattle.spec.specs.Lines.Frames.{lineFeed, frameOf, Lengths, task, answerLine, answerLines}
 
 -- ---- lines

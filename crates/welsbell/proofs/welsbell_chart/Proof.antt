@@ -6,7 +6,7 @@ use Rattle.queue.proofs.Values.{a-reply}
 use Rattle.spec.specs.declared.types.Head.{Head}
 use Rattle.spec.specs.Tables.{stateOf}
 use Rattle.spec.specs.Calls.Chart.{chartAccepted, chartOutput}
-use Rattle.spec.specs.Calls.Call as calls
+use Rattle.spec.specs.Calls as calls
 use Rattle.table.proofs.Requests.{RequestT}
 use Rattle.table.proofs.Heads.{the-head, a-head}
 use Rattle.walk.proofs.Prelude.{lent, shown, shown-one, lent-one}

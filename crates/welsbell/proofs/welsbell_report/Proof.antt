@@ -4,7 +4,7 @@ use Rattle.walk.proofs.Prelude.{refl, [], _∷_, URA, w64, vint, SProp, Memory,
 use Rattle.walk.proofs.Prelude.{drop, number, so, vars, gives, passed-on, made, of-number, calls-for, given}
 use Rattle.queue.proofs.Values.{a-reply}
 use Rattle.spec.specs.Calls.Report.{reportAccepted}
-use Rattle.spec.specs.Calls.Call as calls
+use Rattle.spec.specs.Calls as calls
 use Rattle.table.proofs.Requests.{RequestT}
 use Rattle.table.proofs.Heads.{the-head, a-head}
 use Rattle.walk.proofs.Prelude.{taken, shown, shown-one, lent-one}

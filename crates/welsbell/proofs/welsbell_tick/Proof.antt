@@ -3,7 +3,7 @@
 use Rattle.walk.proofs.Prelude.{refl, [], _∷_, URA, w64, vint, SProp, Memory, Routine, Heap, Tables, Atoms, Fun, Given, _$_, !, u32, tripleOf, id⊢}
 use Rattle.walk.proofs.Prelude.{drop, so, vars, relends, gives, made, of-number, of-nothing, calls-for, given, mut-own}
 use Rattle.queue.proofs.Values.{a-reply}
-use Rattle.spec.specs.Calls.Call as calls
+use Rattle.spec.specs.Calls as calls
 use Rattle.table.proofs.Requests.{RequestT}
 use Rattle.table.proofs.Heads.{the-head, a-head}
 use Rattle.walk.proofs.Prelude.{lent, lent-one}
