@@ -144,19 +144,19 @@ module _ (es : List Event) (s : State) (so-far : SinceOpened es s) where
           event-goes-on (event (chart blank) (Charted count ∷ [])) refl (charted count)
 
   -- a line that asks for this
-  abbrev GoesOn : Task → Type 0
-  GoesOn t =
+  abbrev TaskGoesOn : Task → Type 0
+  TaskGoesOn t =
       SinceOpened (map (λ c. event c (answerTo t s ∷ [])) (callsIn t) ++ es) (lineOutcomeOf s (outcomeIn t s) (outputIn t s) .after)
 
   frame-goes-on : (frame : Frame) → SinceOpened (eventsBy frame (answerTo (task frame) s) ++ es) (lineOutcome frame s .after)
   unfolding lineOutcome
   frame-goes-on frame = by-case (asks frame)
     where
-      by-case : {frame : Frame} → Asks frame → GoesOn (task frame)
+      by-case : {frame : Frame} → Asks frame → TaskGoesOn (task frame)
       by-case (asks-open setup records) = open-goes-on setup (lentIn (task (Open setup records)) s) _ _
       by-case asks-chart = chart-goes-on _ _
       by-case asks-nothing = so-far
-      by-case (asks-call frame c e no-open none) = subst GoesOn (sym e) (plain-goes-on c no-open (none s) _ _)
+      by-case (asks-call frame c e no-open none) = subst TaskGoesOn (sym e) (plain-goes-on c no-open (none s) _ _)
 
 -- ---- all lines
 lines-go-on : (lines : List (List ℕ)) (es : List Event) (s : State) (ys : List ℕ) → SinceOpened es s
