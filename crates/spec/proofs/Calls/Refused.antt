@@ -58,20 +58,20 @@ pub call-accepted : (c : Call) (s : State) → Accepted c s (acceptedOf c s)
 unfolding openAccepted submitAccepted kept droppedAt tickAccepted nextState
 call-accepted c s = by-kind (call-kind c s)
   where
-    submitted : (client deadline : ℕ) (x : Bool)
+    kept-or-dropped : (client deadline : ℕ) (x : Bool)
         → Accepted (submit client deadline) s
         (cond x (kept client deadline s) (droppedAt (victimPlace client deadline s) client deadline s))
-    submitted client deadline true = accepted-one (submit client deadline) s _ _ refl refl (λ e. refl)
-    submitted client deadline false = accepted-one (submit client deadline) s _ _ refl refl (λ e. refl)
+    kept-or-dropped client deadline true = accepted-one (submit client deadline) s _ _ refl refl (λ e. refl)
+    kept-or-dropped client deadline false = accepted-one (submit client deadline) s _ _ refl refl (λ e. refl)
 
-    ticked : (ws : List Request) → Accepted tick s (tickAccepted ws s)
-    ticked [] = accepted-one tick s _ _ refl refl (λ e. refl)
-    ticked (w ∷ ws) = accepted-one tick s _ _ refl refl (λ e. refl)
+    served-or-idle : (ws : List Request) → Accepted tick s (tickAccepted ws s)
+    served-or-idle [] = accepted-one tick s _ _ refl refl (λ e. refl)
+    served-or-idle (w ∷ ws) = accepted-one tick s _ _ refl refl (λ e. refl)
 
     by-kind : {c : Call} → CallKind s c → Accepted c s (acceptedOf c s)
     by-kind (is-open setup) = accepted-one (opening setup) s _ _ refl refl (λ e. absurd (true≢false e))
-    by-kind (is-submit client deadline) = submitted client deadline (hasNoOverfull (s .head) (withNew client deadline s))
-    by-kind is-tick = ticked (waiting s)
+    by-kind (is-submit client deadline) = kept-or-dropped client deadline (hasNoOverfull (s .head) (withNew client deadline s))
+    by-kind is-tick = served-or-idle (waiting s)
     by-kind (reads-only c r) =
         rw (r .accepted-is)
         (record {
