@@ -75,7 +75,7 @@ impl Values {
     }
 }
 
-// An answer's line, document 01, "Session lines": kinds and the order of values are the paper's.
+// An answer's kind and values, document 01, "Session lines": kinds and the order of values are the paper's.
 fn values_of(answer: Answer) -> Values
     ensures { λ r. ⌜ (r .kind ≡ kindOf answer) × (take (r .count) (r .numbers) ≡ valueNumbers answer) × (r .count ≤ 5) ⌝ }
 {
@@ -125,10 +125,10 @@ pub(crate) fn write_values(values: &mut [u64; MOST_VALUES], reply: Reply) -> u64
         × (now (values .exit) ≡ written (valueNumbers (reply .answer)) (now (values .entry))) ⌝ }
 {
     let answer = reply.answer;
-    let line = values_of(answer);
+    let said = values_of(answer);
     let others = *values;
-    let numbers = line.numbers;
-    let all = over(others, numbers, line.count);
+    let numbers = said.numbers;
+    let all = over(others, numbers, said.count);
     *values = all;
-    line.kind
+    said.kind
 }

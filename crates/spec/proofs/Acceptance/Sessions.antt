@@ -4,14 +4,16 @@ use Prim.Native.Nat.{ℕ}
 use Prim.Native.Char.{code}
 use Prim.Native.String.{String, [] as []ˢ, _∷_ as _∷ˢ_}
 use mathlib.Core.Path.{_≡_, refl}
-use mathlib.Core.List.{List, [], _∷_, map}
+use mathlib.Core.List.{List, [], _∷_, _++_, map}
+use lib.ListN.{length, take}
 use Rattle.spec.specs.declared.types.Frame.{Frame}
 use Rattle.spec.specs.declared.types.Frame.the-variants.{Open, Submit, Tick, Report, Chart, Bad}
 use Rattle.spec.specs.Every.{every}
 use Rattle.spec.specs.Chart.{Segment}
 use Rattle.spec.specs.Calls.Chart.{chartOutput}
+use Rattle.spec.specs.Calls.Readings.{shown, kindOf}
 use Rattle.spec.specs.Lines.Frames.{answerLine, digitOf, characterOf, numberFrom, digits, frameWith, frameOf}
-use Rattle.spec.specs.Lines.Frames.{fieldDigits, lineOf, segmentLines}
+use Rattle.spec.specs.Lines.Frames.{fieldDigits, lineOf, segmentLines, fieldAt, FrameKind, frameKinds}
 use Rattle.spec.specs.Lines.Session.{textOf, atStart, lineOutcome, replies, session}
 use Rattle.spec.specs.declared.types.Answer.{Answer}
 use Rattle.spec.specs.declared.types.Answer.the-variants.{Opened, Kept, Dropped, Served, Idle, Reported, Charted, Refused}
@@ -185,6 +187,12 @@ pub frame-lines : map (λ (l : LineIn). frameOf (bytes (l .text) [])) linesIn �
 unfolding frames
 frame-lines = refl
 
+-- the first of them are one of each kind of frame, so that none is left out
+pub each-frame :
+    map (λ (l : LineIn). fieldAt 0 1 (bytes (l .text) [])) (take (length frameKinds) linesIn) ≡ map (λ (k : FrameKind). k .kind) frameKinds
+unfolding frames
+each-frame = refl
+
 -- ---- lines out
 -- an answer and its line
 pub record LineOut : Type 0 where
@@ -206,6 +214,12 @@ linesOut =
 pub answer-lines : map (λ (l : LineOut). answerLine (l .answer)) linesOut ≡ map (λ (l : LineOut). bytes (l .text) (10 ∷ [])) linesOut
 unfolding frames
 answer-lines = refl
+
+-- no kind of answer is left out
+pub each-answer :
+    map (λ (l : LineOut). kindOf (l .answer)) linesOut
+    ≡ map (λ (answer : List ℕ → Answer). kindOf (answer [])) shown ++ (kindOf (Refused 0) ∷ [])
+each-answer = refl
 
 -- "87 segment, left (8), right (8), one line each from the left"
 abbrev segments : List Segment

@@ -1,5 +1,7 @@
--- Laws that go by cases on answers. `readable` is the only one of the proofs that has a clause an answer, and the lists of tags stand only
--- here, so that what is proved of a new kind of answer is written in this file. Assumes nothing.
+-- Laws that go by cases on answers. Of what is proved of the definitions `readable` alone has a clause an answer, and the lists of tags
+-- stand only here, so that a new kind of answer is written in this file; the proofs of the two functions that write answers have an arm
+-- for each besides. A list of tags that lacks a new one is refused where a `match` is left with it, in `frame` and `session`. Assumes
+-- nothing.
 use Prim.Native.Nat.{ℕ, _<_}
 use mathlib.Core.Path.{_≡_, refl}
 use mathlib.Core.Bool.{false}

@@ -11,8 +11,8 @@ over-requires c κs = search needs
 
 returns : tie.Need-returns
 returns c =
-    let line = c .before .before .before .values-of .ensures in
-    (line .0, rw (line .1) at (c .over .ensures))
+    let said = c .before .before .before .values-of .ensures in
+    (said .0, rw (said .1) at (c .over .ensures))
 
 pub write-values-spec : {M : Type 1} → statement M
 write-values-spec = tie.close (tie.spec values-of-requires over-requires returns)
