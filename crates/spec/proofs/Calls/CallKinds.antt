@@ -1,7 +1,7 @@
 -- The kinds of calls, an open, a submit, a tick, and calls that change nothing, as report and chart; and what a frame asks for, an open,
--- a chart, nothing, or any other call. `call-kind` is the only one of the proofs that goes by cases on calls, and `asks` the only one
--- that goes by cases on frames. The laws of all calls and of all frames go by these kinds, so that a new call that changes nothing, with a
--- frame of its own, has its clauses here and in no other proof. Assumes nothing.
+-- a chart, nothing, or any other call. Of what is proved of the definitions `call-kind` alone goes by cases on calls, and `asks` alone by
+-- cases on frames. The laws of all calls and of all frames go by these kinds, so that a new call that changes nothing, with a frame of its
+-- own, has its clauses here; in `session` the proof of the function that makes a frame's call has an arm for it besides. Assumes nothing.
 use Prim.Native.Nat.{ℕ, _≤_}
 use mathlib.Core.Path.{_≡_, refl, sym, ap, _∙_}
 use mathlib.Core.Bool.{false}
@@ -13,7 +13,7 @@ use Rattle.slots.proofs.Laws.Sums.{All}
 use Rattle.spec.specs.declared.types.Setup.{Setup}
 use Rattle.spec.specs.declared.types.Answer.{Answer}
 use Rattle.spec.specs.declared.types.Answer.the-variants.{Charted}
-use Rattle.spec.specs.Tables.{zeroCounts, State, waiting, clientTable}
+use Rattle.spec.specs.Tables.{zeroSetup, zeroCounts, State, waiting, clientTable}
 use Rattle.spec.specs.Setup.{Refusal, firstMatch}
 use Rattle.spec.specs.Sound.{waitingOf}
 use Rattle.spec.specs.Calls.Readings.{reading, nobody, valuesOf}
@@ -24,9 +24,10 @@ use Rattle.spec.specs.Calls.Chart.{chartRefusals, chartAccepted}
 use Rattle.spec.specs.Calls.{Call, opening, submit, tick, report, chart, meaning, refusalsOf, acceptedOf}
 use Rattle.spec.proofs.Demands.Words.{FitsField}
 use Rattle.spec.proofs.Laws.Every.{count-most}
+use Rattle.spec.proofs.Laws.Answers.{tagsBut}
 use Rattle.spec.proofs.Laws.Accepted.{Ready, ready, report-ready, chart-ready, waiting-length}
 use types.Run.{OneOf, miss}
-use denote.Enum.Declared.{tagOf}
+use denote.Enum.Declared.{tagOf, variants}
 use Rattle.spec.specs.declared.types.Frame.{Frame}
 use Rattle.spec.specs.declared.types.Frame.the-variants.{Open, Submit, Tick, Report, Chart, Bad}
 use Rattle.spec.specs.Lines.Frames.{Task, taskBy, task}
@@ -148,7 +149,7 @@ asks Bad = asks-nothing
 
 -- ---- any frame but an open: those that the last arm of a `match` is left with, by their tags
 abbrev unopenedTags : List ℕ
-unopenedTags = 1 ∷ 2 ∷ 3 ∷ 4 ∷ 5 ∷ []
+unopenedTags = tagsBut (tagOf the-type (Open zeroSetup 0)) (variants the-type)
 
 abbrev pub NotOpen : Frame → Type 0
 NotOpen frame = OneOf unopenedTags (tagOf the-type frame)
@@ -158,7 +159,7 @@ pub not-open : (frame : Frame) → NotOpen frame → task frame .named ≡ []
 not-open frame = by-case (asks frame)
   where
     by-case : {frame : Frame} → Asks frame → NotOpen frame → task frame .named ≡ []
-    by-case (asks-open setup records) other = absurd (miss unopenedTags 0 tt other)
+    by-case (asks-open setup records) other = absurd (miss unopenedTags (tagOf the-type (Open zeroSetup 0)) tt other)
     by-case asks-chart other = refl
     by-case asks-nothing other = refl
     by-case (asks-call frame c e no-open none) other = ap (λ (t : Task). t .named) e

@@ -1,15 +1,15 @@
--- Laws that go by cases on answers. Of what is proved of the definitions `readable` alone has a clause an answer, and the lists of tags
--- stand only here, so that a new kind of answer is written in this file; the proofs of the two functions that write answers have an arm
--- for each besides. A list of tags that lacks a new one is refused where a `match` is left with it, in `frame` and `session`. Assumes
--- nothing.
-use Prim.Native.Nat.{ℕ, _<_}
+-- Laws that go by cases on answers. Of what is proved of the definitions `readable` alone has a clause an answer, so that a new kind of
+-- answer is written in this file; the proofs of the two functions that write answers have an arm for each besides. Assumes nothing.
+use Prim.Native.Nat.{ℕ, suc, _<_}
 use mathlib.Core.Path.{_≡_, refl}
 use mathlib.Core.Bool.{false}
-use mathlib.Core.List.{List, [], _∷_}
+use mathlib.Core.List.{List, [], _∷_, _++_}
 use native.Mathlib.Omega.{arith}
 use types.Run.{OneOf, miss}
-use denote.Enum.Declared.{tagOf}
+use denote.RattleType.{RattleType}
+use denote.Enum.Declared.{tagOf, variants}
 use lib.Dec.{eqb}
+use lib.ListN.{take, drop}
 use Rattle.spec.specs.declared.types.Answer.{Answer}
 use Rattle.spec.specs.declared.types.Answer.the-variants.{Opened, Kept, Dropped, Served, Idle, Reported, Charted, Refused}
 use Rattle.spec.specs.Calls.Readings.{kindOf, valuesOf, reading}
@@ -18,17 +18,26 @@ use Rattle.spec.specs.Lines.Printed.{answerWith}
 use Rattle.spec.proofs.types.Answer.{the-type}
 use Rattle.spec.proofs.Laws.Digits.{FieldsRead}
 
--- ---- answers of all variants but one: those that the last arm of a `match` is left with, by their tags
--- any but a chart's
+-- ---- values of all variants but one: those that the last arm of a `match` is left with, by their tags
+-- the tags of these variants, the first of which has the tag n
+abbrev tagsFrom : ℕ → List (List RattleType) → List ℕ
+tagsFrom n [] = []
+tagsFrom n (v ∷ vs) = n ∷ tagsFrom (suc n) vs
+
+-- those of all but the variant that has the tag t
+abbrev pub tagsBut : ℕ → List (List RattleType) → List ℕ
+tagsBut t vs = take t (tagsFrom 0 vs) ++ drop (suc t) (tagsFrom 0 vs)
+
+-- any answer but a chart's
 abbrev unchartedTags : List ℕ
-unchartedTags = 0 ∷ 1 ∷ 2 ∷ 3 ∷ 4 ∷ 5 ∷ 7 ∷ []
+unchartedTags = tagsBut (tagOf the-type (Charted 0)) (variants the-type)
 
 abbrev pub NotCharted : Answer → Type 0
 NotCharted a = OneOf unchartedTags (tagOf the-type a)
 
 -- any but a refusal
 abbrev unrefusedTags : List ℕ
-unrefusedTags = 0 ∷ 1 ∷ 2 ∷ 3 ∷ 4 ∷ 5 ∷ 6 ∷ []
+unrefusedTags = tagsBut (tagOf the-type (Refused 0)) (variants the-type)
 
 abbrev pub NotRefused : Answer → Type 0
 NotRefused a = OneOf unrefusedTags (tagOf the-type a)
@@ -76,7 +85,7 @@ readable (Charted count) =
       kind-byte = omega arith;
       no-segment = refl;
       refusal-kind = refl;
-      uncharted = λ other. absurd (miss unchartedTags 6 tt other);
+      uncharted = λ other. absurd (miss unchartedTags (tagOf the-type (Charted 0)) tt other);
       unrefused = λ other. refl;
       read-off = λ line r i. Charted (r .0 i);
     }
@@ -86,7 +95,7 @@ readable (Refused number) =
       no-segment = refl;
       refusal-kind = refl;
       uncharted = λ other. refl;
-      unrefused = λ other. absurd (miss unrefusedTags 7 tt other);
+      unrefused = λ other. absurd (miss unrefusedTags (tagOf the-type (Refused 0)) tt other);
       read-off = λ line r i. Refused (r .0 i);
     }
 
