@@ -1,14 +1,18 @@
 -- How long the lines of a reply are, and what a chart's answer asks of its start slots. Assumes nothing.
-use Prim.Native.Nat.{ℕ, _+_, _*_, _≤_, _<_}
+use Prim.Native.Nat.{ℕ, suc, _+_, _*_, _≤_, _<_}
 use mathlib.Core.List.{List, [], _∷_, map}
 use lib.ListN.{length, getD}
 use Rattle.spec.specs.declared.types.Answer.{Answer}
 use Rattle.spec.specs.declared.types.Answer.the-variants.{Refused}
 use Rattle.spec.specs.Every.{largest}
 use Rattle.spec.specs.Tables.{mostRecords}
-use Rattle.spec.specs.Calls.Readings.{reading, valuesOf, shown}
-use Rattle.spec.specs.Lines.Frames.{lineLength, segmentFields, countFields}
+use Rattle.spec.specs.Calls.Readings.{Field, reading, valuesOf, shown}
+use Rattle.spec.specs.Lines.Frames.{digitsFor, segmentFields, countFields}
 use Rattle.table.specs.Widths.{largest64}
+
+-- a line with its line feed: two digits for its kind byte, and two for each byte of its fields
+abbrev pub lineLength : List Field → ℕ
+lineLength fields = suc (digitsFor (map (λ f. f .width) fields))
 
 -- a segment's line, and their count's
 abbrev pub segmentLength : ℕ

@@ -11,10 +11,10 @@ ghost use Prim.Native.Nat.{ℕ, _+_, _*_, _<_, _≤_};
 ghost use lib.ListN.{length, getD, take};
 ghost use Rattle.spec.specs.Chart.{segmentsOf};
 ghost use Rattle.spec.specs.Calls.Readings.{field, valuesOf};
-ghost use Rattle.spec.specs.Lines.Frames.{lineFeed, lineOf, answerLine, segmentLines, lineLength, answerLines, chartLines};
+ghost use Rattle.spec.specs.Lines.Frames.{lineFeed, lineOf, answerLine, segmentLines, answerLines, chartLines};
 ghost use Rattle.table.specs.Widths.{largest64};
 ghost use Rattle.spec.specs.declared.types.Answer.the-variants.{Reported};
-ghost use Rattle.frame.specs.LineLengths.{segmentLength, countLength, longestLine, mostBytes, CanDraw};
+ghost use Rattle.frame.specs.LineLengths.{lineLength, segmentLength, countLength, longestLine, mostBytes, CanDraw};
 
 // The characters of the longest line, a drop's or a served read's, with its line feed: a kind byte, two numbers of 8 bytes and a client.
 pub const LONGEST_LINE: usize = 2 * (1 + 8 + 8 + 2) + 1;

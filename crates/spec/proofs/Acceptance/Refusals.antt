@@ -3,6 +3,7 @@
 -- hold. Assumes nothing.
 use Prim.Native.Nat.{ℕ}
 use mathlib.Core.Path.{_≡_, refl}
+use mathlib.Core.Bool.{true, false}
 use mathlib.Core.List.{List, [], _∷_, map}
 use lib.ListN.{replicate}
 use Rattle.spec.specs.declared.types.Request.{Request}
@@ -12,6 +13,7 @@ use Rattle.spec.specs.declared.types.Answer.the-variants.{Opened, Kept, 
 use Rattle.spec.specs.Every.{select}
 use Rattle.spec.specs.Tables.{mostCounted, clockEnd, numberEnd, State, holding, numbersOf}
 use Rattle.spec.specs.Setup.{Refusal}
+use Rattle.spec.specs.Calls.Readings.{isRefused}
 use Rattle.spec.specs.Calls.{Call, opening, submit, tick, report, chart, outcomeOf, refusalsOf}
 use Rattle.spec.proofs.Acceptance.Computed.{setting, calls}
 
@@ -87,6 +89,11 @@ given r = (
   map (λ (f : Refusal). f .number) (select (λ f. f .holds) (refusalsOf (r .call) (r .state))),
   outcomeOf (r .call) (r .state) .answers,
 )
+
+-- "Each answers with its number only": one refusal alone says that a call is refused, and neither no answer nor several do
+pub refused-alone :
+    map isRefused ([] ∷ (Refused 7 ∷ []) ∷ (Opened ∷ []) ∷ (Refused 7 ∷ Refused 7 ∷ []) ∷ []) ≡ false ∷ true ∷ false ∷ false ∷ []
+refused-alone = refl
 
 pub refusals-in-order : map given rows ≡ map said rows
 unfolding calls outcomeOf select

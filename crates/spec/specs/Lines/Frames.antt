@@ -175,7 +175,3 @@ linesBy (count ∷ more) setup starts a = chartLines (segmentsOf setup (take cou
 
 abbrev pub answerLines : Setup → List ℕ → Answer → List ℕ
 answerLines setup starts a = linesBy (reading a .charted) setup starts a
-
--- ---- how long lines out are, with their line feeds
-abbrev pub lineLength : List Field → ℕ
-lineLength fields = suc (digitsFor (map (λ f. f .width) fields))
