@@ -3,7 +3,6 @@ use mathlib.Core.Path.{sym, _∙_}
 use mathlib.Core.Bool.{and-false}
 use native.Mathlib.Omega.{arith}
 use Prim.Native.Nat.{_≤_}
-use lib.Dec.{leb}
 use borrow.Author.Needs.{needs}
 use borrow.Author.Tests.{ltb-true, le-ltb, lt-leb, not-true, not-false}
 use Rattle.sound.specs.Checks.{isNext}
@@ -44,7 +43,8 @@ has-one c =
 sub-result : tie.Need-sub-result
 sub-result c =
     let a = c .before .before .before .before .before .before .before .before .before .before .before .before .before .args in
-    one-at-most (leb (a .w .number) (a .before .number)) (a .w .deadline) (has-one (c .before .before .before))
+    let some : 1 ≤ a .w .deadline = has-one (c .before .before .before) in
+    search (needs, one-at-most, some)
 
 returns-5 : tie.Need-returns-5
 returns-5 c =
