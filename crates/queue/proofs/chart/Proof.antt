@@ -47,11 +47,11 @@ module _ {M : Type 1} (𝓤 : URA M) (H : Heap 𝓤) (A : Atoms 𝓤) (W : Given
       -- let n = unless_refused(refusal, head.waiting);
       calls-for ! 𝓣 [] (number W refusal (refusal-is .1) ∷ number W (head .waiting) (waiting-fits head head-is) ∷ []) (of-number w64) (λ c. known-unless-refused) (λ c h. h) (id⊢ 𝓤 _) refl (λ c. and-then ! (var ! refl) (and-then ! (field-var ! refl refl refl) (no-more !))) (λ _. refl) (λ n last₃ copied kept₃ n-is.
       relends ! s₂ refl $
-      -- table::deadlines(waiting, output, n);
+      -- starts::deadlines(waiting, output, n);
       calls-for ! 𝓣 (0 ∷ 2 ∷ []) (passed-on W s₀ ∷ mut-of W s₂ output refl ∷ number W n (n-is .1) ∷ []) of-nothing (λ c. known-deadlines) (λ c h. h) (so 𝓤 (within head ws xs output tables refusal n found refuses copied)) refl (λ c. vars ! (refl, (refl, (refl, tt)))) (λ _. refl) (λ u last₄ first kept₄ _.
       let out₁ : List ℕ = last₄ .1 .0 in
       relends ! s₂ refl $
-      -- chart::write_starts(head.setup, output, n);
+      -- starts::write_starts(head.setup, output, n);
       calls-for ! 𝓣 (2 ∷ []) (given W a-setup (head .setup) (setup-is head head-is) ∷ mut-of W s₂ (last₄ .1 .0) (kept₄ .1 .0) ∷ number W n (n-is .1) ∷ []) of-nothing (λ c. known-write-starts) (λ c h. h) (so 𝓤 (subst (λ (m : ℕ). n ≤ m) (sym (kept₄ .1 .0)) (within head ws xs output tables refusal n found refuses copied .1))) refl (λ c. and-then ! (field-var ! refl refl refl) (vars ! (refl, (refl, tt)))) (λ _. refl) (λ u last₅ second kept₅ _.
       let out₂ : List ℕ = last₅ .1 .0 in
       -- decide::chart::reply(head, refusal)

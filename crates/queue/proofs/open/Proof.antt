@@ -45,7 +45,7 @@ module _ {M : Type 1} (𝓤 : URA M) (H : Heap 𝓤) (A : Atoms 𝓤) (W : Given
       -- let cleared = unless_refused(refusal, waiting.len() as u64);
       calls-for ! 𝓣 [] (number W refusal (refusal-is .1) ∷ number W (length ws) (s₀ .room .0) ∷ []) (of-number w64) (λ c. known-unless-refused) (λ c h. h) (id⊢ 𝓤 _) refl (λ c. vars ! (refl, (refl, tt))) (λ _. refl) (λ cleared last₃ some kept₃ cleared-is.
       relends ! s₀ refl $
-      -- table::clear(waiting, cleared);
+      -- waiting::clear(waiting, cleared);
       calls-for ! 𝓣 (0 ∷ []) (mut-of W s₀ ws refl ∷ number W cleared (cleared-is .1) ∷ []) of-nothing (λ c. known-clear) (λ c h. h) (so 𝓤 (cleared-within head ws xs setup refusal cleared refuses some)) refl (λ c. vars ! (refl, (refl, tt))) (λ _. refl) (λ u last₄ zeros kept₄ _.
       let ws₁ : List Request = last₄ .0 in
       relends ! s₁ refl $

@@ -1,4 +1,4 @@
--- `session::check_record` meets its contract: a walk with an early return and, behind it, six calls, one of which gets parts of the tables.
+-- `session::answer_line` meets its contract: a walk with an early return and, behind it, six calls, one of which gets parts of the tables.
 -- Assumes nothing.
 use lib.ListN.{drop as drop-list}
 use Rattle.walk.proofs.Prelude.{_≡_, refl, false, ℕ, _≤_, _<_, _+_, _^_, List, [], _∷_, _++_, length, URA, w64, SProp, id⊢, Memory, Routine, Heap, Tables, Atoms, Fun, Given, _$_, !, of-opd, first, u8, u32, u64, tripleOf}
@@ -52,7 +52,7 @@ module _ {M : Type 1} (𝓤 : URA M) (H : Heap 𝓤) (A : Atoms 𝓤) (W : Given
       sets ! (of-opd ! (field-var ! refl refl refl)) refl (tt, fit (clients .room .0)) $
       sets ! (of-opd ! (field-var ! refl refl refl)) refl (tt, fit (starts .room .0)) $
       sets ! (of-opd ! (field-var ! refl refl refl)) refl (tt, fit (out .room .0)) $
-      -- let turn = turns::next_turn(table, line, fed, behind, waiting.len(), .., out.len());
+      -- let turn = turns::next_line(table, line, fed, behind, waiting.len(), .., out.len());
       calls-for ! 𝓣 (0 ∷ 1 ∷ []) (passed-on W table ∷ passed-on W line ∷ given W a-fed fed fed-is ∷ number W behind (behind-is .1) ∷ number W (length ws) (waiting .room .0) ∷ number W (length xs) (clients .room .0) ∷ number W (length st) (starts .room .0) ∷ number W (length (out .list)) (out .room .0) ∷ []) a-turn (λ c. known-next-turn) (λ c h. h) (so 𝓤 required) refl (λ c. vars ! (refl, (refl, (refl, (refl, (refl, (refl, (refl, (refl, tt))))))))) (λ _. refl) (λ turn last₁ next kept₁ turn-is.
       sets ! (of-opd ! (field-var ! refl refl refl)) refl (tt, tt) $
       branches-then ! (var ! refl) (λ held.
@@ -69,7 +69,7 @@ module _ {M : Type 1} (𝓤 : URA M) (H : Heap 𝓤) (A : Atoms 𝓤) (W : Given
       calls-for ! 𝓣 [] (given W a-fed fed fed-is ∷ given W a-turn turn turn-is ∷ []) a-share (λ c. known-share) (λ c h. h) (id⊢ 𝓤 _) refl (λ c. vars ! (refl, (refl, tt))) (λ _. refl) (λ l last₅ lends-so kept₅ l-is.
       let within : (l .records ≤ length ws) × (l .numbers ≤ length xs) = lent-within (line .list) behind fed ws xs st (out .list) turn goes next l lends-so in
       lends-front ! (records-fit l l-is) refl (field-var ! refl refl refl) $ lends-front ! (numbers-fit l l-is) refl (field-var ! refl refl refl) $ relends ! starts refl $
-      -- let reply = answer(frame, head, &mut waiting[..share.records], &mut clients[..share.numbers], starts);
+      -- let reply = make_call(frame, head, &mut waiting[..share.records], &mut clients[..share.numbers], starts);
       calls-for ! 𝓣 (2 ∷ 3 ∷ 4 ∷ []) (given W a-frame asked asked-is ∷ given W a-head head head-is ∷ mut-front W waiting (waiting .list) refl (l .records) (within .0) ∷ mut-front W clients (clients .list) refl (l .numbers) (within .1) ∷ mut-own W starts ∷ []) a-reply (λ c. known-answer) (λ c h. h) (id⊢ 𝓤 _) refl (λ c. vars ! (refl, (refl, (refl, (refl, (refl, tt)))))) (λ _. refl) (λ reply last₆ answers-so kept₆ reply-is.
       let zs : List Request = last₆ .1 .1 .0 in
       let ys : List ℕ = last₆ .1 .1 .1 .0 in

@@ -1,5 +1,5 @@
 -- `session::feed` meets its contract: a walk with a loop of turns, each of which lends the tables and the digit table again. A turn
--- stands where what is used so far leads on from the state at entry (`Stepping.Feeding`), and the reader there too.
+-- stands where what is used so far leads on from the state at entry (`TurnsTogether.Feeding`), and the reader there too.
 -- Assumes nothing.
 use prog.Wp.{Env, spotOf}
 use types.Kit.{drop, use0, fsplit, fjoin}
@@ -149,7 +149,7 @@ module _ {M : Type 1} (𝓤 : URA M) (H : Heap 𝓤) (A : Atoms 𝓤) (W : Given
           sets ! (agg ! (and-then ! (var ! refl) (and-then ! (lit ! tt) (no-more !)))) refl (tt, (tt, (fit (lit< tt), tt))) $
           sets ! (of-opd ! (field-var ! refl refl refl)) refl (tt, behind-typed .1 .1 .0) $
           relends ! waiting refl $ relends ! clients refl $ relends ! starts refl $ relends ! out refl $
-          -- let next = step(&table, fed, line, behind.at, waiting, clients, starts, out);
+          -- let next = answer_line(&table, fed, line, behind.at, waiting, clients, starts, out);
           calls-for ! 𝓣 (2 ∷ 0 ∷ 3 ∷ 4 ∷ 5 ∷ 6 ∷ []) (loan (array-shared W u8 256 at-table tt digitTable (subst (Room u8) (sym table-length) (lit< tt, lit< tt)) table-length) ∷ given W a-fed (t .fed) (t .fed-is) ∷ passed-on W line ∷ number W n (behind-typed .1 .1 .0 .fits) ∷ mut-of W waiting (t .ws) (long .waiting-long) ∷ mut-of W clients (t .xs) (long .numbers-long) ∷ mut-of W starts (t .st) (t .starts-long) ∷ mut-of W out (t .out) (long .out-long) ∷ []) a-fed (λ c. known-step) (λ c h. h)
           (so 𝓤 (refl, hands .behind-so .onward, lt-of-le-of-lt (line-within (input .list) (t .fed .used) (line .list) n hands) (input .room .0), rw (long .out-long) (t .fed-so .room))) refl (λ c. vars ! (refl, (refl, (refl, (refl, (refl, (refl, (refl, (refl, tt))))))))) (λ _. refl) (λ r last stepped kept r-is.
           sets ! (of-opd ! (var ! refl)) refl (a-fed .lawful 𝓤 H A W .typed r (a-fed .val r ∷ []) r-is .0) $

@@ -1,4 +1,4 @@
--- `decide::tick::make_call` meets its contract. Assumes nothing.
+-- `decide::tick::answer` meets its contract. Assumes nothing.
 use borrow.Author.Tests.{eq-eqb, ne-eqb}
 use Rattle.decide.proofs.tick.answer.Statement.{statement}
 use Rattle.decide.proofs.tick.answer.Tie as tie

@@ -1,4 +1,4 @@
--- `frame::table::digit_table` meets its contract: the constant is the table, entry by entry. Assumes nothing.
+-- `frame::values::digit_table` meets its contract: the constant is the table, entry by entry. Assumes nothing.
 use mathlib.Core.Path.{refl}
 use Rattle.spec.specs.Lines.Frames.{digitOf}
 use Rattle.frame.specs.Digits.{valuesFrom, digitTable}

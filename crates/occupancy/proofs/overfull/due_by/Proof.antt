@@ -86,7 +86,7 @@ module _ {M : Type 1} (𝓤 : URA M) (H : Heap 𝓤) (A : Atoms 𝓤) (W : Given
       computes ! refl refl (t .ordered) refl (tt, fit (omega arith)) $
       sets ! (bin ! (var ! refl) (lit ! tt) (lit< tt)) refl (tt, fit (omega arith)) $
       computes ! refl refl (fit m-fits) refl (tt, fit m-fits) $
-      -- let w = table::get(t, middle);
+      -- let w = waiting::get(t, middle);
       calls-giving ! 𝓣 (0 ∷ []) (passed-on W table ∷ number W m m-fits ∷ []) a-request w (λ c. known-get) (λ c h. h) (so 𝓤 (omega (arith, t .within))) refl (λ c. vars ! (refl, (refl, tt))) (λ ws. refl) (λ last is.
       sets ! (bin ! (field-var ! refl refl refl) (var ! refl) tt) refl (tt, tt) $
       branches ! (var ! refl)

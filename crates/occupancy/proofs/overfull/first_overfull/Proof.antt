@@ -74,7 +74,7 @@ module _ {M : Type 1} (𝓤 : URA M) (H : Heap 𝓤) (A : Atoms 𝓤) (W : Given
       let lt : t .i < n = omega (arith, nleb→lt _ (t .i) before) in
       let next-fits : t .i + 1 < 2 ^ 64 = lt-of-le-of-lt (add-one-le lt) (n-is .1) in
       let w : Request = getD ys (t .i) zeroRequest in
-      -- let w = table::get(t, i);
+      -- let w = waiting::get(t, i);
       calls-giving ! 𝓣 (0 ∷ []) (passed-on W table ∷ number W (t .i) i-fits ∷ []) a-request w (λ c. known-get) (λ c h. h) (so 𝓤 (lt-of-lt-of-le lt (within .0))) refl (λ c. vars ! (refl, (refl, tt))) (λ ws. refl) (λ last is.
       -- d = w.deadline; i += 1
       sets ! (of-opd ! (field-var ! refl refl refl)) refl (tt, fit (deadline-fits w is)) $

@@ -56,7 +56,7 @@ module _ {M : Type 1} (𝓤 : URA M) (H : Heap 𝓤) (A : Atoms 𝓤) (W : Given
       let place-small : place ≤ largest16 = omega arith in
       let place-fits : place < 2 ^ 64 = lt-of-le-of-lt place-small (lit< tt) in
       let w : Request = getD ys (t .i) zeroRequest in
-      -- let w = table::get(t, i);
+      -- let w = waiting::get(t, i);
       calls-giving ! 𝓣 (0 ∷ []) (passed-on W table ∷ number W (t .i) i-fits ∷ []) a-request w (λ c. known-get) (λ c h. h) (so 𝓤 (omega arith)) refl (λ c. vars ! (refl, (refl, tt))) (λ ws. refl) (λ last is.
       -- note(latest, w.client, i + more);
       relends ! latest refl $

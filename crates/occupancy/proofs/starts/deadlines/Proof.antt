@@ -45,7 +45,7 @@ module _ {M : Type 1} (𝓤 : URA M) (H : Heap 𝓤) (A : Atoms 𝓤) (W : Given
       let next : Upto n = (i .0 + 1, add-one-le lt) in
       let next-fits : i .0 + 1 < 2 ^ 64 = lt-of-le-of-lt (next .1) (n-is .1) in
       let r : Request = getD ys (i .0) zeroRequest in
-      -- let w = get(t, i);
+      -- let w = waiting::get(t, i);
       calls-giving ! 𝓣 (0 ∷ []) (passed-on W t ∷ number W (i .0) fits ∷ []) a-request r (λ c. known-get) (λ c h. h) (so 𝓤 (lt-of-lt-of-le lt (within .0))) refl (λ c. vars ! (refl, (refl, tt))) (λ ws. refl) (λ last is.
       -- put_deadline(out, i, w);
       relends ! out refl $

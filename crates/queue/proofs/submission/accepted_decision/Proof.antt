@@ -76,15 +76,15 @@ module _ {M : Type 1} (𝓤 : URA M) (H : Heap 𝓤) (A : Atoms 𝓤) (W : Given
       calls-for ! 𝓣 (1 ∷ []) (the-head W head head-is ∷ passed-on W waiting ∷ number W n n-fits ∷ number W place (place-is .1) ∷ number W deadline (deadline-is .1) ∷ []) (of-number w64) (λ c. known-first-overfull) (λ c h. h) (so 𝓤 (within, small, place-within, clock head ws xs client deadline accepted)) refl (λ c. vars ! (refl, (refl, (refl, (refl, (refl, tt)))))) (λ _. refl) (λ found last₂ searched kept₂ found-is.
       -- let due = overfull::due_by(waiting, n, found);
       calls-for ! 𝓣 (1 ∷ []) (passed-on W waiting ∷ number W n n-fits ∷ number W found (found-is .1) ∷ []) (of-number w64) (λ c. known-due-by) (λ c h. h) (so 𝓤 within) refl (λ c. vars ! (refl, (refl, (refl, tt)))) (λ _. refl) (λ due last₃ ended kept₃ due-is.
-      -- let last = victim::candidates(n, due, found);
+      -- let last = overfull::candidates(n, due, found);
       calls-for ! 𝓣 [] (number W n n-fits ∷ number W due (due-is .1) ∷ number W found (found-is .1) ∷ []) (of-number w64) (λ c. known-candidates) (λ c h. h) (id⊢ 𝓤 _) refl (λ c. vars ! (refl, (refl, (refl, tt)))) (λ _. refl) (λ end last chosen kept end-is.
       let end-within : end ≤ n = candidates-within head ws xs client deadline accepted found due end chosen in
-      -- let before = room::smaller(place, last);
+      -- let before = overfull::smaller(place, last);
       calls-for ! 𝓣 [] (number W place (place-is .1) ∷ number W end (end-is .1) ∷ []) (of-number w64) (λ c. known-smaller) (λ c h. h) (id⊢ 𝓤 _) refl (λ c. vars ! (refl, (refl, tt))) (λ _. refl) (λ before last₄ fewer kept₄ before-is.
       let spare : (before ≤ length ws) × (before + 1 ≤ largest16) = (omega (arith, fewer, place-within, within), omega (arith, fewer, fits place n (place-within) small .0)) in
       sets ! (addr ! (from ! (stop !))) refl (tt, tt) $
       sets ! (agg ! (and-then ! (var ! refl) (and-then ! (lit ! tt) (no-more !)))) refl (tt, (tt, (fit (lit< tt), tt))) $
-      -- victim::note_last_of_each(waiting, &mut latest, 0, before, 1);
+      -- overfull::note_last_of_each(waiting, &mut latest, 0, before, 1);
       calls-for ! 𝓣 (1 ∷ 0 ∷ []) (passed-on W waiting ∷ known-lent l₆ zeros zeros-long ∷ number W 0 (lit< tt) ∷ number W before (before-is .1) ∷ number W 1 (lit< tt) ∷ []) of-nothing (λ c. known-mark) (λ c h. h) (so 𝓤 (spare .0, zeros-long, spare .1)) refl (λ c. and-then ! (var ! refl) (and-then ! (var ! refl) (and-then ! (lit ! tt) (and-then ! (var ! refl) (and-then ! (lit ! tt) (no-more !)))))) (λ _. refl) (λ u₅ last₅ marked₁ kept₅ _.
       let known₁ : List ℕ = last₅ .1 .0 in
       let long₁ : length known₁ ≡ 256 = kept₅ .1 .0 ∙ zeros-long in
@@ -92,13 +92,13 @@ module _ {M : Type 1} (𝓤 : URA M) (H : Heap 𝓤) (A : Atoms 𝓤) (W : Given
       sets ! (agg ! (and-then ! (var ! refl) (and-then ! (lit ! tt) (no-more !)))) refl (tt, (tt, (fit (lit< tt), tt))) $
       let next-fits : place + 1 < 2 ^ 64 = fits place n (place-within) small .1 in
       sets ! (bin ! (var ! refl) (lit ! tt) (fit next-fits)) refl (tt, fit next-fits) $ empties ! 13 refl $
-      -- victim::note(&mut latest, client, place + 1);
+      -- overfull::note(&mut latest, client, place + 1);
       calls-for ! 𝓣 (0 ∷ []) (known-lent l₆ known₁ long₁ ∷ number W client (client-is .1) ∷ number W (place + 1) next-fits ∷ []) of-nothing (λ c. known-note) (λ c h. h) (so 𝓤 (long₁, omega (arith, fits place n (place-within) small .0))) refl (λ c. vars ! (refl, (refl, (refl, tt)))) (λ _. refl) (λ u₆ last₆ marked₂ kept₆ _.
       let known₂ : List ℕ = last₆ .0 in
       let long₂ : length known₂ ≡ 256 = kept₆ .0 ∙ long₁ in
       sets ! (addr ! (from ! (stop !))) refl (tt, tt) $
       sets ! (agg ! (and-then ! (var ! refl) (and-then ! (lit ! tt) (no-more !)))) refl (tt, (tt, (fit (lit< tt), tt))) $ empties ! 13 refl $
-      -- victim::note_last_of_each(waiting, &mut latest, place, last, 2);
+      -- overfull::note_last_of_each(waiting, &mut latest, place, last, 2);
       calls-for ! 𝓣 (1 ∷ 0 ∷ []) (passed-on W waiting ∷ known-lent l₆ known₂ long₂ ∷ number W place (place-is .1) ∷ number W end (end-is .1) ∷ number W 2 (lit< tt) ∷ []) of-nothing (λ c. known-mark) (λ c h. h) (so 𝓤 (omega (arith, end-within, within), long₂, fits end n (end-within) small .0)) refl (λ c. and-then ! (var ! refl) (and-then ! (var ! refl) (and-then ! (var ! refl) (and-then ! (var ! refl) (and-then ! (lit ! tt) (no-more !)))))) (λ _. refl) (λ u₇ last₇ marked₃ kept₇ _.
       let known₃ : List ℕ = last₇ .1 .0 in
       let long₃ : length known₃ ≡ 256 = kept₇ .1 .0 ∙ long₂ in

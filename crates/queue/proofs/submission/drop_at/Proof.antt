@@ -1,5 +1,5 @@
 -- `queue::submission::drop_at` meets its contract: a walk with an early return and three calls. Two laws on lists say what is left (decide's
--- `Replying/Edited.antt`: `drops-new` and `drops-other`).
+-- `Laws/Placement.antt`: `drops-new` and `drops-other`).
 -- Assumes nothing.
 use Rattle.walk.proofs.Prelude.{refl, _∙_, List, [], _∷_, eqb, eqb→eq, URA, w64, SProp, emp, id⊢, Memory, Routine, Heap, Tables, Atoms, Fun, Given, _$_, !, tripleOf}
 use Rattle.walk.proofs.Prelude.{drop, lent, taken, so, Shape, Walk, proved, var, vars, relends, gives-within, hands-on, calls-giving, branches-out, number, mut-own, made, of-number, copies, computes}
@@ -40,7 +40,7 @@ module _ {M : Type 1} (𝓤 : URA M) (H : Heap 𝓤) (A : Atoms 𝓤) (W : Given
       -- let at = decide::submit::place_without(place, victim);
       calls-giving ! 𝓣 [] (number W place (place-is .1) ∷ number W victim (victim-is .1) ∷ []) (of-number w64) (placeWithout place victim) (λ c. known-place-without) (λ c h. h) (id⊢ 𝓤 (emp 𝓤)) refl (λ c. vars ! (refl, (refl, tt))) (λ _. refl) (λ _ at-is.
       relends ! waiting refl $
-      -- table::replace(waiting, out, at, new)
+      -- waiting::replace(waiting, out, at, new)
       hands-on ! 𝓣 (0 ∷ []) (mut-own W waiting ∷ number W (placeWithout victim place) (out-is .1) ∷ number W (placeWithout place victim) (at-is .1) ∷ request W new new-is ∷ []) a-request (λ c. known-replace) (λ c h. h) (id⊢ 𝓤 _) refl (λ c. vars ! (refl, (refl, (refl, (refl, tt))))) (λ _. refl) Q refl (λ r last. (refl, refl)) (λ gone last moved kept own.
       let tied = drops-other place victim new ws (λ e. T-not (eqb victim place) another (rw e (eqb-refl place))) in
       leaves (mach gone) gone (last .0, tt) (kept .0, tt) own (so 𝓤 (moved .0 ∙ tied .0, moved .1 ∙ tied .1))))))

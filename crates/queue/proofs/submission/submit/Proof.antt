@@ -37,12 +37,12 @@ module _ {M : Type 1} (𝓤 : URA M) (H : Heap 𝓤) (A : Atoms 𝓤) (W : Given
       let xs : List ℕ = clients .list in
       drop ! $
       relends ! waiting refl $ relends ! clients refl $
-      -- let decision = submission::submit_decision(waiting, clients, head, client, deadline);
+      -- let decision = submit_decision(waiting, clients, head, client, deadline);
       calls-for ! 𝓣 (0 ∷ 1 ∷ []) (shr-of W waiting ws refl ∷ shr-of W clients xs refl ∷ the-head W head head-is ∷ number W client (client-is .1) ∷ number W deadline (deadline-is .1) ∷ []) a-decision (λ c. known-submit-decision) (λ c h. h) (id⊢ 𝓤 _) refl (λ c. vars ! (refl, (refl, (refl, (refl, (refl, tt)))))) (λ _. refl) (λ decision last₁ decides kept₁ decision-is.
       -- let new = decide::submit::new_request(head, client, deadline);
       calls-for ! 𝓣 [] (the-head W head head-is ∷ number W client (client-is .1) ∷ number W deadline (deadline-is .1) ∷ []) a-request (λ c. known-new-request) (λ c h. h) (id⊢ 𝓤 _) refl (λ c. vars ! (refl, (refl, (refl, tt)))) (λ _. refl) (λ new last₂ news kept₂ new-is.
       relends ! waiting refl $
-      -- let gone = submission::put_in(waiting, decision, head, new);
+      -- let gone = put_in(waiting, decision, head, new);
       calls-for ! 𝓣 (0 ∷ []) (mut-of W waiting ws refl ∷ given W a-decision decision decision-is ∷ the-head W head head-is ∷ request W new new-is ∷ []) a-request (λ c. known-put-in) (λ c h. h) (id⊢ 𝓤 _) refl (λ c. vars ! (refl, (refl, (refl, (refl, tt))))) (λ _. refl) (λ gone last₃ moved kept₃ gone-is.
       relends ! clients refl $
       -- decide::submit::count(clients, decision, client, gone);

@@ -47,18 +47,18 @@ module _ {M : Type 1} (𝓤 : URA M) (H : Heap 𝓤) (A : Atoms 𝓤) (W : Given
       sets ! (of-opd ! (field-var ! refl refl refl)) refl (tt, fit (waiting-fits head head-is)) $
       sets ! (addr ! (from ! (stop !))) refl (tt, tt) $
       sets ! (agg ! (and-then ! (var ! refl) (and-then ! (big-lit ! (fit (lit< tt))) (no-more !)))) refl (tt, (tt, (fit (lit< tt), tt))) $
-      -- let next = tables::are_next(waiting, &mut tally, head, n);
+      -- let next = records::are_next(waiting, &mut tally, head, n);
       calls-for ! 𝓣 (1 ∷ 0 ∷ []) (passed-on W s₀ ∷ loan (array-lent W u16 1024 l₄ tt zeros tally-room zeros-long) ∷ the-head W head head-is ∷ waiting ∷ []) of-flag
       (λ c. known-next) (λ c h. h) (so 𝓤 (next-asked head ws xs asked)) refl (λ c. vars ! (refl, (refl, (refl, (refl, tt))))) (λ _. refl) (λ next last₁ passed-next kept₁ _.
       let tally : List ℕ = last₁ .1 .0 in
       let size : length tally ≡ 1024 = kept₁ .1 .0 ∙ zeros-long in
-      -- let zero = tables::are_zero(waiting, n);
+      -- let zero = records::are_zero(waiting, n);
       calls-for ! 𝓣 (1 ∷ []) (passed-on W s₀ ∷ waiting ∷ []) of-flag
       (λ c. known-zero) (λ c h. h) (so 𝓤 (next-asked head ws xs asked .1)) refl (λ c. vars ! (refl, (refl, tt))) (λ _. refl) (λ zero last₂ told-zero kept₂ _.
       sets ! (addr ! (from ! (stop !))) refl (tt, tt) $
       sets ! (agg ! (and-then ! (var ! refl) (and-then ! (big-lit ! (fit (lit< tt))) (no-more !)))) refl (tt, (tt, (fit (lit< tt), tt))) $
       sets ! (of-opd ! (inner-var ! refl refl refl refl refl)) refl (tt, fit (clients-fit head head-is)) $
-      -- let balanced = tables::are_balanced(&tally, numbers, head.setup.clients as usize);
+      -- let balanced = are_balanced(&tally, numbers, head.setup.clients as usize);
       calls-for ! 𝓣 (0 ∷ 2 ∷ []) (loan (array-shared W u16 1024 l₄ tt tally (subst (Room u16) (sym (kept₁ .1 .0)) tally-room) size) ∷ passed-on W s₁ ∷ number W (head .setup .clients) (clients-fit head head-is) ∷ []) of-flag
       (λ c. known-balanced) (λ c h. h) (so 𝓤 (balanced-asked head ws xs asked tally size)) refl (λ c. vars ! (refl, (refl, (refl, tt)))) (λ _. refl) (λ balanced last₃ told-balanced kept₃ _.
       -- verdict(next, zero, balanced)

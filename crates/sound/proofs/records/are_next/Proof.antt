@@ -36,12 +36,12 @@ module _ {M : Type 1} (𝓤 : URA M) (H : Heap 𝓤) (A : Atoms 𝓤) (W : Given
       -- let m = n / 4 * 4;
       sets ! (bin ! (var ! refl) (lit ! tt) (lit< tt)) refl (tt, fit (omega (arith, n-is .1))) $
       sets ! (bin ! (var ! refl) (lit ! tt) (fit m-fits)) refl (tt, fit m-fits) $
-      -- let p = fours(t, tally, head, m);
+      -- let p = check_fours(t, tally, head, m);
       relends ! tally refl $
       calls-for ! 𝓣 (0 ∷ 1 ∷ []) (passed-on W t ∷ mut-of W tally tally₀ refl ∷ the-head W head head-is ∷ number W m m-fits ∷ []) of-flag
       (λ c. known-fours) (λ c h. h) (so 𝓤 (fewer-bounded m (within .0) less, omega (arith, within .1), omega arith, fewer-countable tally₀ n m (within .2) less)) refl (λ c. vars ! (refl, (refl, (refl, (refl, tt))))) (λ _. refl) (λ p last₁ told₁ kept₁ _.
       let tally₁ : List ℕ = last₁ .1 .0 in
-      -- rest(t, tally, head, m, n, p)
+      -- check_rest(t, tally, head, m, n, p)
       relends ! tally refl $
       calls-for ! 𝓣 (0 ∷ 1 ∷ []) (passed-on W t ∷ mut-of W tally tally₁ (kept₁ .1 .0) ∷ the-head W head head-is ∷ number W m m-fits ∷ number W n (n-is .1) ∷ flag W p ∷ []) of-flag
       (λ c. known-rest) (λ c h. h) (so 𝓤 (within .0, within .1, less, turns-on (sets-out head ys 0 n n true tally₀ (omega arith) (within .2)) (within .0) m m (omega arith) less told₁ .countable)) refl (λ c. vars ! (refl, (refl, (refl, (refl, (refl, (refl, tt))))))) (λ _. refl) (λ r last₂ told₂ kept₂ _.

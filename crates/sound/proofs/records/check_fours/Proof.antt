@@ -43,11 +43,11 @@ module _ {M : Type 1} (𝓤 : URA M) (H : Heap 𝓤) (A : Atoms 𝓤) (W : Given
       let last : i + 4 ≤ n = omega (arith, on .0, u .1, within .2) in
       let fits : (j : ℕ) → j ≤ i + 4 → j < 2 ^ 64 = λ j less. lt-of-le-of-lt (le-trans less last) (n-is .1) in
       let may = may-turn (on .1) (within .0) 4 last in
-      -- passed = four(t, tally, head, i, before);
+      -- passed = check_four(t, tally, head, i, before);
       relends ! tally refl $
       calls-for ! 𝓣 (0 ∷ 1 ∷ []) (passed-on W t ∷ mut-of W tally (u .0 .tally) (u .0 .size) ∷ the-head W head head-is ∷ number W i (fits i (omega arith)) ∷ request W (u .0 .before) (u .0 .before-is) ∷ []) of-flag
       (λ c. known-four) (λ c h. h) (so 𝓤 (may .0, omega (arith, within .1), u .0 .behind, may .1)) refl (λ c. vars ! (refl, (refl, (refl, (refl, (refl, tt)))))) (λ _. refl) (λ r left told kept _.
-      -- before = table::get(t, i + 3);
+      -- before = waiting::get(t, i + 3);
       adds ! (fits (i + 3) (omega arith)) tt refl refl refl $
       reads ! 𝓣 known-get t (i + 3) (omega (arith, within .1)) refl (λ c. (refl, (refl, tt))) refl (λ is.
       -- i += 4

@@ -50,9 +50,9 @@ module _ {M : Type 1} (𝓤 : URA M) (H : Heap 𝓤) (A : Atoms 𝓤) (W : Given
       (λ held.
       let on = goes-on u held in
       let w : Request = getD ys i zeroRequest in
-      -- let w = table::get(t, i);
+      -- let w = waiting::get(t, i);
       reads ! 𝓣 known-get t i (omega (arith, on .0, within .1)) refl (λ c. (refl, (refl, tt))) refl (λ is.
-      -- passed = step(true, tally, head, i, before, w);
+      -- passed = check_record(true, tally, head, i, before, w);
       relends ! tally refl $
       calls-for ! 𝓣 (1 ∷ []) (flag W true ∷ mut-of W tally (u .tally) (u .size) ∷ the-head W head head-is ∷ number W i (lt-trans (on .0) (n-is .1)) ∷ request W (u .before) (u .before-is) ∷ request W w is ∷ []) of-flag
       (λ c. known-step) (λ c h. h) (so 𝓤 (may-step (on .1) (within .0) (on .0))) refl (λ c. and-then ! (true-lit !) (vars ! (refl, (refl, (refl, (refl, (refl, tt))))))) (λ _. refl) (λ r last told kept _.
@@ -61,7 +61,7 @@ module _ {M : Type 1} (𝓤 : URA M) (H : Heap 𝓤) (A : Atoms 𝓤) (W : Given
       adds-last ! (lt-of-le-of-lt (add-one-le (on .0)) (n-is .1)) tt refl refl refl $
       turn .continues ! (record { i = i + 1; before = w; passed = r; tally = last .1 .0; before-is = is; size = kept .0 ∙ u .size; behind = comes-next ys i (i + 1) refl; reached = steps-on (on .1) (within .0) (u .behind) (on .0) (i + 1) refl told }) (add-one-dec n i (on .0)) refl)))
       (λ over. turn .breaks ! $
-      -- let near = crate::record::is_near(head, before.deadline);
+      -- let near = is_near(head, before.deadline);
       calls-giving ! 𝓣 [] (the-head W head head-is ∷ number W (u .before .deadline) (deadline-fits (u .before) (u .before-is)) ∷ []) of-flag (isNear head (u .before .deadline)) (λ c. known-near) (λ c h. h) (so 𝓤 (within .0 .clock)) refl
       (λ c. and-then ! (var ! refl) (and-then ! (field-var ! refl refl refl) (no-more !))) (λ _. refl) (λ _ _.
       computes ! refl refl tt refl (tt, tt) $

@@ -42,7 +42,7 @@ module _ {M : Type 1} (𝓤 : URA M) (H : Heap 𝓤) (A : Atoms 𝓤) (W : Given
       let some : 1 ≤ i = some-before i later-one in
       let less : i - 1 < length ys = omega (arith, some, within) in
       let r : Request = getD ys (i - 1) zeroRequest in
-      -- table::get(t, i - 1)
+      -- waiting::get(t, i - 1)
       sets ! (bin ! (var ! refl) (lit ! tt) some) refl (tt, fit (lt-trans less (t .room .0))) $
       reads ! 𝓣 known-get t (i - 1) less refl (λ c. (refl, (refl, tt))) refl (λ is.
       gives ! refl refl $ leaves (mach r) r tt tt (made W a-request r is) (so 𝓤 (comes-next ys (i - 1) i (omega (arith, some)))))))

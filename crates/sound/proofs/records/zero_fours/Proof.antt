@@ -41,18 +41,18 @@ module _ {M : Type 1} (𝓤 : URA M) (H : Heap 𝓤) (A : Atoms 𝓤) (W : Given
       let last : i + 4 ≤ n = omega (arith, on .0, u .1) in
       let here : (j : ℕ) → j < i + 4 → j < length ys = λ j less. omega (arith, less, last, within .0) in
       let fits : (j : ℕ) → j ≤ i + 4 → j < 2 ^ 64 = λ j less. lt-of-le-of-lt (le-trans less last) (n-is .1) in
-      -- let a = table::get(t, i);
+      -- let a = waiting::get(t, i);
       reads ! 𝓣 known-get t i (here i (omega arith)) refl (λ c. (refl, (refl, tt))) refl (λ a-is.
-      -- let b = table::get(t, i + 1);
+      -- let b = waiting::get(t, i + 1);
       adds ! (fits (i + 1) (omega arith)) tt refl refl refl $
       reads ! 𝓣 known-get t (i + 1) (here (i + 1) (omega arith)) refl (λ c. (refl, (refl, tt))) refl (λ b-is.
-      -- let c = table::get(t, i + 2);
+      -- let c = waiting::get(t, i + 2);
       adds ! (fits (i + 2) (omega arith)) tt refl refl refl $
       reads ! 𝓣 known-get t (i + 2) (here (i + 2) (omega arith)) refl (λ c. (refl, (refl, tt))) refl (λ c-is.
-      -- let d = table::get(t, i + 3);
+      -- let d = waiting::get(t, i + 3);
       adds ! (fits (i + 3) (omega arith)) tt refl refl refl $
       reads ! 𝓣 known-get t (i + 3) (here (i + 3) (omega arith)) refl (λ c. (refl, (refl, tt))) refl (λ d-is.
-      -- zero = crate::record::are_zero_four(a, b, c, d);
+      -- zero = are_zero_four(a, b, c, d);
       calls-giving ! 𝓣 [] (request W (record-at i) a-is ∷ request W (record-at (i + 1)) b-is ∷ request W (record-at (i + 2)) c-is ∷ request W (record-at (i + 3)) d-is ∷ []) of-flag (areFourZero ys i) (λ c. known-four) (λ c h. h) (id⊢ 𝓤 (emp 𝓤)) refl
       (λ c. vars ! (refl, (refl, (refl, (refl, tt))))) (λ _. refl) (λ _ _.
       -- i += 4

@@ -41,9 +41,9 @@ module _ {M : Type 1} (𝓤 : URA M) (H : Heap 𝓤) (A : Atoms 𝓤) (W : Given
       tests ! (var ! refl)
       (λ held.
       let on = goes-on u held in
-      -- let w = table::get(t, i);
+      -- let w = waiting::get(t, i);
       reads ! 𝓣 known-get t (u .i) (on .0) refl (λ c. (refl, (refl, tt))) refl (λ is.
-      -- zero = crate::record::is_zero(w);
+      -- zero = is_zero(w);
       calls-giving ! 𝓣 [] (request W (getD ys (u .i) zeroRequest) is ∷ []) of-flag _ (λ c. known-is-zero) (λ c h. h) (id⊢ 𝓤 (emp 𝓤)) refl (λ c. vars ! (refl, tt)) (λ _. refl) (λ _ _.
       -- i += 1
       adds-last ! (lt-of-le-of-lt (add-one-le (on .0)) (t .room .0)) tt refl refl refl $

@@ -1,5 +1,5 @@
 -- `table::waiting::clear` meets its contract: a walk with a loop that calls `put`. The list is the table with its first i records
--- replaced by zero ones (`Laws.antt`'s `filled`).
+-- replaced by zero ones (`MovedRecords.antt`'s `filled`).
 -- Assumes nothing.
 use Rattle.walk.proofs.Prelude.{_≡_, refl, sym, _∙_, subst, ℕ, _+_, _-_, _<_, _≤_, _^_, zero-le, le-antisymm, lt-of-le-of-lt, lt-of-lt-of-le, add-one-le, add-one-dec, List, [], _∷_, length, replicate, length-replicate, getD-replicate, ltb→lt, nltb→le, lit<, URA, w64, vunit, vint, SProp, emp, id⊢, Memory, Routine, Heap, Tables, Atoms, Fun, Given, ‵, _$_, !, rewrite, lit, unit-lit, of-opd, bin, Nothing, tripleOf}
 use Rattle.walk.proofs.Prelude.{heard, lent, taken, so, Shape, Walk, proved, Lent-at, var, vars, sets, sets-last, relends, gives, iterates, fit, of-nothing, calls-for, calls-giving, number, mut-of, tests, made, of-number, computes}
@@ -43,7 +43,7 @@ module _ {M : Type 1} (𝓤 : URA M) (H : Heap 𝓤) (A : Atoms 𝓤) (W : Given
       let lt : i .0 < n = ltb→lt (i .0) n less in
       let next : Upto n = (i .0 + 1, add-one-le lt) in
       let next-fits : i .0 + 1 < 2 ^ 64 = lt-of-le-of-lt (next .1) (n-is .1) in
-      -- put(t, i, zero);
+      -- put(t, i, empty);
       relends ! t refl $
       calls-for ! 𝓣 (0 ∷ []) (mut-of W t zs len ∷ number W (i .0) (lt-of-le-of-lt (i .1) (n-is .1)) ∷ request W zeroRequest is ∷ []) of-nothing (λ c. known-put) (λ c h. h) (so 𝓤 (subst (λ (m : ℕ). i .0 < m) (sym len) (lt-of-lt-of-le lt within))) refl (λ c. vars ! (refl, (refl, (refl, tt)))) (λ ws. refl) (λ u last is-set kept _.
       -- i += 1

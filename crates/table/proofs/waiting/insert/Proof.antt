@@ -1,5 +1,5 @@
 -- `table::waiting::insert` meets its contract: a walk with an early return and a call of `replace`. Two laws on lists say what is left
--- (`Laws.antt`'s `not-inserted` and `inserts`).
+-- (`MovedRecords.antt`'s `not-inserted` and `inserts`).
 -- Assumes nothing.
 use Rattle.walk.proofs.Prelude.{refl, _∙_, List, [], _∷_, ltb→lt, nltb→le, URA, w64, vunit, SProp, Memory, Routine, Heap, Tables, Atoms, Fun, Given, _$_, !, unit-lit, of-opd, id⊢, Nothing, tripleOf}
 use Rattle.walk.proofs.Prelude.{drop, lent, taken, so, Shape, Walk, proved, var, vars, sets, relends, gives, gives-within, of-nothing, calls-for, branches-out, number, mut-own, made, of-number, computes}

@@ -1,5 +1,5 @@
 -- `table::waiting::remove` meets its contract: a walk with an early return and two calls, `zero` and `replace`. Two laws on lists say what is
--- left (`Laws.antt`'s `not-removed` and `removes`).
+-- left (`MovedRecords.antt`'s `not-removed` and `removes`).
 -- Assumes nothing.
 use Rattle.walk.proofs.Prelude.{refl, _∙_, _-_, _<_, _^_, lt-of-le-of-lt, sub-le, arith, List, [], _∷_, leb→le, nleb→lt, URA, w64, SProp, emp, id⊢, Memory, Routine, Heap, Tables, Atoms, Fun, Given, _$_, !, lit, bin, tripleOf}
 use Rattle.walk.proofs.Prelude.{drop, lent, taken, so, Shape, Walk, proved, var, vars, sets, relends, gives-within, hands-on, fit, calls-giving, branches-out, number, mut-own, made, of-number, copies, computes}

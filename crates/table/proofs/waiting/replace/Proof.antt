@@ -1,5 +1,5 @@
 -- `table::waiting::replace` meets its contract: a walk with an early return and three calls, `get`, `move_between` and `put`. Two laws on
--- lists say what is left (`Laws.antt`'s `untouched` and `puts-for`).
+-- lists say what is left (`MovedRecords.antt`'s `untouched` and `puts-for`).
 -- Assumes nothing.
 use Rattle.walk.proofs.Prelude.{refl, sym, _∙_, subst, ℕ, _<_, List, [], _∷_, length, set, getD, length-set, T, URA, w64, SProp, Memory, Routine, Heap, Tables, Atoms, Fun, Given, ‵, _$_, !, rewrite, of-opd, un, tripleOf}
 use Rattle.walk.proofs.Prelude.{drop, lent, taken, so, Shape, Walk, proved, Lent-at, var, vars, field-var, sets, relends, empties, gives, gives-within, fit, of-nothing, calls-for, calls-giving, branches-out, number, mut-of, shr-of, made, of-number, copies, computes}

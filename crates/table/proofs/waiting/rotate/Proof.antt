@@ -1,5 +1,5 @@
 -- `table::waiting::rotate` meets its contract: a walk with a branch, in each arm of which one function is called. What it leaves is what
--- the test says (`Laws.antt`'s `turned`). Assumes nothing.
+-- the test says (`MovedRecords.antt`'s `turned`). Assumes nothing.
 use Rattle.walk.proofs.Prelude.{refl, _<_, true, false, List, [], _∷_, length, URA, w64, vunit, SProp, Memory, Routine, Heap, Tables, Atoms, Fun, Given, _$_, !, unit-lit, of-opd, Nothing, tripleOf}
 use Rattle.walk.proofs.Prelude.{heard, lent, taken, so, Shape, Walk, proved, var, vars, sets, relends, gives, gives-within, of-nothing, calls-for, branches-out, Param, number, made, of-number, of-flag, mut-own, copies}
 use Rattle.table.proofs.Requests.{RequestT}

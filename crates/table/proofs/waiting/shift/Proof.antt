@@ -1,5 +1,5 @@
 -- `table::waiting::shift` meets its contract: a walk with a loop. The loop's variant is the place i and the list zs with what is known
--- of them (`Laws.antt`'s `Going`), ordered by the distance to `to`. A turn calls `next`, `get` and `put`, and one law on lists
+-- of them (`MovedRecords.antt`'s `Going`), ordered by the distance to `to`. A turn calls `next`, `get` and `put`, and one law on lists
 -- (`goes-on`) takes both on. The parameters `from` and `to` are a and z here.
 -- Assumes nothing.
 use Rattle.walk.proofs.Prelude.{_≡_, refl, sym, subst, ℕ, _+_, _-_, _<_, _^_, lt-trans, cond, List, [], _∷_, length, getD, URA, w64, vunit, vint, SProp, Memory, Routine, Heap, Tables, Atoms, Fun, Given, ‵, _$_, !, of-opd, unit-lit, Nothing, tripleOf}

@@ -1,4 +1,4 @@
--- `table::waiting::to_back` meets its contract: `Ends.antt`'s walk, where `up` is true. Assumes nothing.
+-- `table::waiting::to_back` meets its contract: `ThinShifts.antt`'s walk, where `up` is true. Assumes nothing.
 use mathlib.Core.Bool.{true}
 use mir.Syntax.{Ty}
 use mir.Table.{spell}

@@ -1,4 +1,4 @@
--- `table::waiting::to_front` meets its contract: `Ends.antt`'s walk, where `up` is false. Assumes nothing.
+-- `table::waiting::to_front` meets its contract: `ThinShifts.antt`'s walk, where `up` is false. Assumes nothing.
 use mathlib.Core.Bool.{false}
 use mir.Syntax.{Ty}
 use mir.Table.{spell}
