@@ -7,7 +7,7 @@ use std::path::Path;
 use std::process::exit;
 
 const DOCUMENTS: [&str; 5] = ["README.md", "CONTRIBUTING.md", "docs/ARCHITECTURE.md", "docs/DECISIONS.md", "docs/PROMISES.md"];
-const FOLDERS: [&str; 8] = [".ci", "bench", "crates", "docs", "examples", "include", "rust", "tests"];
+const FOLDERS: [&str; 8] = [".ci", "bench", "command", "crates", "docs", "examples", "package", "tests"];
 
 /// What stands in the repository: the words of all files, the words of each file by its path, and every part of every path.
 #[derive(Default)]

@@ -1,5 +1,5 @@
 /* A station that embeds the queue, with tables of 8 waiting records and 2 clients in arrays. It makes the calls of document 01's
-   session, goes on until nothing waits, and says each answer in words. rust/examples/embed.rs does the same. */
+   session, goes on until nothing waits, and says each answer in words. package/rust/examples/embed.rs does the same. */
 #include "welsbell.h"
 
 #include <inttypes.h>

@@ -25,7 +25,7 @@ fn main() {
     println!("cargo:rerun-if-env-changed={VARIABLE}");
     // cargo runs this in the crate's folder: a path that is not absolute is taken, and shown, as one from there
     let named = var_os(VARIABLE).filter(|path| !path.is_empty());
-    let path = named.unwrap_or("../target/staticlib/libwelsbell.a".into());
+    let path = named.unwrap_or("../../target/staticlib/libwelsbell.a".into());
     let archive = folder("CARGO_MANIFEST_DIR").join(path);
     println!("cargo:rerun-if-changed={}", archive.display());
     let out = folder("OUT_DIR");
