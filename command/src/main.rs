@@ -1,1 +1,58 @@
-fn main() {}
+//! `welsbell`, the command for people: sessions in words, over the proved session program.
+mod failure;
+mod follow;
+mod frames;
+mod input;
+mod numbers;
+mod program;
+mod progress;
+mod read;
+mod run;
+mod say;
+mod session;
+mod summary;
+mod to_frames;
+mod watch;
+mod words;
+
+use failure::Failure;
+use std::env::args_os;
+use std::process::exit;
+
+const USAGE: &str = "\
+welsbell run                 a session in words, at a terminal or from a pipe; `help` in it tells what to write
+welsbell read FILE           a recorded session with its answers in words, and a summary
+welsbell read --summary FILE the summary alone
+welsbell frames FILE         words to frames, for the session program
+FILE is in words or in frames; - is the standard input.";
+
+fn command(arguments: &[&str]) -> Result<(), Failure> {
+    match arguments {
+        ["run"] => run::run(),
+        ["read", "--summary", file] => read::read(file, false),
+        ["read", file] if !file.starts_with("--") => read::read(file, true),
+        ["frames", file] => to_frames::frames(file),
+        ["help" | "--help" | "-h"] => {
+            println!("{USAGE}");
+            Ok(())
+        }
+        [] => Err(Failure::Wrong(format!("welsbell has to be told what to do:\n{USAGE}"))),
+        _ => Err(Failure::Wrong(format!("`welsbell {}` is not understood:\n{USAGE}", arguments.join(" ")))),
+    }
+}
+
+fn main() {
+    let arguments: Vec<String> = args_os().skip(1).map(|argument| argument.to_string_lossy().into_owned()).collect();
+    let arguments: Vec<&str> = arguments.iter().map(String::as_str).collect();
+    match command(&arguments) {
+        Ok(()) | Err(Failure::Closed) => {}
+        Err(Failure::Failed(message)) => {
+            eprintln!("welsbell: {message}");
+            exit(1);
+        }
+        Err(Failure::Wrong(message)) => {
+            eprintln!("welsbell: {message}");
+            exit(2);
+        }
+    }
+}

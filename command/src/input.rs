@@ -1,0 +1,87 @@
+//! The lines of an input, however long they are.
+use std::fs::File;
+use std::io::{stdin, BufRead, BufReader, IsTerminal, Read, Result};
+use std::path::Path;
+
+/// So much of a line is kept. No frame is longer, and what begins like this and goes on is refused like its beginning.
+const LONGEST: usize = 1_024;
+
+/// A line without its line feed.
+pub struct Line {
+    pub number: u64,
+    pub text: Vec<u8>,
+    /// Whether a line feed ends it: the last line of an input may have none.
+    pub is_ended: bool,
+}
+
+pub struct Input {
+    reader: BufReader<Box<dyn Read>>,
+    /// How many bytes there are, where that is known beforehand.
+    pub size: Option<u64>,
+    pub read: u64,
+    pub is_terminal: bool,
+    lines: u64,
+}
+
+impl Input {
+    pub fn standard() -> Input {
+        Input::of(Box::new(stdin()), None, stdin().is_terminal())
+    }
+
+    /// The file of this name; `-` is the standard input.
+    pub fn named(name: &str) -> Result<Input> {
+        if name == "-" {
+            return Ok(Input::standard());
+        }
+        let file = File::open(Path::new(name))?;
+        let about = file.metadata()?;
+        let size = about.is_file().then_some(about.len());
+        Ok(Input::of(Box::new(file), size, false))
+    }
+
+    fn of(reader: Box<dyn Read>, size: Option<u64>, is_terminal: bool) -> Input {
+        Input {
+            reader: BufReader::new(reader),
+            size,
+            read: 0,
+            is_terminal,
+            lines: 0,
+        }
+    }
+
+    /// Whether a whole line is there without waiting for more input.
+    pub fn has_line(&self) -> bool {
+        self.reader.buffer().contains(&b'\n')
+    }
+
+    /// What begins the input, without taking it.
+    pub fn beginning(&mut self) -> Result<&[u8]> {
+        self.reader.fill_buf()
+    }
+
+    pub fn next(&mut self) -> Result<Option<Line>> {
+        let mut text = vec![];
+        loop {
+            let part = self.reader.fill_buf()?;
+            let feed = part.iter().position(|&byte| byte == b'\n');
+            let taken = feed.unwrap_or(part.len());
+            text.extend_from_slice(&part[..taken.min(LONGEST - text.len())]);
+            let is_over = part.is_empty();
+            let used = taken + usize::from(feed.is_some());
+            self.reader.consume(used);
+            self.read += used as u64;
+            if feed.is_some() || is_over {
+                return Ok(self.line(text, feed.is_some()));
+            }
+        }
+    }
+
+    fn line(&mut self, text: Vec<u8>, is_ended: bool) -> Option<Line> {
+        self.lines += 1;
+        (is_ended || !text.is_empty()).then_some(Line {
+            number: self.lines,
+            text,
+            is_ended,
+        })
+    }
+}

@@ -1,0 +1,26 @@
+//! Numbers as people read them.
+
+/// With a comma before each three digits.
+pub fn grouped(number: u64) -> String {
+    let digits = number.to_string();
+    let mut grouped = String::new();
+    for (place, digit) in digits.chars().enumerate() {
+        if place > 0 && (digits.len() - place).is_multiple_of(3) {
+            grouped.push(',');
+        }
+        grouped.push(digit);
+    }
+    grouped
+}
+
+/// So many of something, whose name is given for one.
+pub fn counted(number: u64, name: &str) -> String {
+    let plural = if number == 1 { "" } else { "s" };
+    format!("{} {name}{plural}", grouped(number))
+}
+
+/// The share that a part is of a whole, to three places, rounded down; that of nothing is 0.
+pub fn share(part: u64, whole: u64) -> String {
+    let thousandths = (1_000 * part).checked_div(whole).unwrap_or_default();
+    format!("{}.{:03}", thousandths / 1_000, thousandths % 1_000)
+}

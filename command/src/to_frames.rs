@@ -1,0 +1,23 @@
+//! `welsbell frames FILE`: words to frames, for the session program.
+use crate::failure::{wrong_line, Failure};
+use crate::session::{asked_of, Asked, Language};
+use crate::watch::input_named;
+use std::io::{stdout, BufWriter, Write};
+
+pub fn frames(file: &str) -> Result<(), Failure> {
+    let mut input = input_named(file)?;
+    let mut out = BufWriter::new(stdout().lock());
+    while let Some(line) = input.next()? {
+        let wrong = |expected: String| wrong_line(line.number, line.text.escape_ascii(), expected);
+        match asked_of(&line, Language::Words) {
+            Asked::Call(call) => writeln!(out, "{}", call.line())?,
+            Asked::Nothing => {}
+            Asked::End => break,
+            Asked::Wrong(expected) => return Err(wrong(expected)),
+            Asked::NoFrame(reason) => return Err(wrong(format!("expected words or a frame: {reason}"))),
+            Asked::Help => return Err(wrong("expected a call".into())),
+        }
+    }
+    out.flush()?;
+    Ok(())
+}

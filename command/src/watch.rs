@@ -1,0 +1,54 @@
+//! Goes through a recorded session from its first line to its last.
+use crate::failure::{wrong_line, Failure};
+use crate::follow::{Event, Followed};
+use crate::input::Input;
+use crate::progress::Progress;
+use crate::session::{Asked, Language, Session, Turn};
+
+/// What looks on.
+pub trait Watcher {
+    /// A line and its answers, with the session as it was before them.
+    fn turn(&mut self, turn: &Turn, before: &Followed) -> Result<(), Failure>;
+    /// What the answers say, with the session as it is behind them.
+    fn event(&mut self, event: &Event, after: &Followed);
+}
+
+pub fn input_named(file: &str) -> Result<Input, Failure> {
+    Input::named(file).map_err(|error| Failure::Failed(format!("{file}: {error}")))
+}
+
+/// The last argument says whether a bar may stand at the terminal meanwhile. What is handed back is the session as it ended.
+pub fn watch(file: &str, watcher: &mut impl Watcher, has_bar: bool) -> Result<Followed, Failure> {
+    let mut input = input_named(file)?;
+    let language = Language::of(&mut input)?;
+    let mut session = Session::start(input, language)?;
+    let mut progress = Progress::new(has_bar);
+    let mut followed = Followed::default();
+    loop {
+        let turns = session.next()?;
+        if turns.is_empty() {
+            return Ok(followed);
+        }
+        for turn in &turns {
+            match &turn.asked {
+                Asked::End => return Ok(followed),
+                Asked::Nothing | Asked::Help => {}
+                Asked::Wrong(expected) => return Err(wrong_line(turn.line.number, turn.line.text.escape_ascii(), expected)),
+                Asked::Call(_) | Asked::NoFrame(_) => take(turn, &mut followed, watcher)?,
+            }
+        }
+        progress.show(&session.input);
+    }
+}
+
+fn take(turn: &Turn, followed: &mut Followed, watcher: &mut impl Watcher) -> Result<(), Failure> {
+    watcher.turn(turn, followed)?;
+    let events = match &turn.asked {
+        Asked::Call(call) => followed.take(call, &turn.answers),
+        _ => turn.answers.iter().map(|answer| Event::Refused(answer["number"])).collect(),
+    };
+    for event in &events {
+        watcher.event(event, followed);
+    }
+    Ok(())
+}

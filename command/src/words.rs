@@ -1,0 +1,49 @@
+//! What a person writes: calls in words, by the table of frames.
+use crate::frames::{most, Frame, Kind, CALLS};
+use crate::numbers::grouped;
+
+/// The call that a line of words asks for, or what was expected in its place.
+pub fn call_of(line: &str) -> Result<Frame, String> {
+    let words: Vec<&str> = line.split_whitespace().collect();
+    let first = words.first().map(|word| word.to_lowercase());
+    let kind = CALLS.iter().find(|kind| first.as_deref() == Some(kind.name()));
+    let Some(kind) = kind else {
+        let names: Vec<&str> = CALLS.iter().map(Kind::name).collect();
+        return Err(format!("expected {} or a frame; `help` tells more", names.join(", ")));
+    };
+    let values = values_of(&words, kind)?;
+    Ok(Frame::new(kind, values))
+}
+
+fn values_of(words: &[&str], kind: &'static Kind) -> Result<Vec<u64>, String> {
+    let form: Vec<&str> = kind.words.split_whitespace().collect();
+    if words.len() != form.len() {
+        return Err(format!("expected `{}`", kind.form()));
+    }
+    let mut values = vec![];
+    for (word, form) in words.iter().zip(form) {
+        match kind.fields.iter().find(|(name, _)| form == format!("{{{name}}}")) {
+            Some((name, width)) => values.push(value_of(word, name, *width)?),
+            None if word.eq_ignore_ascii_case(form) => {}
+            None => return Err(format!("expected `{}`, and `{word}` stands where `{form}` has to", kind.form())),
+        }
+    }
+    Ok(values)
+}
+
+/// A number in decimal digits, in which commas or underscores may stand.
+fn value_of(word: &str, name: &str, width: usize) -> Result<u64, String> {
+    let digits = word.replace([',', '_'], "");
+    let is_number = !digits.is_empty() && digits.bytes().all(|byte| byte.is_ascii_digit());
+    if !is_number {
+        return Err(format!("expected a number for {name}, not `{word}`"));
+    }
+    let value = digits.parse().ok().filter(|&value| value <= most(width));
+    value.ok_or_else(|| format!("expected a number of at most {} for {name}, since its field has {width} bytes", grouped(most(width))))
+}
+
+/// Whether a line begins as a line of words does, or is a comment.
+pub fn are_words(line: &str) -> bool {
+    let first = line.split_whitespace().next().unwrap_or_default();
+    first.starts_with('#') || CALLS.iter().any(|kind| first.eq_ignore_ascii_case(kind.name()))
+}
