@@ -14,14 +14,33 @@ const ASKED: usize = 40;
 struct Reader {
     out: BufWriter<StdoutLock<'static>>,
     has_lines: bool,
+    has_written: bool,
     summary: Summary,
 }
 
 impl Reader {
+    /// An empty line between what was written and what comes.
+    fn end_paragraph(&mut self) -> Result<(), Failure> {
+        if self.has_written {
+            writeln!(self.out)?;
+        }
+        self.has_written = true;
+        Ok(())
+    }
+
+    fn begin_session(&mut self, turn: &Turn, before: &Followed) -> Result<(), Failure> {
+        self.end_summary(before)?;
+        if self.has_lines && self.has_written {
+            writeln!(self.out)?;
+        }
+        self.summary = Summary::of_line(turn.line.number);
+        Ok(())
+    }
+
     fn end_summary(&mut self, followed: &Followed) -> Result<(), Failure> {
         if !self.summary.is_empty(followed) {
-            let gap = if self.has_lines { "\n" } else { "" };
-            writeln!(self.out, "{gap}{}\n", self.summary.shown(followed))?;
+            self.end_paragraph()?;
+            writeln!(self.out, "{}", self.summary.shown(followed))?;
         }
         Ok(())
     }
@@ -30,10 +49,10 @@ impl Reader {
 impl Watcher for Reader {
     fn turn(&mut self, turn: &Turn, before: &Followed) -> Result<(), Failure> {
         if turn.answers.iter().any(|answer| answer.kind() == OPENED) {
-            self.end_summary(before)?;
-            self.summary = Summary::of_line(turn.line.number);
+            self.begin_session(turn, before)?;
         }
         if self.has_lines {
+            self.has_written = true;
             let (number, asked, answered) = (turn.line.number, say::asked(turn), say::answered(turn, before));
             writeln!(self.out, "{number:>5}  {asked:ASKED$}  {answered}")?;
         }
@@ -49,6 +68,7 @@ pub fn read(file: &str, has_lines: bool) -> Result<(), Failure> {
     let mut reader = Reader {
         out: BufWriter::new(stdout().lock()),
         has_lines,
+        has_written: false,
         summary: Summary::default(),
     };
     let has_bar = !has_lines || !stdout().is_terminal();

@@ -4,6 +4,7 @@ use crate::follow::{Event, Followed};
 use crate::input::Input;
 use crate::progress::Progress;
 use crate::session::{Asked, Language, Session, Turn};
+use std::io::Error;
 
 /// What looks on.
 pub trait Watcher {
@@ -13,8 +14,12 @@ pub trait Watcher {
     fn event(&mut self, event: &Event, after: &Followed);
 }
 
+/// The input of this name, in which at least something can be read.
 pub fn input_named(file: &str) -> Result<Input, Failure> {
-    Input::named(file).map_err(|error| Failure::Failed(format!("{file}: {error}")))
+    let failed = |error: Error| Failure::Failed(format!("{file}: {error}"));
+    let mut input = Input::named(file).map_err(failed)?;
+    input.beginning().map_err(failed)?;
+    Ok(input)
 }
 
 /// The last argument says whether a bar may stand at the terminal meanwhile. What is handed back is the session as it ended.

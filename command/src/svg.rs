@@ -1,0 +1,97 @@
+//! Drawings as SVG, to stand in a page or by themselves.
+use std::fmt::{Display, Write};
+
+/// Colours that people who see colours differently tell apart too, one a client; more clients take them again from the first.
+const COLOURS: [&str; 10] = [
+    "#0072b2", "#e69f00", "#009e73", "#cc79a7", "#56b4e9", "#d55e00", "#b8a500", "#6a3d9a", "#7f7f7f", "#8c510a",
+];
+
+pub fn colour(client: usize) -> &'static str {
+    COLOURS[client % COLOURS.len()]
+}
+
+/// Text as it may stand in SVG and HTML.
+pub fn escaped(text: &str) -> String {
+    text.replace('&', "&amp;").replace('<', "&lt;").replace('>', "&gt;").replace('"', "&quot;")
+}
+
+/// A drawing of this many units in width and height. It grows and shrinks with the place that it is given.
+pub struct Svg {
+    width: f64,
+    height: f64,
+    label: String,
+    body: String,
+}
+
+impl Svg {
+    /// The label says in words what the drawing shows, for those who do not see it.
+    pub fn new(width: f64, height: f64, label: &str) -> Svg {
+        Svg {
+            width,
+            height,
+            label: escaped(label),
+            body: String::new(),
+        }
+    }
+
+    /// An element with these attributes, and the text in it.
+    pub fn add(&mut self, element: &str, attributes: &[(&str, &dyn Display)], text: &str) {
+        let _ = write!(self.body, "<{element}");
+        for (name, value) in attributes {
+            let _ = write!(self.body, " {name}=\"{}\"", escaped(&value.to_string()));
+        }
+        let _ = writeln!(self.body, ">{}</{element}>", escaped(text));
+    }
+
+    pub fn rect(&mut self, (x, y): (f64, f64), (width, height): (f64, f64), fill: &str) {
+        let place: [(&str, &dyn Display); 5] = [
+            ("x", &rounded(x)),
+            ("y", &rounded(y)),
+            ("width", &rounded(width)),
+            ("height", &rounded(height)),
+            ("fill", &fill),
+        ];
+        self.add("rect", &place, "");
+    }
+
+    pub fn line(&mut self, (x1, y1): (f64, f64), (x2, y2): (f64, f64), stroke: &str) {
+        let ends: [(&str, &dyn Display); 5] = [
+            ("x1", &rounded(x1)),
+            ("y1", &rounded(y1)),
+            ("x2", &rounded(x2)),
+            ("y2", &rounded(y2)),
+            ("stroke", &stroke),
+        ];
+        self.add("line", &ends, "");
+    }
+
+    /// A line through points.
+    pub fn polyline(&mut self, points: &[(f64, f64)], stroke: &str) {
+        let points: Vec<String> = points.iter().map(|&(x, y)| format!("{},{}", rounded(x), rounded(y))).collect();
+        let attributes: [(&str, &dyn Display); 4] =
+            [("points", &points.join(" ")), ("fill", &"none"), ("stroke", &stroke), ("stroke-width", &1.5)];
+        self.add("polyline", &attributes, "");
+    }
+
+    /// The anchor is start, middle or end.
+    pub fn text(&mut self, (x, y): (f64, f64), anchor: &str, text: &str) {
+        self.add("text", &[("x", &rounded(x)), ("y", &rounded(y)), ("text-anchor", &anchor)], text);
+    }
+
+    /// The drawing as an element of a page, which is a file of its own too.
+    pub fn drawing(&self) -> String {
+        format!(
+            "<svg xmlns=\"http://www.w3.org/2000/svg\" viewBox=\"0 0 {w} {h}\" width=\"{w}\" height=\"{h}\" role=\"img\" \
+             aria-label=\"{}\" font-family=\"sans-serif\" font-size=\"12\">\n{}</svg>\n",
+            self.label,
+            self.body,
+            w = rounded(self.width),
+            h = rounded(self.height)
+        )
+    }
+}
+
+/// To a hundredth, so that the same drawing is the same file.
+fn rounded(value: f64) -> f64 {
+    (value * 100.0).round() / 100.0
+}
