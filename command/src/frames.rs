@@ -51,7 +51,7 @@ pub static ANSWERS: [Kind; 9] = [
     kind(
         DROPPED,
         &[("number", 8), ("victim", 8), ("client", 2)],
-        "number {number} is one too many: number {victim} of client {client} is dropped",
+        "number {number} is kept, number {victim} of client {client} is dropped",
     ),
     kind(
         SERVED,

@@ -28,11 +28,32 @@ pub fn answered(turn: &Turn, followed: &Followed) -> String {
 fn said(turn: &Turn, answer: &Frame, followed: &Followed) -> String {
     match answer.kind() {
         REFUSED => format!("{}: {}", answer.words(), reason(turn, answer["number"], followed)),
-        DROPPED if answer["victim"] == answer["number"] => {
-            format!("number {} is one too many, and is itself dropped", answer["number"])
-        }
+        DROPPED => dropped(turn, answer, followed),
         _ => answer.words(),
     }
+}
+
+/// A drop, with the miss ratios of the two clients, as far as they are two, that it was between.
+fn dropped(turn: &Turn, answer: &Frame, followed: &Followed) -> String {
+    let new_client = match &turn.asked {
+        Asked::Call(call) => call["client"],
+        _ => answer["client"],
+    };
+    let said = match answer["victim"] == answer["number"] {
+        true => format!("number {} is itself dropped", answer["number"]),
+        false => answer.words(),
+    };
+    let missed = |client: u64| {
+        let counts = followed.in_period[client as usize];
+        // "the new request already counted in submitted"
+        let submitted = counts.submitted + u64::from(client == new_client);
+        format!("{} of {submitted} by client {client}", counts.dropped)
+    };
+    let mut ratios = missed(answer["client"]);
+    if answer["client"] != new_client {
+        ratios = format!("{ratios}, {}", missed(new_client));
+    }
+    format!("{said}; missed before: {ratios}")
 }
 
 fn charted(answers: &[Frame]) -> String {
