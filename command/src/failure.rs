@@ -1,4 +1,5 @@
 //! How the command ends where it cannot go on.
+use crate::input::Line;
 use std::fmt::Display;
 use std::io::{Error, ErrorKind};
 
@@ -22,6 +23,6 @@ impl From<Error> for Failure {
 }
 
 /// What is wrong with a line of the input.
-pub fn wrong_line(number: u64, line: impl Display, expected: impl Display) -> Failure {
-    Failure::Wrong(format!("line {number}: `{line}`: {expected}"))
+pub fn wrong_line(line: &Line, expected: impl Display) -> Failure {
+    Failure::Wrong(format!("line {}: `{}`: {expected}", line.number, line.shown()))
 }

@@ -1,5 +1,6 @@
 //! The one table of the session's frames: kinds, fields with their widths in bytes, and words. What reads, writes, says or explains
 //! a line goes by it, so that a change of a frame is a change here.
+use crate::input::LONGEST;
 use crate::numbers::grouped;
 use std::fmt::{self, Display, Formatter};
 use std::ops::Index;
@@ -160,6 +161,9 @@ impl Frame {
 
 /// The bytes whose digits a line is.
 fn bytes_of(line: &[u8]) -> Result<Vec<u8>, NoFrame> {
+    if line.len() >= LONGEST {
+        return Err(NoFrame::TooLong);
+    }
     if line.ends_with(b"\r") {
         return Err(NoFrame::CarriageReturn);
     }
@@ -186,6 +190,7 @@ pub enum NoFrame {
     HalfPair(usize),
     Kind(u8),
     Length(&'static Kind, usize),
+    TooLong,
     NoLineFeed,
 }
 
@@ -220,6 +225,7 @@ impl Display for NoFrame {
                     grouped(digits as u64)
                 )
             }
+            NoFrame::TooLong => write!(f, "the line has {} characters or more, and no frame is that long", grouped(LONGEST as u64)),
             NoFrame::NoLineFeed => write!(f, "the last line does not end with a line feed"),
         }
     }

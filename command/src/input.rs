@@ -3,8 +3,11 @@ use std::fs::File;
 use std::io::{stdin, BufRead, BufReader, IsTerminal, Read, Result};
 use std::path::Path;
 
-/// So much of a line is kept. No frame is longer, and what begins like this and goes on is refused like its beginning.
-const LONGEST: usize = 1_024;
+/// So much of a line is kept. No frame is that long, and what begins like this and goes on is refused like its beginning.
+pub const LONGEST: usize = 1_024;
+
+/// So much of a line stands in a message.
+const SHOWN: usize = 60;
 
 /// A line without its line feed.
 pub struct Line {
@@ -12,6 +15,17 @@ pub struct Line {
     pub text: Vec<u8>,
     /// Whether a line feed ends it: the last line of an input may have none.
     pub is_ended: bool,
+}
+
+impl Line {
+    /// The line as it can stand in a message.
+    pub fn shown(&self) -> String {
+        let shown = self.text.escape_ascii().to_string();
+        match shown.get(..SHOWN) {
+            Some(front) if shown.len() > SHOWN => format!("{front}..."),
+            _ => shown,
+        }
+    }
 }
 
 pub struct Input {

@@ -43,7 +43,7 @@ pub fn run() -> Result<(), Failure> {
                 Asked::Wrong(expected) if is_dialogue => writeln!(out, "{expected}")?,
                 Asked::Wrong(expected) => {
                     out.flush()?;
-                    return Err(wrong_line(turn.line.number, turn.line.text.escape_ascii(), expected));
+                    return Err(wrong_line(&turn.line, expected));
                 }
                 Asked::Nothing => {}
                 Asked::Help => writeln!(out, "{}", help())?,

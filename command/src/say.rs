@@ -11,7 +11,7 @@ const NAMED: usize = 12;
 pub fn asked(turn: &Turn) -> String {
     match &turn.asked {
         Asked::Call(call) => call.words(),
-        _ => turn.line.text.escape_ascii().to_string(),
+        _ => turn.line.shown(),
     }
 }
 

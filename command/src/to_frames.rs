@@ -8,7 +8,7 @@ pub fn frames(file: &str) -> Result<(), Failure> {
     let mut input = input_named(file)?;
     let mut out = BufWriter::new(stdout().lock());
     while let Some(line) = input.next()? {
-        let wrong = |expected: String| wrong_line(line.number, line.text.escape_ascii(), expected);
+        let wrong = |expected: String| wrong_line(&line, expected);
         match asked_of(&line, Language::Words) {
             Asked::Call(call) => writeln!(out, "{}", call.line())?,
             Asked::Nothing => {}

@@ -38,7 +38,7 @@ pub fn watch(file: &str, watcher: &mut impl Watcher, has_bar: bool) -> Result<Fo
             match &turn.asked {
                 Asked::End => return Ok(followed),
                 Asked::Nothing | Asked::Help => {}
-                Asked::Wrong(expected) => return Err(wrong_line(turn.line.number, turn.line.text.escape_ascii(), expected)),
+                Asked::Wrong(expected) => return Err(wrong_line(&turn.line, expected)),
                 Asked::Call(_) | Asked::NoFrame(_) => take(turn, &mut followed, watcher)?,
             }
         }
