@@ -32,7 +32,8 @@
  * Nothing else is asked: for all arguments and whatever the tables hold, a call ends and gives an answer.
  *
  * Threads: nothing is shared or kept between calls. Calls on different tables may run at once; report and chart may run at once on
- * the same head and tables, each with its own values and output. A call allocates nothing, and 32 KiB of stack are enough for it.
+ * the same head and tables, each with its own values and output. A call allocates nothing, and WELSBELL_ENOUGH_STACK bytes of stack
+ * are enough for it.
  */
 #ifndef WELSBELL_H
 #define WELSBELL_H
@@ -60,6 +61,8 @@ extern "C" {
 #define WELSBELL_MOST_AHEAD UINT64_C(65535)
 /* Clock and request numbers end here. */
 #define WELSBELL_END UINT64_C(281474976710655)
+/* So many bytes of stack are enough for a call, even where the loader binds the archive's memcpy, memmove and memset in it. */
+#define WELSBELL_ENOUGH_STACK 8192
 
 /* What open sets, 16 bytes: its two numbers. */
 typedef struct welsbell_setup {
