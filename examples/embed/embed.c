@@ -1,5 +1,6 @@
 /* A station that embeds the queue, with tables of 8 waiting records and 2 clients in arrays. It makes the calls of document 01's
-   session, goes on until nothing waits, and says each answer in words. package/rust/examples/embed.rs does the same. */
+   session, goes on until nothing waits, and says each answer in words. It is C99 and C++11 alike; embed.rs, the Rust wrapper's
+   example, and embed.py do the same. */
 #include "welsbell.h"
 
 #include <inttypes.h>
@@ -10,12 +11,7 @@
 
 static welsbell_request waiting[RECORDS];
 static welsbell_client clients[CLIENTS];
-static welsbell_queue queue = {
-    .waiting = waiting,
-    .waiting_length = RECORDS,
-    .clients = clients,
-    .clients_length = CLIENTS,
-};
+static welsbell_queue queue;
 
 static const char *reason(uint64_t refusal)
 {
@@ -105,15 +101,26 @@ static void chart(void)
         printf("  slot %" PRIu64 ": number %" PRIu64 ", deadline %" PRIu64 "\n", starts[i], waiting[i].number, waiting[i].deadline);
 }
 
+static void open_queue(void)
+{
+    welsbell_setup setup;
+    setup.clients = CLIENTS;
+    setup.period = 100;
+    queue.waiting = waiting;
+    queue.waiting_length = RECORDS;
+    queue.clients = clients;
+    queue.clients_length = CLIENTS;
+    printf("open with %d clients: ", CLIENTS);
+    say(welsbell_queue_open(&queue, setup));
+}
+
 int main(void)
 {
-    const welsbell_setup setup = {.clients = CLIENTS, .period = 100};
     if (welsbell_version() != WELSBELL_VERSION) {
         fprintf(stderr, "the archive has version %" PRIu64 ", the header %d\n", welsbell_version(), WELSBELL_VERSION);
         return 1;
     }
-    printf("open with %d clients: ", CLIENTS);
-    say(welsbell_queue_open(&queue, setup));
+    open_queue();
     submit(0, 1);
     submit(1, 2);
     submit(1, 1);

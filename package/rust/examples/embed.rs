@@ -1,5 +1,5 @@
 //! A station that embeds the queue, with tables of 8 waiting records and 2 clients. It makes the calls of document 01's session,
-//! goes on until nothing waits, and says each answer in words. examples/embed/embed.c does the same.
+//! goes on until nothing waits, and says each answer in words. embed.c and embed.py, in examples/embed/, do the same.
 use std::process::exit;
 use welsbell::{version, Answer, Queue, Setup, Tables, VERSION};
 

@@ -411,7 +411,7 @@ impl Queue<'_> {
 
 /// The exported calls as they are linked: a head, a setup and the values are a pointer each, a table is a pointer and then a
 /// length. The client table's length is in numbers, three a record. The result is the answer's kind; its values go to the front
-/// of the five, and those behind them stay. `package/include/welsbell.h` says the same in C.
+/// of the five, and those behind them stay. The header `welsbell.h` says the same in C.
 ///
 /// # Safety
 ///
