@@ -1,4 +1,5 @@
 //! `welsbell`, the command for people: sessions in words, over the proved session program.
+mod compare;
 mod failure;
 mod follow;
 mod frames;
@@ -26,6 +27,7 @@ welsbell run                 a session in words, at a terminal or from a pipe; `
 welsbell read FILE           a recorded session with its answers in words, and a summary
 welsbell read --summary FILE the summary alone
 welsbell frames FILE         words to frames, for the session program
+welsbell compare             the paper's experiments on the proved program, beside simulated policies, as a table
 FILE is in words or in frames; - is the standard input.";
 
 fn command(arguments: &[&str]) -> Result<(), Failure> {
@@ -34,6 +36,7 @@ fn command(arguments: &[&str]) -> Result<(), Failure> {
         ["read", "--summary", file] => read::read(file, false),
         ["read", file] if !file.starts_with("--") => read::read(file, true),
         ["frames", file] => to_frames::frames(file),
+        ["compare"] => compare::print(),
         ["help" | "--help" | "-h"] => {
             println!("{USAGE}");
             Ok(())
