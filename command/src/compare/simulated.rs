@@ -103,10 +103,11 @@ mod tests {
     }
 
     #[test]
-    fn prudent_edf_discards_no_sooner() {
-        // Not all can finish at clock 0. The third has the last deadline, waits to the end, and is the one discarded.
-        let reads = reads(&[(0, 2), (1, 2), (0, 3), (2, 3)]);
-        assert_eq!(served(Policy::PrudentEdf, &reads), [Some(0), Some(1), Some(2), None]);
+    fn prudent_edf_lets_a_newcomer_push_out_what_waits() {
+        // From clock 1 on, two slots are left for the last three. The newcomer's deadline is the earliest of them.
+        let reads = reads(&[(0, 3), (0, 3), (0, 3), (1, 2)]);
+        assert_eq!(served(Policy::PrudentEdf, &reads), [Some(0), Some(2), None, Some(1)]);
+        assert_eq!(served(Policy::NewcomerDropped, &reads), [Some(0), Some(1), Some(2), None]);
     }
 
     #[test]
