@@ -10,7 +10,7 @@ use std::fmt::{self, Display, Formatter};
 #[derive(Clone, Copy)]
 pub struct Outcome {
     pub arrival: Arrival,
-    served: Option<u64>,
+    pub served: Option<u64>,
 }
 
 impl Outcome {
@@ -26,9 +26,9 @@ impl Outcome {
 }
 
 /// Served in time to arrived.
-#[derive(Clone, Copy, Debug, Default)]
+#[derive(Clone, Copy, Debug, Default, PartialEq, Eq)]
 pub struct Success {
-    in_time: u64,
+    pub in_time: u64,
     pub arrived: u64,
 }
 
@@ -69,11 +69,11 @@ pub struct Run {
 }
 
 impl Run {
-    fn new(policy: Policy, experiment: &Experiment, outcomes: Vec<Outcome>) -> Run {
+    pub fn new(policy: Policy, clients: usize, outcomes: Vec<Outcome>) -> Run {
         let of_client = |client| Success::of(outcomes.iter().filter(|outcome| outcome.arrival.client == client));
         Run {
             policy,
-            clients: (0..experiment.clients.len()).map(of_client).collect(),
+            clients: (0..clients).map(of_client).collect(),
             system: Success::of(outcomes.iter()),
             outcomes,
         }
@@ -101,7 +101,7 @@ impl Comparison {
                 _ => simulated::served(policy, &arrivals),
             };
             let outcomes = arrivals.iter().zip(served).map(|(&arrival, served)| Outcome { arrival, served });
-            Ok(Run::new(policy, experiment, outcomes.collect()))
+            Ok(Run::new(policy, experiment.clients.len(), outcomes.collect()))
         };
         let runs = POLICIES.into_iter().map(run).collect::<Result<_, _>>()?;
         Ok(Comparison { experiment, runs })

@@ -24,7 +24,7 @@ impl Policy {
     /// Its name with what its results are from, so that nobody takes a simulation for the program.
     pub fn marked(self) -> &'static str {
         match self {
-            Policy::Edf => "EDF (simulated)",
+            Policy::Edf => "plain EDF (simulated)",
             Policy::PrudentEdf => "Prudent-EDF (simulated)",
             Policy::NewcomerDropped => "newcomer dropped (simulated)",
             Policy::Queue => "the queue (proved program)",

@@ -52,16 +52,18 @@ pub fn served(clients: usize, arrivals: &[Arrival]) -> Result<Vec<Option<u64>>, 
     };
     for steps in steps(clients, arrivals).chunks(AT_A_TIME) {
         let lines: Vec<Vec<u8>> = steps.iter().map(|step| step.call.line().into_bytes()).collect();
-        let answers = program.ask(&lines)?;
-        steps.iter().zip(&answers).try_for_each(|(step, answers)| told.take(step, answers))?;
+        told.take(steps, &program.ask(&lines)?)?;
     }
     Ok(told.served)
 }
 
 impl Told {
-    fn take(&mut self, step: &Step, answers: &[Frame]) -> Result<(), Failure> {
-        let events = self.followed.take(&step.call, answers);
-        events.iter().try_for_each(|event| self.event(step, event))
+    fn take(&mut self, steps: &[Step], answers: &[Vec<Frame>]) -> Result<(), Failure> {
+        for (step, answers) in steps.iter().zip(answers) {
+            let events = self.followed.take(&step.call, answers);
+            events.iter().try_for_each(|event| self.event(step, event))?;
+        }
+        Ok(())
     }
 
     fn event(&mut self, step: &Step, event: &Event) -> Result<(), Failure> {

@@ -51,10 +51,10 @@ impl Simulation<'_> {
         }
     }
 
-    /// Each waiting read, with those before it, has as many slots as there are of them.
+    /// Whether each waiting read ends by its deadline where they are served in chart order, one a slot.
     fn all_can_finish(&self) -> bool {
-        let mut ends = self.clock + 1..;
-        self.waiting.iter().all(|&(deadline, _)| ends.next().is_some_and(|end| end <= deadline))
+        let ends = self.clock + 1..;
+        self.waiting.iter().zip(ends).all(|(&(deadline, _), end)| end <= deadline)
     }
 
     fn tick(&mut self) {
