@@ -27,7 +27,9 @@ welsbell run                 a session in words, at a terminal or from a pipe; `
 welsbell read FILE           a recorded session with its answers in words, and a summary
 welsbell read --summary FILE the summary alone
 welsbell frames FILE         words to frames, for the session program
-welsbell compare             the paper's experiments on the proved program, beside simulated policies, as a table
+welsbell compare             the paper's experiments 1 and 2 on the proved program, beside simulated policies, in a table
+welsbell compare PAGE.html   the same with the paper's figures, as a page
+welsbell compare PICTURE.svg the figure of experiment 2 alone
 FILE is in words or in frames; - is the standard input.";
 
 fn command(arguments: &[&str]) -> Result<(), Failure> {
@@ -37,6 +39,7 @@ fn command(arguments: &[&str]) -> Result<(), Failure> {
         ["read", file] if !file.starts_with("--") => read::read(file, true),
         ["frames", file] => to_frames::frames(file),
         ["compare"] => compare::print(),
+        ["compare", file] => compare::draw(file),
         ["help" | "--help" | "-h"] => {
             println!("{USAGE}");
             Ok(())

@@ -17,19 +17,31 @@ const fn client(interval: u64, burst: usize, bound: u64) -> Client {
     Client { interval, burst, bound }
 }
 
+/// How an experiment is drawn, as the paper has it.
+#[derive(Clone, Copy)]
+pub enum Drawn {
+    /// Success and response over time.
+    OverTime,
+    /// The success of each client.
+    ByClient,
+}
+
 pub struct Experiment {
     pub name: &'static str,
+    pub drawn: Drawn,
     pub clients: &'static [Client],
 }
 
 /// Two clients, of which the second sends bursts, and the ten clients of the paper's table 1.
 pub static EXPERIMENTS: [Experiment; 2] = [
     Experiment {
-        name: "experiment 1",
+        name: "Experiment 1",
+        drawn: Drawn::OverTime,
         clients: &[client(150, 1, 500), client(10_000, 15, 25_000)],
     },
     Experiment {
-        name: "experiment 2",
+        name: "Experiment 2",
+        drawn: Drawn::ByClient,
         clients: &[
             client(400, 1, 500),
             client(1_000, 1, 1_000),
@@ -132,6 +144,7 @@ mod tests {
         const CLIENTS: [Client; 2] = [client(400_000, 1, 500), client(800_000, 2, 25_000)];
         let experiment = Experiment {
             name: "small",
+            drawn: Drawn::ByClient,
             clients: &CLIENTS,
         };
         let order: Vec<(u64, usize)> = experiment.arrivals().iter().map(|arrival| (arrival.time, arrival.client)).collect();
