@@ -54,6 +54,8 @@ pub fn served(clients: usize, arrivals: &[Arrival]) -> Result<Vec<Option<u64>>, 
         let lines: Vec<Vec<u8>> = steps.iter().map(|step| step.call.line().into_bytes()).collect();
         told.take(steps, &program.ask(&lines)?)?;
     }
+    // Nothing more is asked, and the program is not left behind.
+    program.ask_last(b"")?;
     Ok(told.served)
 }
 
