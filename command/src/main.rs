@@ -19,8 +19,10 @@ mod watch;
 mod words;
 
 use failure::Failure;
+use session::Language;
 use std::env::args_os;
 use std::process::exit;
+use watch::Recorded;
 
 const USAGE: &str = "\
 welsbell run                 a session in words, at a terminal or from a pipe; `help` in it tells what to write
@@ -30,23 +32,32 @@ welsbell frames FILE         words to frames, for the session program
 welsbell compare             the paper's experiments 1 and 2 on the proved program, beside simulated policies, in a table
 welsbell compare PAGE.html   the same with the paper's figures, as a page
 welsbell compare PICTURE.svg the figure of experiment 2 alone
-FILE is in words or in frames; - is the standard input.";
+FILE is in words or in frames, as its first line is; - is the standard input. With --frames every line is taken for a frame.";
 
 fn command(arguments: &[&str]) -> Result<(), Failure> {
-    match arguments {
-        ["run"] => run::run(),
-        ["read", "--summary", file] => read::read(file, false),
-        ["read", file] if !file.starts_with("--") => read::read(file, true),
-        ["frames", file] => to_frames::frames(file),
-        ["compare"] => compare::print(),
-        ["compare", file] => compare::draw(file),
-        ["help" | "--help" | "-h"] => {
-            println!("{USAGE}");
-            Ok(())
-        }
-        [] => Err(Failure::Wrong(format!("welsbell has to be told what to do:\n{USAGE}"))),
+    let (options, words): (Vec<&str>, Vec<&str>) = arguments.iter().partition(|argument| argument.starts_with("--"));
+    let has = |option| options.contains(&option);
+    let are_known = |known: &[&str]| options.iter().all(|option| known.contains(option));
+    let recorded = |file| Recorded {
+        file,
+        language: has("--frames").then_some(Language::Frames),
+    };
+    match words[..] {
+        ["read", file] if are_known(&["--summary", "--frames"]) => read::read(&recorded(file), !has("--summary")),
+        ["run"] if options.is_empty() => run::run(),
+        ["frames", file] if options.is_empty() => to_frames::frames(file),
+        ["compare"] if options.is_empty() => compare::print(),
+        ["compare", file] if options.is_empty() => compare::draw(file),
+        ["help" | "-h"] => usage(),
+        [] if has("--help") => usage(),
+        [] if options.is_empty() => Err(Failure::Wrong(format!("welsbell has to be told what to do:\n{USAGE}"))),
         _ => Err(Failure::Wrong(format!("`welsbell {}` is not understood:\n{USAGE}", arguments.join(" ")))),
     }
+}
+
+fn usage() -> Result<(), Failure> {
+    println!("{USAGE}");
+    Ok(())
 }
 
 fn main() {

@@ -5,7 +5,7 @@ use crate::frames::OPENED;
 use crate::say;
 use crate::session::Turn;
 use crate::summary::Summary;
-use crate::watch::{watch, Watcher};
+use crate::watch::{watch, Recorded, Watcher};
 use std::io::{stdout, BufWriter, IsTerminal, StdoutLock, Write};
 
 /// How wide the words of most calls are, so that answers stand below each other.
@@ -64,7 +64,7 @@ impl Watcher for Reader {
     }
 }
 
-pub fn read(file: &str, has_lines: bool) -> Result<(), Failure> {
+pub fn read(recorded: &Recorded, has_lines: bool) -> Result<(), Failure> {
     let mut reader = Reader {
         out: BufWriter::new(stdout().lock()),
         has_lines,
@@ -72,7 +72,7 @@ pub fn read(file: &str, has_lines: bool) -> Result<(), Failure> {
         summary: Summary::default(),
     };
     let has_bar = !has_lines || !stdout().is_terminal();
-    let followed = watch(file, &mut reader, has_bar)?;
+    let followed = watch(recorded, &mut reader, has_bar)?;
     reader.end_summary(&followed)?;
     reader.out.flush()?;
     Ok(())

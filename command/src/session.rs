@@ -47,14 +47,18 @@ pub struct Turn {
     pub answers: Vec<Frame>,
 }
 
+/// Hexadecimal digits alone, in whatever case. Every frame has a decimal one, and no word has.
+fn looks_like_a_frame(line: &str) -> bool {
+    line.bytes().all(|byte| byte.is_ascii_hexdigit()) && line.bytes().any(|byte| byte.is_ascii_digit())
+}
+
 /// What a line asks in this language.
 pub fn asked_of(line: &Line, language: Language) -> Asked {
     let text = String::from_utf8_lossy(&line.text);
     let words = text.trim();
-    let is_frame = !words.is_empty() && words.bytes().all(|byte| byte.is_ascii_hexdigit());
-    if language == Language::Frames || is_frame {
+    if language == Language::Frames || looks_like_a_frame(words) {
         return match Frame::read(&line.text, &CALLS) {
-            Ok(_) if !line.is_ended => Asked::NoFrame(NoFrame::NoLineFeed),
+            _ if !line.is_ended => Asked::NoFrame(NoFrame::NoLineFeed),
             Ok(call) => Asked::Call(call),
             Err(reason) => Asked::NoFrame(reason),
         };

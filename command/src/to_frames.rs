@@ -2,11 +2,12 @@
 use crate::failure::{wrong_line, Failure};
 use crate::session::{asked_of, Asked, Language};
 use crate::watch::input_named;
-use std::io::{stdout, BufWriter, Write};
+use std::io::{stdout, LineWriter, Write};
 
 pub fn frames(file: &str) -> Result<(), Failure> {
     let mut input = input_named(file)?;
-    let mut out = BufWriter::new(stdout().lock());
+    // Line by line, so that lines of several writers to one pipe do not mix.
+    let mut out = LineWriter::new(stdout().lock());
     while let Some(line) = input.next()? {
         let wrong = |expected: String| wrong_line(&line, expected);
         match asked_of(&line, Language::Words) {

@@ -22,10 +22,19 @@ pub fn input_named(file: &str) -> Result<Input, Failure> {
     Ok(input)
 }
 
+/// A recorded session: its file, and its language where that is not to be seen from how it begins.
+pub struct Recorded<'a> {
+    pub file: &'a str,
+    pub language: Option<Language>,
+}
+
 /// The last argument says whether a bar may stand at the terminal meanwhile. What is handed back is the session as it ended.
-pub fn watch(file: &str, watcher: &mut impl Watcher, has_bar: bool) -> Result<Followed, Failure> {
-    let mut input = input_named(file)?;
-    let language = Language::of(&mut input)?;
+pub fn watch(recorded: &Recorded, watcher: &mut impl Watcher, has_bar: bool) -> Result<Followed, Failure> {
+    let mut input = input_named(recorded.file)?;
+    let language = match recorded.language {
+        Some(language) => language,
+        None => Language::of(&mut input)?,
+    };
     let mut session = Session::start(input, language)?;
     let mut progress = Progress::new(has_bar);
     let mut followed = Followed::default();
