@@ -2,15 +2,11 @@
 // in them. The arguments are the program's path, then, if wanted, a seed, and the name of a fault that the model is to have:
 // the comparison has to find it.
 use std::env::args;
-use std::io::{Error, ErrorKind, Read, Result as IoResult, Write};
-use std::process::{Command, Output, Stdio};
-use std::sync::mpsc::channel;
-use std::thread::spawn;
-use std::time::Duration;
+use std::process::Command;
 use tests::demand_3::Lists;
 use tests::model::session::{read, session, widths_out, Answered, SEGMENT};
 use tests::model::{Fault, KINDS};
-use tests::program::{end, fail, seed};
+use tests::program::{end, fail, run, seed};
 use tests::random::{self, Random};
 use tests::tally::Tally;
 
@@ -23,9 +19,6 @@ const LARGE_ONE_OF: u64 = 375;
 const ANSWERS: usize = 200_000;
 const LISTS: u64 = 5_000;
 const LISTS_OF_A_KIND: u64 = 2_000;
-
-// A session takes much less.
-const LIMIT: Duration = Duration::from_secs(60);
 
 // The others cannot occur in a session this short.
 const REFUSALS: [u64; 7] = [1, 2, 3, 4, 6, 7, 10];
@@ -50,32 +43,6 @@ fn pieces(mut input: &[u8], random: &mut Random) -> Vec<Vec<u8>> {
         input = rest;
     }
     pieces
-}
-
-// Feeds and reads aside, so that neither side waits for the other. What a program that has ended does not take shows in what it
-// printed.
-fn run(program: &str, pieces: Vec<Vec<u8>>) -> IoResult<Output> {
-    let mut command = Command::new(program);
-    command.stdin(Stdio::piped()).stdout(Stdio::piped()).stderr(Stdio::piped());
-    let mut child = command.spawn()?;
-    let (Some(mut input), Some(mut output)) = (child.stdin.take(), child.stdout.take()) else {
-        return Err(Error::other("no pipes"));
-    };
-    spawn(move || pieces.iter().try_for_each(|piece| input.write_all(piece)));
-    let (sender, printed) = channel();
-    spawn(move || {
-        let mut all = vec![];
-        sender.send(output.read_to_end(&mut all).map(|_| all))
-    });
-    let Ok(stdout) = printed.recv_timeout(LIMIT) else {
-        child.kill()?;
-        return Err(Error::new(ErrorKind::TimedOut, format!("no end within {LIMIT:?}")));
-    };
-    let ended = child.wait_with_output()?;
-    Ok(Output {
-        stdout: stdout?,
-        ..ended
-    })
 }
 
 // What the program printed for each line, if it is what the model says of all of them.
@@ -118,7 +85,7 @@ impl Test {
     fn session(&mut self, number: u64) -> Result<(), String> {
         let input = random::session::session(Random::of_part(self.seed, number), number.is_multiple_of(LARGE_ONE_OF));
         let pieces = pieces(&input, &mut Random::of_part(self.seed, SESSIONS + number));
-        let ended = run(&self.program, pieces).map_err(|e| format!("{}: {e}", self.program))?;
+        let ended = run(&mut Command::new(&self.program), pieces).map_err(|e| format!("{}: {e}", self.program))?;
         let answered = session(&input, self.fault);
         let answers = compare(&answered, &ended.stdout)?;
         if !ended.status.success() || !ended.stderr.is_empty() {
