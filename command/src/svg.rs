@@ -78,6 +78,29 @@ impl Svg {
         self.add("text", &[("x", &rounded(x)), ("y", &rounded(y)), ("text-anchor", &anchor)], text);
     }
 
+    /// Text of this size and colour.
+    pub fn label(&mut self, (x, y): (f64, f64), anchor: &str, (size, fill): (f64, &str), text: &str) {
+        let attributes: [(&str, &dyn Display); 5] =
+            [("x", &rounded(x)), ("y", &rounded(y)), ("text-anchor", &anchor), ("font-size", &rounded(size)), ("fill", &fill)];
+        self.add("text", &attributes, text);
+    }
+
+    /// Rectangles of one colour, each with its place and size, as one element: a drawing has many.
+    pub fn rects(&mut self, rects: &[((f64, f64), (f64, f64))], fill: &str) {
+        let outline = |&((x, y), (width, height)): &((f64, f64), (f64, f64))| {
+            format!("M{} {}h{}v{}H{}z", rounded(x), rounded(y), rounded(width), rounded(height), rounded(x))
+        };
+        let outlines: String = rects.iter().map(outline).collect();
+        self.add("path", &[("d", &outlines), ("fill", &fill)], "");
+    }
+
+    /// What is drawn meanwhile has a title, which is shown to whoever points at it.
+    pub fn titled(&mut self, title: &str, draw: impl FnOnce(&mut Svg)) {
+        let _ = write!(self.body, "<g><title>{}</title>", escaped(title));
+        draw(self);
+        let _ = writeln!(self.body, "</g>");
+    }
+
     /// The drawing as an element of a page, which is a file of its own too.
     pub fn drawing(&self) -> String {
         format!(
