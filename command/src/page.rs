@@ -7,7 +7,9 @@ h1 { font-size: 1.6rem; } h2 { font-size: 1.2rem; margin-top: 2rem; }\n\
 svg { max-width: 100%; height: auto; display: block; }\n\
 table { border-collapse: collapse; } th, td { padding: .2rem .8rem; text-align: right; border-bottom: 1px solid #ddd; }\n\
 th:first-child, td:first-child { text-align: left; }\n\
-.wide { overflow-x: auto; } .wide svg { max-width: none; }";
+.wide { overflow-x: auto; } .wide svg { max-width: none; }\n\
+.drawings { overflow-x: auto; } .drawings svg { max-width: max(100%, 44rem); }\n\
+th, td { white-space: nowrap; }";
 
 /// A page with a title and what stands on it, in HTML.
 pub fn page(title: &str, body: &str) -> String {
@@ -26,6 +28,15 @@ pub fn paragraph(text: &str) -> String {
 
 pub fn heading(text: &str) -> String {
     format!("<h2>{}</h2>\n", escaped(text))
+}
+
+pub fn subheading(text: &str) -> String {
+    format!("<h3>{}</h3>\n", escaped(text))
+}
+
+/// Drawings that shrink with the window as far as their text can still be read, and beyond that are moved sideways.
+pub fn drawings(drawings: &str) -> String {
+    format!("<div class=\"drawings\">\n{drawings}</div>\n")
 }
 
 /// A table: the first row is its head.
