@@ -1,0 +1,45 @@
+//! `welsbell draw FILE`: a recorded session drawn as text. What is drawn is collected
+//! first; nothing is drawn while the file is read.
+mod collect;
+mod said;
+mod terminal;
+mod text;
+
+use crate::failure::Failure;
+use crate::numbers::{counted, grouped};
+use crate::watch::watch;
+use collect::{Collector, MOST_SESSIONS};
+use std::io::{stdout, Write};
+
+/// What is said before the sessions, where some are not drawn or lines stood before the first.
+fn preface(collector: &Collector) -> Option<String> {
+    let mut said = vec![];
+    if collector.refused > 0 {
+        said.push(format!("Refused before the first open: {}.", counted(collector.refused, "line")));
+    }
+    if collector.sessions > MOST_SESSIONS as u64 {
+        said.push(format!("The file has {} sessions; the last {MOST_SESSIONS} are drawn.", grouped(collector.sessions)));
+    }
+    (!said.is_empty()).then(|| said.join(" "))
+}
+
+fn text(collector: &Collector) -> String {
+    let width = terminal::width();
+    let preface = preface(collector).map(|said| text::wrapped(&said, width));
+    let sessions = collector.ended.iter().map(|session| text::text(session, collector.ended.len(), width));
+    let parts: Vec<String> = preface.into_iter().chain(sessions).collect();
+    parts.join("\n\n")
+}
+
+pub fn draw(file: &str) -> Result<(), Failure> {
+    let mut collector = Collector::default();
+    let followed = watch(file, &mut collector, true)?;
+    collector.end(&followed);
+    let mut out = stdout().lock();
+    if collector.ended.is_empty() {
+        writeln!(out, "No open was accepted, so there is nothing to draw.{}", said::refused(collector.refused))?;
+    } else {
+        writeln!(out, "{}", text(&collector))?;
+    }
+    Ok(())
+}
