@@ -1,6 +1,7 @@
-//! `welsbell draw FILE`: a recorded session drawn as text. What is drawn is collected
+//! `welsbell draw FILE`: a recorded session drawn, as text at the terminal and as a page for a browser. What is drawn is collected
 //! first; nothing is drawn while the file is read.
 mod collect;
+mod drawings;
 mod said;
 mod terminal;
 mod text;
@@ -9,6 +10,7 @@ use crate::failure::Failure;
 use crate::numbers::{counted, grouped};
 use crate::watch::watch;
 use collect::{Collector, MOST_SESSIONS};
+use std::fs;
 use std::io::{stdout, Write};
 
 /// What is said before the sessions, where some are not drawn or lines stood before the first.
@@ -31,7 +33,20 @@ fn text(collector: &Collector) -> String {
     parts.join("\n\n")
 }
 
-pub fn draw(file: &str) -> Result<(), Failure> {
+/// A page is written only over a page, since the name of another session file is easily given in its place.
+fn is_page(name: &str) -> Result<(), Failure> {
+    let is_named_so = [".html", ".htm"].iter().any(|ending| name.to_lowercase().ends_with(ending));
+    let wrong = || Failure::Wrong(format!("`{name}`: expected the name of a page, which ends with .html"));
+    is_named_so.then_some(()).ok_or_else(wrong)
+}
+
+fn write_page(file: &str, name: &str, collector: &Collector) -> Result<(), Failure> {
+    let page = drawings::page(file, preface(collector), &collector.ended);
+    fs::write(name, page).map_err(|error| Failure::Failed(format!("{name}: {error}")))
+}
+
+pub fn draw(file: &str, page: Option<&str>) -> Result<(), Failure> {
+    page.map_or(Ok(()), is_page)?;
     let mut collector = Collector::default();
     let followed = watch(file, &mut collector, true)?;
     collector.end(&followed);
@@ -40,6 +55,14 @@ pub fn draw(file: &str) -> Result<(), Failure> {
         writeln!(out, "No open was accepted, so there is nothing to draw.{}", said::refused(collector.refused))?;
     } else {
         writeln!(out, "{}", text(&collector))?;
+    }
+    match page {
+        Some(name) if collector.ended.is_empty() => writeln!(out, "{name} is not written.")?,
+        Some(name) => {
+            write_page(file, name, &collector)?;
+            writeln!(out, "\nThe page is {name}.")?;
+        }
+        None => {}
     }
     Ok(())
 }
