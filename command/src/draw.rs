@@ -8,7 +8,7 @@ mod text;
 
 use crate::failure::Failure;
 use crate::numbers::{counted, grouped};
-use crate::watch::watch;
+use crate::watch::{watch, Recorded};
 use collect::{Collector, MOST_SESSIONS};
 use std::fs;
 use std::io::{stdout, Write};
@@ -45,10 +45,10 @@ fn write_page(file: &str, name: &str, collector: &Collector) -> Result<(), Failu
     fs::write(name, page).map_err(|error| Failure::Failed(format!("{name}: {error}")))
 }
 
-pub fn draw(file: &str, page: Option<&str>) -> Result<(), Failure> {
+pub fn draw(recorded: &Recorded, page: Option<&str>) -> Result<(), Failure> {
     page.map_or(Ok(()), is_page)?;
     let mut collector = Collector::default();
-    let followed = watch(file, &mut collector, true)?;
+    let followed = watch(recorded, &mut collector, true)?;
     collector.end(&followed);
     let mut out = stdout().lock();
     if collector.ended.is_empty() {
@@ -59,7 +59,7 @@ pub fn draw(file: &str, page: Option<&str>) -> Result<(), Failure> {
     match page {
         Some(name) if collector.ended.is_empty() => writeln!(out, "{name} is not written.")?,
         Some(name) => {
-            write_page(file, name, &collector)?;
+            write_page(recorded.file, name, &collector)?;
             writeln!(out, "\nThe page is {name}.")?;
         }
         None => {}

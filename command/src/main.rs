@@ -1,5 +1,6 @@
 //! `welsbell`, the command for people: sessions in words, over the proved session program.
 mod compare;
+mod draw;
 mod failure;
 mod follow;
 mod frames;
@@ -28,6 +29,8 @@ const USAGE: &str = "\
 welsbell run                 a session in words, at a terminal or from a pipe; `help` in it tells what to write
 welsbell read FILE           a recorded session with its answers in words, and a summary
 welsbell read --summary FILE the summary alone
+welsbell draw FILE           a recorded session drawn: who was served when, drops, the occupancy charts
+welsbell draw FILE PAGE.html the same, and a page for a browser, with the miss ratios
 welsbell frames FILE         words to frames, for the session program
 welsbell compare             the paper's experiments 1 and 2 on the proved program, beside simulated policies, in a table
 welsbell compare PAGE.html   the same with the paper's figures, as a page
@@ -44,6 +47,8 @@ fn command(arguments: &[&str]) -> Result<(), Failure> {
     };
     match words[..] {
         ["read", file] if are_known(&["--summary", "--frames"]) => read::read(&recorded(file), !has("--summary")),
+        ["draw", file] if are_known(&["--frames"]) => draw::draw(&recorded(file), None),
+        ["draw", file, page] if are_known(&["--frames"]) => draw::draw(&recorded(file), Some(page)),
         ["run"] if options.is_empty() => run::run(),
         ["frames", file] if options.is_empty() => to_frames::frames(file),
         ["compare"] if options.is_empty() => compare::print(),

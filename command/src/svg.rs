@@ -65,19 +65,6 @@ impl Svg {
         self.add("line", &ends, "");
     }
 
-    /// A line through points.
-    pub fn polyline(&mut self, points: &[(f64, f64)], stroke: &str) {
-        let points: Vec<String> = points.iter().map(|&(x, y)| format!("{},{}", rounded(x), rounded(y))).collect();
-        let attributes: [(&str, &dyn Display); 4] =
-            [("points", &points.join(" ")), ("fill", &"none"), ("stroke", &stroke), ("stroke-width", &1.5)];
-        self.add("polyline", &attributes, "");
-    }
-
-    /// The anchor is start, middle or end.
-    pub fn text(&mut self, (x, y): (f64, f64), anchor: &str, text: &str) {
-        self.add("text", &[("x", &rounded(x)), ("y", &rounded(y)), ("text-anchor", &anchor)], text);
-    }
-
     /// Text of this size and colour.
     pub fn label(&mut self, (x, y): (f64, f64), anchor: &str, (size, fill): (f64, &str), text: &str) {
         let attributes: [(&str, &dyn Display); 5] =
