@@ -152,6 +152,8 @@ impl Shell {
     fn start(folder: &Path, limit: Duration) -> Result<Shell, String> {
         let mut command = Command::new("bash");
         command.current_dir(folder).process_group(0).stdin(Stdio::piped()).stdout(Stdio::piped());
+        // A page is the same however wide the terminal is.
+        command.env_remove("COLUMNS");
         let mut bash = command.spawn().map_err(|error| format!("bash: {error}"))?;
         let (Some(input), Some(mut output)) = (bash.stdin.take(), bash.stdout.take()) else {
             return Err("bash: no pipes".into());
