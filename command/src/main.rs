@@ -22,6 +22,7 @@ mod words;
 use failure::Failure;
 use session::Language;
 use std::env::args_os;
+use std::io::{stdout, Write};
 use std::process::exit;
 use watch::Recorded;
 
@@ -61,7 +62,7 @@ fn command(arguments: &[&str]) -> Result<(), Failure> {
 }
 
 fn usage() -> Result<(), Failure> {
-    println!("{USAGE}");
+    writeln!(stdout(), "{USAGE}")?;
     Ok(())
 }
 
