@@ -29,18 +29,19 @@ pub fn find() -> Result<PathBuf, Failure> {
     let command = current_exe()?.canonicalize()?;
     let folder = command.parent().unwrap_or(Path::new("."));
     let places = [folder.join(NAME), folder.join("../../target/bin").join(NAME)];
-    places.into_iter().find(|place| place.is_file()).ok_or_else(|| {
-        Failure::Failed(format!(
-            "the session program is not there: `rt check session_main` builds it, or {VARIABLE} names it"
-        ))
-    })
+    places.into_iter().find(|place| place.is_file()).ok_or_else(|| missing("the session program is not there"))
+}
+
+/// What happened, and what to do.
+fn missing(what: &str) -> Failure {
+    Failure::Failed(format!("{what}: `rt check session_main` builds it, or {VARIABLE} names it"))
 }
 
 impl Program {
     pub fn start() -> Result<Program, Failure> {
         let path = find()?;
         let started = Command::new(&path).stdin(Stdio::piped()).stdout(Stdio::piped()).spawn();
-        let mut child = started.map_err(|error| Failure::Failed(format!("{}: {error}", path.display())))?;
+        let mut child = started.map_err(|error| missing(&format!("the session program, {}: {error}", path.display())))?;
         let (Some(input), Some(output)) = (child.stdin.take(), child.stdout.take()) else {
             return Err(Failure::Failed("the session program has no pipes".into()));
         };
