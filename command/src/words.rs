@@ -25,7 +25,7 @@ fn values_of(words: &[&str], kind: &'static Kind) -> Result<Vec<u64>, String> {
         match kind.fields.iter().find(|(name, _)| form == format!("{{{name}}}")) {
             Some((name, width)) => values.push(value_of(word, name, *width)?),
             None if word.eq_ignore_ascii_case(form) => {}
-            None => return Err(format!("expected `{}`, and `{word}` stands where `{form}` has to", kind.form())),
+            None => return Err(format!("expected `{}`, and `{}` stands where `{form}` has to", kind.form(), word.escape_debug())),
         }
     }
     Ok(values)
@@ -36,7 +36,8 @@ fn value_of(word: &str, name: &str, width: usize) -> Result<u64, String> {
     let digits = word.replace([',', '_'], "");
     let is_number = !digits.is_empty() && digits.bytes().all(|byte| byte.is_ascii_digit());
     if !is_number {
-        return Err(format!("expected a number for {name}, not `{word}`"));
+        // A recorded file may have anything in it, and a terminal obeys some characters.
+        return Err(format!("expected a number for {name}, not `{}`", word.escape_debug()));
     }
     let value = digits.parse().ok().filter(|&value| value <= most(width));
     value.ok_or_else(|| format!("expected a number of at most {} for {name}, since its field has {width} bytes", grouped(most(width))))
