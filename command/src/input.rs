@@ -35,6 +35,8 @@ pub struct Input {
     pub read: u64,
     pub is_terminal: bool,
     lines: u64,
+    /// Whether the end was met. A terminal would go on behind it, and the session does not.
+    is_over: bool,
 }
 
 impl Input {
@@ -60,6 +62,7 @@ impl Input {
             read: 0,
             is_terminal,
             lines: 0,
+            is_over: false,
         }
     }
 
@@ -75,16 +78,19 @@ impl Input {
 
     pub fn next(&mut self) -> Result<Option<Line>> {
         let mut text = vec![];
+        if self.is_over {
+            return Ok(None);
+        }
         loop {
             let part = self.reader.fill_buf()?;
             let feed = part.iter().position(|&byte| byte == b'\n');
             let taken = feed.unwrap_or(part.len());
             text.extend_from_slice(&part[..taken.min(LONGEST - text.len())]);
-            let is_over = part.is_empty();
+            self.is_over = part.is_empty();
             let used = taken + usize::from(feed.is_some());
             self.reader.consume(used);
             self.read += used as u64;
-            if feed.is_some() || is_over {
+            if feed.is_some() || self.is_over {
                 return Ok(self.line(text, feed.is_some()));
             }
         }
