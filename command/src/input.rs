@@ -1,10 +1,14 @@
 //! The lines of an input, however long they are.
+use std::collections::VecDeque;
 use std::fs::File;
 use std::io::{stdin, BufRead, BufReader, IsTerminal, Read, Result};
 use std::path::Path;
 
 /// So much of a line is kept. No frame is that long, and what begins like this and goes on is refused like its beginning.
 pub const LONGEST: usize = 1_024;
+
+/// So many lines are looked at for one that has something in it.
+const LOOKED_AT: usize = 100;
 
 /// So much of a line stands in a message.
 const SHOWN: usize = 60;
@@ -18,6 +22,10 @@ pub struct Line {
 }
 
 impl Line {
+    fn is_blank(&self) -> bool {
+        String::from_utf8_lossy(&self.text).trim().is_empty()
+    }
+
     /// The line as it can stand in a message.
     pub fn shown(&self) -> String {
         let shown = self.text.escape_ascii().to_string();
@@ -37,6 +45,8 @@ pub struct Input {
     lines: u64,
     /// Whether the end was met. A terminal would go on behind it, and the session does not.
     is_over: bool,
+    /// Lines that were looked at and not taken yet.
+    ahead: VecDeque<Line>,
 }
 
 impl Input {
@@ -63,20 +73,37 @@ impl Input {
             is_terminal,
             lines: 0,
             is_over: false,
+            ahead: VecDeque::new(),
         }
     }
 
     /// Whether a whole line is there without waiting for more input.
     pub fn has_line(&self) -> bool {
-        self.reader.buffer().contains(&b'\n')
+        !self.ahead.is_empty() || self.reader.buffer().contains(&b'\n')
     }
 
-    /// What begins the input, without taking it.
-    pub fn beginning(&mut self) -> Result<&[u8]> {
-        self.reader.fill_buf()
+    /// Fails if nothing can be read.
+    pub fn begin(&mut self) -> Result<()> {
+        self.reader.fill_buf().map(drop)
+    }
+
+    /// The first line that has something in it, without taking it. It is read whole, however a pipe hands it over.
+    pub fn first(&mut self) -> Result<Option<&Line>> {
+        while self.ahead.len() < LOOKED_AT && self.ahead.iter().all(Line::is_blank) {
+            let Some(line) = self.read_line()? else { break };
+            self.ahead.push_back(line);
+        }
+        Ok(self.ahead.iter().find(|line| !line.is_blank()))
     }
 
     pub fn next(&mut self) -> Result<Option<Line>> {
+        match self.ahead.pop_front() {
+            Some(line) => Ok(Some(line)),
+            None => self.read_line(),
+        }
+    }
+
+    fn read_line(&mut self) -> Result<Option<Line>> {
         let mut text = vec![];
         if self.is_over {
             return Ok(None);

@@ -18,11 +18,9 @@ pub enum Language {
 }
 
 impl Language {
-    /// By how the input begins.
+    /// By the first line that has something in it.
     pub fn of(input: &mut Input) -> Result<Language, Failure> {
-        let beginning = String::from_utf8_lossy(input.beginning()?).into_owned();
-        let first = beginning.lines().find(|line| !line.trim().is_empty());
-        let is_in_words = first.is_some_and(are_words);
+        let is_in_words = input.first()?.is_some_and(|line| are_words(&String::from_utf8_lossy(&line.text)));
         Ok(if is_in_words { Language::Words } else { Language::Frames })
     }
 }

@@ -18,7 +18,7 @@ pub trait Watcher {
 pub fn input_named(file: &str) -> Result<Input, Failure> {
     let failed = |error: Error| Failure::Failed(format!("{file}: {error}"));
     let mut input = Input::named(file).map_err(failed)?;
-    input.beginning().map_err(failed)?;
+    input.begin().map_err(failed)?;
     Ok(input)
 }
 
