@@ -11,16 +11,19 @@ const WIDTH: usize = 40;
 pub struct Progress {
     began: Instant,
     shown: Option<Instant>,
+    /// Whether it stands at the terminal now.
+    stands: bool,
     is_wanted: bool,
 }
 
 impl Progress {
-    /// It stands on the standard error, and only where that is a terminal on which nothing else is written meanwhile.
-    pub fn new(writes_elsewhere: bool) -> Progress {
+    /// It stands on the standard error, and only where that is a terminal and it is wanted there.
+    pub fn new(is_wanted: bool) -> Progress {
         Progress {
             began: Instant::now(),
             shown: None,
-            is_wanted: stderr().is_terminal() && writes_elsewhere,
+            stands: false,
+            is_wanted: stderr().is_terminal() && is_wanted,
         }
     }
 
@@ -34,15 +37,20 @@ impl Progress {
             // A terminal that takes no bar is no reason to stop.
             let _ = write!(stderr(), "\r[{bar}] {percent:3} %");
             self.shown = Some(Instant::now());
+            self.stands = true;
+        }
+    }
+
+    /// Takes the bar away, of which nothing is left.
+    pub fn hide(&mut self) {
+        if std::mem::take(&mut self.stands) {
+            let _ = write!(stderr(), "\r{}\r", " ".repeat(WIDTH + 8));
         }
     }
 }
 
 impl Drop for Progress {
-    /// Nothing of the bar is left.
     fn drop(&mut self) {
-        if self.shown.is_some() {
-            let _ = write!(stderr(), "\r{}\r", " ".repeat(WIDTH + 8));
-        }
+        self.hide();
     }
 }

@@ -1,7 +1,6 @@
 //! `welsbell read FILE`: a recorded session with its answers in words, and a summary behind each session in it.
 use crate::failure::Failure;
 use crate::follow::{Event, Followed};
-use crate::frames::OPENED;
 use crate::say;
 use crate::session::Turn;
 use crate::summary::Summary;
@@ -41,6 +40,8 @@ impl Reader {
         if !self.summary.is_empty(followed) {
             self.end_paragraph()?;
             writeln!(self.out, "{}", self.summary.shown(followed))?;
+            // No line may stand half written when the bar comes.
+            self.out.flush()?;
         }
         Ok(())
     }
@@ -48,7 +49,7 @@ impl Reader {
 
 impl Watcher for Reader {
     fn turn(&mut self, turn: &Turn, before: &Followed) -> Result<(), Failure> {
-        if turn.answers.iter().any(|answer| answer.kind() == OPENED) {
+        if turn.is_opened() {
             self.begin_session(turn, before)?;
         }
         if self.has_lines {

@@ -1,6 +1,6 @@
 //! A session as it goes: lines in words or frames, each with the answers of the proved program to it.
 use crate::failure::Failure;
-use crate::frames::{Frame, NoFrame, CALLS};
+use crate::frames::{Frame, NoFrame, CALLS, OPENED};
 use crate::input::{Input, Line};
 use crate::program::Program;
 use crate::words::{are_words, call_of};
@@ -43,6 +43,13 @@ pub struct Turn {
     pub line: Line,
     pub asked: Asked,
     pub answers: Vec<Frame>,
+}
+
+impl Turn {
+    /// Whether it is an open that was accepted.
+    pub fn is_opened(&self) -> bool {
+        self.answers.iter().any(|answer| answer.kind() == OPENED)
+    }
 }
 
 /// Hexadecimal digits alone, in whatever case. Every frame has a decimal one, and no word has.

@@ -48,14 +48,18 @@ pub fn watch(recorded: &Recorded, watcher: &mut impl Watcher, has_bar: bool) -> 
                 Asked::End => return Ok(followed),
                 Asked::Nothing | Asked::Help => {}
                 Asked::Wrong(expected) => return Err(wrong_line(&turn.line, expected)),
-                Asked::Call(_) | Asked::NoFrame(_) => take(turn, &mut followed, watcher)?,
+                Asked::Call(_) | Asked::NoFrame(_) => take(turn, &mut followed, watcher, &mut progress)?,
             }
         }
         progress.show(&session.input);
     }
 }
 
-fn take(turn: &Turn, followed: &mut Followed, watcher: &mut impl Watcher) -> Result<(), Failure> {
+fn take(turn: &Turn, followed: &mut Followed, watcher: &mut impl Watcher, progress: &mut Progress) -> Result<(), Failure> {
+    // Where a session begins, the summary of the one before it may be written to the terminal.
+    if turn.is_opened() {
+        progress.hide();
+    }
     watcher.turn(turn, followed)?;
     let events = match &turn.asked {
         Asked::Call(call) => followed.take(call, &turn.answers),
