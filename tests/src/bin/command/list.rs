@@ -1,0 +1,201 @@
+//! What the lines of a session come to, found slowly: the model answers them, and each thing is then counted by itself.
+use std::collections::BTreeMap;
+use tests::model::calls::{DROPPED, IDLE, KEPT, OPENED, REFUSED, SERVED};
+use tests::model::session::{read, session, widths_in, widths_out};
+use tests::model::{Answer, Fault};
+
+/// A line of a session with the model's answers.
+pub struct Turn<'a> {
+    pub number: u64,
+    pub line: &'a [u8],
+    pub is_ended: bool,
+    /// Its kind and values; empty where it is no frame that a line feed ends.
+    pub frame: Vec<u64>,
+    pub answers: Vec<Answer>,
+}
+
+impl Turn<'_> {
+    pub fn is_opened(&self) -> bool {
+        self.answers == [[OPENED]]
+    }
+}
+
+pub fn turns(input: &[u8]) -> Vec<Turn<'_>> {
+    let answered = session(input, Fault::None);
+    let count = answered.len();
+    let turns = (1..).zip(answered).map(|(number, answered)| {
+        let is_ended = number < count || input.ends_with(b"\n");
+        let frame = read(answered.line, widths_in).filter(|_| is_ended);
+        let answers = answered.printed.lines().filter_map(|line| read(line.as_bytes(), widths_out));
+        Turn {
+            number: number as u64,
+            line: answered.line,
+            is_ended,
+            frame: frame.unwrap_or_default(),
+            answers: answers.collect(),
+        }
+    });
+    turns.collect()
+}
+
+/// A read that was taken in.
+struct Request {
+    number: u64,
+    client: u64,
+    /// The clock at its submission.
+    clock: u64,
+}
+
+/// What a list of lines shows, from an accepted open on or before the first.
+#[derive(Default)]
+pub struct List {
+    /// The open's line; 0 where there is none.
+    line: u64,
+    pub clients: u64,
+    period: u64,
+    pub records: u64,
+    requests: Vec<Request>,
+    /// Slots and numbers.
+    served: Vec<(u64, u64)>,
+    /// Victims' numbers, with the clocks at which they fell.
+    dropped: Vec<(u64, u64)>,
+    idle: u64,
+    pub refused: BTreeMap<u64, u64>,
+}
+
+impl List {
+    pub fn of(turns: &[Turn]) -> List {
+        let mut list = List::default();
+        for turn in turns {
+            list.take(turn);
+        }
+        list
+    }
+
+    fn take(&mut self, turn: &Turn) {
+        let clock = self.clock();
+        match (&turn.frame[..], &turn.answers[0][..]) {
+            (&[_, clients, period, records], [OPENED]) => {
+                (self.line, self.clients, self.period, self.records) = (turn.number, clients, period, records);
+            }
+            (&[_, client, _], &[KEPT, number, _]) => self.requests.push(Request { number, client, clock }),
+            (&[_, client, _], &[DROPPED, number, victim, _]) => {
+                self.requests.push(Request { number, client, clock });
+                self.dropped.push((clock, victim));
+            }
+            (_, &[SERVED, slot, number, _]) => self.served.push((slot, number)),
+            (_, [IDLE, _]) => self.idle += 1,
+            (_, &[REFUSED, number]) => *self.refused.entry(number).or_default() += 1,
+            _ => {}
+        }
+    }
+
+    /// As many as slots have passed.
+    pub fn clock(&self) -> u64 {
+        self.served.len() as u64 + self.idle
+    }
+
+    fn is_served(&self, request: &Request) -> bool {
+        self.served.iter().any(|(_, number)| *number == request.number)
+    }
+
+    fn is_dropped(&self, request: &Request) -> bool {
+        self.dropped.iter().any(|(_, number)| *number == request.number)
+    }
+
+    /// How many are submitted, served, dropped and waiting, of those for which it holds.
+    fn counts(&self, holds: impl Fn(&Request) -> bool) -> [u64; 4] {
+        let of: Vec<&Request> = self.requests.iter().filter(|request| holds(request)).collect();
+        let served = of.iter().filter(|request| self.is_served(request)).count();
+        let dropped = of.iter().filter(|request| self.is_dropped(request)).count();
+        [of.len(), served, dropped, of.len() - served - dropped].map(|count| count as u64)
+    }
+
+    /// A client's drops and submits since its period began, in which what waited at the beginning counts as submitted.
+    pub fn missed(&self, client: u64) -> [u64; 2] {
+        let start = self.clock() - self.clock() % self.period;
+        let ended = self.served.iter().chain(&self.dropped);
+        let ended: Vec<u64> = ended.filter(|(clock, _)| *clock < start).map(|(_, number)| *number).collect();
+        let [submitted, _, dropped, _] = self.counts(|request| request.client == client && !ended.contains(&request.number));
+        [dropped, submitted]
+    }
+
+    /// Whether some read of the client came over from the period before.
+    pub fn has_carried(&self, client: u64) -> bool {
+        let start = self.clock() - self.clock() % self.period;
+        let [_, submitted] = self.missed(client);
+        let new = self.requests.iter().filter(|request| request.client == client && request.clock >= start).count();
+        submitted > new as u64
+    }
+
+    pub fn has_silent(&self) -> bool {
+        self.rows().iter().any(|(words, _)| *words == "submitted nothing")
+    }
+
+    /// The slots between the clock at submission and the slot that served it, the most there were, and the first of these reads:
+    /// its number, its client, that clock and that slot.
+    pub fn longest_wait(&self) -> Option<[u64; 5]> {
+        let waits = self.served.iter().rev().filter_map(|&(slot, served)| {
+            let request = self.requests.iter().find(|request| request.number == served)?;
+            Some([slot - request.clock, served, request.client, request.clock, slot])
+        });
+        // Of equals the last is given, and they come from behind.
+        waits.max_by_key(|[wait, ..]| *wait)
+    }
+
+    /// The longest run of slots each of which served a read, and the first of these runs: its first and last slot, its length, and
+    /// the drops at its clocks.
+    pub fn busiest_stretch(&self) -> Option<[u64; 4]> {
+        let is_busy = |slot: &u64| self.served.iter().any(|(served, _)| served == slot);
+        let runs = self.served.iter().rev().map(|&(first, _)| (first, (first..).take_while(is_busy).count() as u64));
+        let (first, length) = runs.max_by_key(|(_, length)| *length)?;
+        let last = first + length - 1;
+        let dropped = self.dropped.iter().filter(|(clock, _)| (first..=last).contains(clock)).count();
+        Some([first, last, length, dropped as u64])
+    }
+
+    /// Each line of the summary: words that stand in it, and all its numbers.
+    pub fn summary(&self) -> Vec<(&'static str, Vec<u64>)> {
+        match (self.line, self.refused.is_empty()) {
+            (0, true) => vec![],
+            (0, false) => vec![("No open", vec![]), self.refusals()],
+            _ => [self.setup(), self.rows(), self.extremes(), vec![self.refusals()]].concat(),
+        }
+    }
+
+    fn setup(&self) -> Vec<(&'static str, Vec<u64>)> {
+        vec![
+            ("Opened in line", vec![self.line, self.clients, self.period, self.records]),
+            ("passed, of them idle", vec![self.clock(), self.idle]),
+            ("client submitted served dropped waiting miss ratio", vec![]),
+        ]
+    }
+
+    /// A row for each client that submitted something, one for all, and how many submitted nothing.
+    fn rows(&self) -> Vec<(&'static str, Vec<u64>)> {
+        let row = |client: Option<u64>| {
+            let counts @ [submitted, _, dropped, _] = self.counts(|request| client.is_none_or(|client| request.client == client));
+            // to three places, rounded down
+            let thousandths = 1_000 * dropped / submitted.max(1);
+            [client.into_iter().collect(), counts.to_vec(), vec![thousandths / 1_000, thousandths % 1_000]].concat()
+        };
+        let submitting = |client: &u64| self.requests.iter().any(|request| request.client == *client);
+        let rows = (0..self.clients).filter(submitting).map(|client| ("", row(Some(client))));
+        let silent = (0..self.clients).filter(|client| !submitting(client)).count() as u64;
+        let silent = (silent > 0).then(|| ("submitted nothing", vec![silent]));
+        rows.chain([("all", row(None))]).chain(silent).collect()
+    }
+
+    fn extremes(&self) -> Vec<(&'static str, Vec<u64>)> {
+        let longest = self.longest_wait().map(|wait| ("Longest wait", wait.to_vec()));
+        let busiest = self.busiest_stretch().map(|stretch| ("Busiest stretch", stretch.to_vec()));
+        longest.into_iter().chain(busiest).collect()
+    }
+
+    /// Of all together, and then each number with its own.
+    fn refusals(&self) -> (&'static str, Vec<u64>) {
+        let each = self.refused.iter().flat_map(|(number, times)| [*number, *times]);
+        let all = (!self.refused.is_empty()).then(|| self.refused.values().sum());
+        ("Refused", all.into_iter().chain(each).collect())
+    }
+}

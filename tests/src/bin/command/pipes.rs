@@ -1,0 +1,206 @@
+//! The command in a pipe: good, bad and empty input, wrong arguments, files and programs that are not there, readers that go away.
+use crate::checks::{ended, Checks, Ended, Welsbell, VARIABLE};
+use std::fs::{copy, create_dir_all, write, File, OpenOptions};
+use std::io::{pipe, BufRead, BufReader, Error, Result as IoResult, Write};
+use std::path::Path;
+use std::process::{Command, Stdio};
+use std::sync::mpsc::channel;
+use std::thread::spawn;
+use std::time::Duration;
+use tests::frames;
+
+/// Arguments, input, exit code, and what stands in the standard output and the standard error; where there is nothing, nothing stands.
+type Case = (&'static str, &'static [u8], i32, &'static [&'static str], &'static [&'static str]);
+
+const USAGE: &[&str] = &["welsbell run", "welsbell read FILE", "welsbell frames FILE"];
+
+const EMPTY: [Case; 6] = [
+    ("run", b"", 0, &[], &[]),
+    ("read -", b"", 0, &[], &[]),
+    ("read --summary -", b"", 0, &[], &[]),
+    ("frames -", b"", 0, &[], &[]),
+    ("run", b"\n \n# a comment\n", 0, &[], &[]),
+    ("frames -", b"\n \n# a comment\n", 0, &[], &[]),
+];
+
+const GOOD: [Case; 11] = [
+    ("help", b"", 0, USAGE, &[]),
+    ("--help", b"", 0, USAGE, &[]),
+    ("run", b"help\n", 0, &["open clients CLIENTS period PERIOD records RECORDS", "submit CLIENT by DEADLINE", "tick", "report CLIENT", "chart"], &[]),
+    ("run", b"open clients 1 period 1 records 1\r\nTICK\r\n", 0, &["opened\nslot 0: "], &[]),
+    ("run", b"tick\nquit\nfly\n", 0, &["refused, 4: "], &[]),
+    ("run", b"# a comment\n\n03\nTick\n03", 0, &["refused, 4: no open was accepted yet\nrefused, 4: no open was accepted yet\nrefused, 1: ", "line feed"], &[]),
+    ("frames -", b"OPEN Clients 1,0 period 1_000 records 65535\n04FFFF\ntick", 0, &["01000A000003E8FFFF\n04FFFF\n03\n"], &[]),
+    ("read -", b"# a comment\ntick", 0, &["    2  tick", "refused, 4: ", "Refused: 1 line"], &[]),
+    ("read -", b"\n \n\nopen clients 1 period 1 records 1\n", 0, &["    4  open clients 1 period 1 records 1", "  opened\n"], &[]),
+    ("read --summary -", b"tick\nquit\nfly\n", 0, &["Refused: 1 line "], &[]),
+    ("read --frames --summary -", b"tick\n03\n", 0, &["Refused: 2 lines (by the refusal's number: 1: 1, 4: 1)"], &[]),
+];
+
+const BAD: [Case; 19] = [
+    ("run", b"tick\nfly 3\n", 2, &["refused, 4"], &["line 2: `fly 3`: expected open, submit, tick, report, chart or a frame"]),
+    ("read -", b"tick\nfly 3\n", 2, &["refused, 4"], &["line 2: `fly 3`: expected open, submit, tick, report, chart or a frame"]),
+    ("read --summary -", b"tick\n\nfly 3\n", 2, &[], &["line 3: `fly 3`: expected open"]),
+    ("frames -", b"tick\nfly 3\n", 2, &["03\n"], &["line 2: `fly 3`: expected open"]),
+    ("run", b"submit 0 at 1\n", 2, &[], &["line 1: `submit 0 at 1`: expected `submit CLIENT by DEADLINE`"]),
+    ("run", b"submit 0\n", 2, &[], &["line 1: `submit 0`: expected `submit CLIENT by DEADLINE`"]),
+    ("run", b"report -1\n", 2, &[], &["line 1: `report -1`: expected a number for client"]),
+    ("run", b"report 65536\n", 2, &[], &["line 1: `report 65536`: expected a number of at most 65,535 for client"]),
+    ("run", b"submit 0 by 18446744073709551616\n", 2, &[], &["line 1", "at most 18,446,744,073,709,551,615 for deadline"]),
+    ("run", b"\xFF\xFE\n", 2, &[], &[r"line 1: `\xff\xfe`: expected open"]),
+    ("run", b"report \x1b[31m\n", 2, &[], &[r"line 1: `report \x1b[31m`: expected a number for client"]),
+    ("frames -", b"03", 2, &[], &["line 1: `03`: expected words or a frame: the last line does not end with a line feed"]),
+    ("frames -", b"030\n", 2, &[], &["line 1: `030`: expected words or a frame: digits come in pairs"]),
+    ("frames -", b"help\n", 2, &[], &["line 1: `help`: expected a call"]),
+    ("read -", b"03\r\n", 0, &["refused, 1: the line ends with a carriage return"], &[]),
+    ("read -", b"020000000000000000000a\n", 0, &["refused, 1: the digits A to F have to be upper case"], &[]),
+    ("read -", b"03", 0, &["refused, 1: the last line does not end with a line feed"], &[]),
+    ("read -", b"\xFF\xFE\n", 0, &[r"\xff\xfe ", "refused, 1: character 1, byte FF"], &[]),
+    ("run", b"03\r\n", 0, &["refused, 1: the line ends with a carriage return"], &[]),
+];
+
+const ARGUMENTS: [&str; 14] = [
+    "", "--all", "fly", "run now", "run --all", "read", "read --summary", "read --all -", "read --summary --all", "read - -", "frames",
+    "frames --all", "frames --all -", "frames - -",
+];
+
+/// Files that cannot be read, each the last of the arguments, and what is said of them.
+const FILES: [(&str, &str); 5] = [
+    ("read /nowhere/file", "No such file"),
+    ("read --summary /nowhere/file", "No such file"),
+    ("frames /nowhere/file", "No such file"),
+    ("read /", "directory"),
+    ("frames /", "directory"),
+];
+
+/// A session in words.
+const WORDS: &str = "open clients 1 period 1 records 1\ntick\n";
+
+/// An answer takes much less.
+const LIMIT: Duration = Duration::from_secs(20);
+
+fn hold_cases(welsbell: &Welsbell, checks: &mut Checks) {
+    for (arguments, input, code, out, err) in [&EMPTY[..], &GOOD, &BAD].concat() {
+        let held = welsbell.ended(arguments, input).and_then(|ended| ended.hold(code, out, err));
+        checks.hold(&format!("welsbell {arguments}, given {}", input.escape_ascii()), held);
+    }
+}
+
+fn hold_arguments(welsbell: &Welsbell, checks: &mut Checks) {
+    for arguments in ARGUMENTS {
+        let held = welsbell.ended(arguments, "").and_then(|ended| ended.hold(2, &[], USAGE));
+        checks.hold(&format!("welsbell {arguments}"), held);
+    }
+}
+
+fn hold_files(welsbell: &Welsbell, checks: &mut Checks) {
+    for (arguments, said) in FILES {
+        let file = arguments.split(' ').next_back().unwrap_or_default();
+        let held = welsbell.ended(arguments, "").and_then(|ended| ended.hold(1, &[], &[&format!("{file}: "), said]));
+        checks.hold(&format!("welsbell {arguments}"), held);
+    }
+    let folder = File::open("/").map_or(Stdio::null(), Stdio::from);
+    let held = output(welsbell.command("run").stdin(folder)).and_then(|ended| ended.hold(1, &[], &["directory"]));
+    checks.hold("welsbell run, given a folder", held);
+}
+
+fn output(command: &mut Command) -> Result<Ended, String> {
+    command.output().map(Ended::from).map_err(|error| error.to_string())
+}
+
+/// Without the session program the command says what to do; words to frames need none.
+fn hold_programs(welsbell: &Welsbell, checks: &mut Checks) {
+    let alone = welsbell.folder.join("alone");
+    let copied = create_dir_all(&alone).and_then(|()| copy(&welsbell.path, alone.join("welsbell")));
+    let run_alone = |arguments: &str| {
+        let mut command = Command::new(alone.join("welsbell"));
+        ended(command.arg(arguments).args((arguments != "run").then_some("-")).env_remove(VARIABLE), WORDS)
+    };
+    let run_with = |program: &str| ended(welsbell.command("read -").env(VARIABLE, program), WORDS);
+    let to_do = "`rt check session_main` builds it";
+    let mut hold = |what: &str, ended: Result<Ended, String>, code: i32, out: &[&str], err: &[&str]| {
+        checks.hold(what, ended.and_then(|ended| ended.hold(code, out, err)));
+    };
+    hold("no session program", run_alone("run"), 1, &[], &[to_do, VARIABLE]);
+    hold("frames without a session program", run_alone("frames"), 0, &["03\n"], &[]);
+    hold("a session program that is not there", run_with("/nowhere/program"), 1, &[], &["/nowhere/program: ", to_do, VARIABLE]);
+    hold("a session program that ends", run_with("/bin/true"), 1, &[], &["the session program "]);
+    hold("a session program that is another", run_with("/bin/cat"), 1, &[], &["the session program answered "]);
+    let copied = copied.and_then(|_| copy(&welsbell.program, alone.join("session_main")));
+    hold("a session program beside the command", run_alone("run"), 0, &["opened\nslot 0"], &[]);
+    checks.hold("copies", copied.map(drop).map_err(|error| error.to_string()));
+}
+
+/// Where nobody reads, the command ends without a word; where the disk is full, it says so.
+fn hold_unread(welsbell: &Welsbell, input: &Path, checks: &mut Checks) -> IoResult<()> {
+    for arguments in ["help", "run", "read -", "read --summary -", "frames -"] {
+        let (reader, writer) = pipe()?;
+        drop(reader);
+        let ended = output(welsbell.command(arguments).stdin(File::open(input)?).stdout(writer));
+        checks.hold(&format!("welsbell {arguments}, unread"), ended.and_then(|ended| ended.hold(0, &[], &[])));
+        let full = OpenOptions::new().write(true).open("/dev/full")?;
+        let ended = output(welsbell.command(arguments).stdin(File::open(input)?).stdout(full));
+        let held = ended.and_then(|ended| ended.hold(1, &[], &["welsbell: No space left"]));
+        checks.hold(&format!("welsbell {arguments}, to a full disk"), held);
+    }
+    Ok(())
+}
+
+/// Whoever reads may go away behind the first line.
+fn hold_half_read(welsbell: &Welsbell, input: &Path, checks: &mut Checks) -> IoResult<()> {
+    for arguments in ["run", "read -", "frames -"] {
+        let mut command = welsbell.command(arguments);
+        let mut child = command.stdin(File::open(input)?).stdout(Stdio::piped()).stderr(Stdio::piped()).spawn()?;
+        let mut first = String::new();
+        BufReader::new(child.stdout.take().ok_or(Error::other("no pipe"))?).read_line(&mut first)?;
+        let ended = Ended::from(child.wait_with_output()?);
+        checks.hold(&format!("welsbell {arguments} | head -1"), ended.hold(0, &[], &[]));
+    }
+    Ok(())
+}
+
+fn hold_readers(welsbell: &Welsbell, checks: &mut Checks) -> IoResult<()> {
+    let input = welsbell.folder.join("long.txt");
+    write(&input, [frames::open(1, 1, 1), "\n03".repeat(50_000), "\n".into()].concat())?;
+    hold_unread(welsbell, &input, checks)?;
+    hold_half_read(welsbell, &input, checks)
+}
+
+/// In a pipe too each line is answered before the next is written.
+fn hold_dialogue(welsbell: &Welsbell) -> IoResult<()> {
+    let mut child = welsbell.command("run").stdin(Stdio::piped()).stdout(Stdio::piped()).spawn()?;
+    let (Some(mut input), Some(output)) = (child.stdin.take(), child.stdout.take()) else {
+        return Err(Error::other("no pipes"));
+    };
+    let (sender, answers) = channel();
+    spawn(move || BufReader::new(output).lines().map_while(Result::ok).try_for_each(|answer| sender.send(answer)));
+    for (line, expected) in WORDS.lines().zip(["opened", "slot 0"]) {
+        writeln!(input, "{line}")?;
+        let answer = answers.recv_timeout(LIMIT).unwrap_or("no answer".into());
+        if !answer.starts_with(expected) {
+            child.kill().and_then(|()| child.wait())?;
+            return Err(Error::other(format!("{line}: {answer}")));
+        }
+    }
+    drop(input);
+    child.wait().map(drop)
+}
+
+/// However a pipe cuts the input, words are words.
+fn hold_pieces(welsbell: &Welsbell, checks: &mut Checks) {
+    let pauses = "(printf '\\n'; sleep 0.1; printf 'op'; sleep 0.1; printf 'en clients 1 period 1 records 1\\ntick\\n') | \"$0\" read -";
+    let mut bash = Command::new("bash");
+    let held = ended(bash.arg("-c").arg(pauses).arg(&welsbell.path), "");
+    checks.hold("words in pieces", held.and_then(|ended| ended.hold(0, &["opened\n", "slot 0"], &[])));
+}
+
+pub fn hold(welsbell: &Welsbell, checks: &mut Checks) {
+    hold_cases(welsbell, checks);
+    hold_arguments(welsbell, checks);
+    hold_files(welsbell, checks);
+    hold_programs(welsbell, checks);
+    hold_pieces(welsbell, checks);
+    let readers = hold_readers(welsbell, checks);
+    checks.hold("readers", readers.map_err(|error| error.to_string()));
+    checks.hold("a dialogue in a pipe", hold_dialogue(welsbell).map_err(|error| error.to_string()));
+}
