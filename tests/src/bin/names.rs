@@ -6,8 +6,9 @@ use std::fs;
 use std::path::Path;
 use std::process::exit;
 
-const DOCUMENTS: [&str; 5] = ["README.md", "CONTRIBUTING.md", "docs/ARCHITECTURE.md", "docs/DECISIONS.md", "docs/PROMISES.md"];
-const FOLDERS: [&str; 8] = [".ci", "bench", "command", "crates", "docs", "examples", "package", "tests"];
+/// Besides the pages in `docs/`.
+const DOCUMENTS: [&str; 3] = ["README.md", "CONTRIBUTING.md", "CHANGELOG.md"];
+const FOLDERS: [&str; 9] = [".cargo", ".ci", "bench", "command", "crates", "docs", "examples", "package", "tests"];
 
 /// What stands in the repository: the words of all files, the words of each file by its path, and every part of every path.
 #[derive(Default)]
@@ -135,18 +136,25 @@ fn names_in(text: &str) -> Vec<(usize, &str)> {
     names
 }
 
+fn documents() -> Vec<String> {
+    let pages = fs::read_dir("docs").expect("a folder of the repository");
+    let pages = pages.map(|page| page.expect("an entry of a folder").path().to_str().expect("a path in UTF-8").to_string());
+    let named = DOCUMENTS.map(str::to_string).into_iter();
+    named.chain(pages.filter(|page| page.ends_with(".md"))).collect()
+}
+
 fn main() {
     let mut repository = Repository::default();
     for folder in FOLDERS {
         repository.add_folder(Path::new(folder));
     }
-    for file in ["README.md", "CONTRIBUTING.md", "Cargo.toml", "crates.txt"] {
+    for file in ["README.md", "CONTRIBUTING.md", "CHANGELOG.md", "Cargo.toml", "crates.txt"] {
         repository.add_file(file);
     }
     let mut held = 0;
     let mut gone = 0;
-    for document in DOCUMENTS {
-        let text = fs::read_to_string(document).expect("a document");
+    for document in documents() {
+        let text = fs::read_to_string(&document).expect("a document");
         for (line, name) in names_in(&text) {
             held += 1;
             if let Some(part) = repository.missing(name) {
