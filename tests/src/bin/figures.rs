@@ -37,7 +37,7 @@ fn crates() -> Vec<String> {
 /// The sum of a count in the prover's verdicts, `functions=16`, of all crates.
 fn proved(count: &str) -> u64 {
     let verdict = |name: &String| {
-        let log = text_of(&format!("target/log/{name}.out"));
+        let log = text_of(&format!("target/log/{name}.say"));
         let line = log.lines().find(|line| line.starts_with("logic=proved ")).map(str::to_string);
         line.unwrap_or_else(|| fail(format!("{name} is not proved")))
     };
