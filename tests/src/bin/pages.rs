@@ -403,7 +403,8 @@ mod tests_of_pages {
             let expected: Vec<String> = expected.lines().map(str::to_string).collect();
             are_as_expected(&expected, &came.lines().collect::<Vec<&str>>())
         };
-        for (expected, came) in [("...", ""), ("...\n2", "1\n2\n2"), ("1\n...\n3\n...", "1\n3"), ("in ... s", "in 0.12 s"), ("a...a...", "aba")] {
+        let same = [("...", ""), ("...\n2", "1\n2\n2"), ("1\n...\n3\n...", "1\n3"), ("in ... s", "in 0.12 s"), ("a...a...", "aba")];
+        for (expected, came) in same {
             assert!(is_same(expected, came), "{expected:?} {came:?}");
         }
         for (expected, came) in [("", "1"), ("...\n2", "2\n1"), ("1\n...\n1", "1"), ("in ... s", "in 1 s."), ("a...a", "a")] {

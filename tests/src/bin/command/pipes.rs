@@ -23,13 +23,14 @@ const EMPTY: [Case; 6] = [
     ("frames -", b"\n \n# a comment\n", 0, &[], &[]),
 ];
 
-const GOOD: [Case; 11] = [
+const GOOD: [Case; 12] = [
     ("help", b"", 0, USAGE, &[]),
     ("--help", b"", 0, USAGE, &[]),
-    ("run", b"help\n", 0, &["open clients CLIENTS period PERIOD records RECORDS", "submit CLIENT by DEADLINE", "tick", "report CLIENT", "chart"], &[]),
+    ("run", b"help\n", 0, &["open clients CLIENTS period PERIOD records RECORDS", "submit CLIENT by DEADLINE"], &[]),
+    ("run", b"help\n", 0, &["\n  tick\n", "\n  report CLIENT\n", "\n  chart\n"], &[]),
     ("run", b"open clients 1 period 1 records 1\r\nTICK\r\n", 0, &["opened\nslot 0: "], &[]),
     ("run", b"tick\nquit\nfly\n", 0, &["refused, 4: "], &[]),
-    ("run", b"# a comment\n\n03\nTick\n03", 0, &["refused, 4: no open was accepted yet\nrefused, 4: no open was accepted yet\nrefused, 1: ", "line feed"], &[]),
+    ("run", b"# a comment\n\n03\nTick\n03", 0, &["refused, 4: no open was accepted yet\nrefused, 4: ", "\nrefused, 1: the last line"], &[]),
     ("frames -", b"OPEN Clients 1,0 period 1_000 records 65535\n04FFFF\ntick", 0, &["01000A000003E8FFFF\n04FFFF\n03\n"], &[]),
     ("read -", b"# a comment\ntick", 0, &["    2  tick", "refused, 4: ", "Refused: 1 line"], &[]),
     ("read -", b"\n \n\nopen clients 1 period 1 records 1\n", 0, &["    4  open clients 1 period 1 records 1", "  opened\n"], &[]),

@@ -23,9 +23,22 @@ const SUBMIT: u64 = 0x02;
 
 /// What has to come up, besides each reason for a line that is no frame.
 const WANTED: [&str; 17] = [
-    "refusal 1", "refusal 2", "refusal 3", "refusal 4", "refusal 6", "refusal 7", "refusal 10", "read dropped itself", "read dropped for another",
-    "drop in a period that began with reads waiting", "chart without a segment", "chart with more segments than are named",
-    "session with several opens", "session with lines before an open", "wait of several slots", "stretch of several slots with drops",
+    "refusal 1",
+    "refusal 2",
+    "refusal 3",
+    "refusal 4",
+    "refusal 6",
+    "refusal 7",
+    "refusal 10",
+    "read dropped itself",
+    "read dropped for another",
+    "drop in a period that began with reads waiting",
+    "chart without a segment",
+    "chart with more segments than are named",
+    "session with several opens",
+    "session with lines before an open",
+    "wait of several slots",
+    "stretch of several slots with drops",
     "client that submitted nothing",
 ];
 
