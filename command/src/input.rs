@@ -4,7 +4,8 @@ use std::fs::File;
 use std::io::{stdin, BufRead, BufReader, IsTerminal, Read, Result};
 use std::path::Path;
 
-/// So much of a line is kept. No frame is that long, and what begins like this and goes on is refused like its beginning.
+/// So much of a line is kept. No frame is that long, so that the program refuses what goes on behind this like its beginning; among words
+/// only a comment may be that long.
 pub const LONGEST: usize = 1_024;
 
 /// So many lines are looked at for one that has something in it.

@@ -1,7 +1,8 @@
 //! A session as it goes: lines in words or frames, each with the answers of the proved program to it.
 use crate::failure::Failure;
 use crate::frames::{Frame, NoFrame, CALLS, OPENED};
-use crate::input::{Input, Line};
+use crate::input::{Input, Line, LONGEST};
+use crate::numbers::grouped;
 use crate::program::Program;
 use crate::words::{are_words, call_of};
 
@@ -69,10 +70,12 @@ pub fn asked_of(line: &Line, language: Language) -> Asked {
         };
     }
     match words.to_lowercase().as_str() {
+        comment if comment.starts_with('#') => Asked::Nothing,
+        // What is not kept of it may say something else.
+        _ if line.text.len() >= LONGEST => Asked::Wrong(format!("expected a line of less than {} characters", grouped(LONGEST as u64))),
         "" => Asked::Nothing,
         "help" => Asked::Help,
         "quit" | "exit" => Asked::End,
-        comment if comment.starts_with('#') => Asked::Nothing,
         _ => call_of(words).map_or_else(Asked::Wrong, Asked::Call),
     }
 }

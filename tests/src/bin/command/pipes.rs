@@ -87,6 +87,17 @@ fn hold_cases(welsbell: &Welsbell, checks: &mut Checks) {
     }
 }
 
+/// What begins like a call, and goes on where nothing of a line is kept any more, is none; a comment may be as long as it likes.
+fn hold_long_words(welsbell: &Welsbell, checks: &mut Checks) {
+    let lines = [format!("submit 0 by{:1012}12345\n", ""), format!("tick{:1100}fly\n", ""), format!("{:1100}tick\n", "")];
+    for (line, arguments) in lines.iter().flat_map(|line| ["run", "frames -"].map(|arguments| (line, arguments))) {
+        let held = welsbell.ended(arguments, line.as_str()).and_then(|ended| ended.hold(2, &[], &["line 1: `", "1,024 characters"]));
+        checks.hold(&format!("welsbell {arguments}, given {} characters", line.len()), held);
+    }
+    let comment = welsbell.ended("run", format!("#{:1100}fly\n", ""));
+    checks.hold("a long comment", comment.and_then(|ended| ended.hold(0, &[], &[])));
+}
+
 fn hold_arguments(welsbell: &Welsbell, checks: &mut Checks) {
     for arguments in ARGUMENTS {
         let held = welsbell.ended(arguments, "").and_then(|ended| ended.hold(2, &[], USAGE));
@@ -197,6 +208,7 @@ fn hold_pieces(welsbell: &Welsbell, checks: &mut Checks) {
 
 pub fn hold(welsbell: &Welsbell, checks: &mut Checks) {
     hold_cases(welsbell, checks);
+    hold_long_words(welsbell, checks);
     hold_arguments(welsbell, checks);
     hold_files(welsbell, checks);
     hold_programs(welsbell, checks);
