@@ -15,6 +15,14 @@ const NAME: &str = "session_main";
 const MARKER: &[u8] = b"\n";
 const MARKED: u64 = 1;
 
+/// A pipe holds at least so many bytes. No more is asked at a time, so that neither side waits for the other.
+pub const LEAST_PIPE: usize = 4_096;
+
+/// How much of a pipe a line of this length takes, with its line feed and the marker.
+pub fn length_asked(line: usize) -> usize {
+    line + 1 + MARKER.len()
+}
+
 pub struct Program {
     child: Child,
     input: ChildStdin,
@@ -52,17 +60,28 @@ impl Program {
         })
     }
 
-    /// The answers to each of some lines, which are given without line feeds. All are written before an answer is read, so they have to
-    /// fit in a pipe together: `LEAST_PIPE`.
-    pub fn ask(&mut self, lines: &[Vec<u8>]) -> Result<Vec<Vec<Frame>>, Failure> {
+    /// Asks some lines, which are given without line feeds. All are written before an answer is read, so they have to fit in a pipe
+    /// together: `LEAST_PIPE`. No more may be asked before the answers to each were taken.
+    pub fn ask(&mut self, lines: &[Vec<u8>]) -> Result<(), Failure> {
         let mut text = vec![];
         for line in lines {
             text.extend_from_slice(line);
             text.push(b'\n');
             text.extend_from_slice(MARKER);
         }
-        self.write(&text)?;
-        lines.iter().map(|_| self.marked()).collect()
+        self.write(&text)
+    }
+
+    /// The answers to the first of the lines asked whose answers were not taken yet.
+    pub fn answers(&mut self) -> Result<Vec<Frame>, Failure> {
+        let mut answers = vec![self.answer()?];
+        loop {
+            let answer = self.answer()?;
+            if answer.kind() == REFUSED && answer["number"] == MARKED {
+                return Ok(answers);
+            }
+            answers.push(answer);
+        }
     }
 
     /// The answers to a line behind which the input ends without a line feed, and the end.
@@ -78,17 +97,6 @@ impl Program {
     fn write(&mut self, text: &[u8]) -> Result<(), Failure> {
         let written = self.input.write_all(text).and_then(|()| self.input.flush());
         written.map_err(|error| Failure::Failed(format!("the session program takes no more: {error}")))
-    }
-
-    fn marked(&mut self) -> Result<Vec<Frame>, Failure> {
-        let mut answers = vec![self.answer()?];
-        loop {
-            let answer = self.answer()?;
-            if answer.kind() == REFUSED && answer["number"] == MARKED {
-                return Ok(answers);
-            }
-            answers.push(answer);
-        }
     }
 
     fn answer(&mut self) -> Result<Frame, Failure> {

@@ -33,22 +33,17 @@ pub fn run() -> Result<(), Failure> {
             write!(out, "{PROMPT}")?;
         }
         out.flush()?;
-        let turns = session.next()?;
-        if turns.is_empty() {
-            return end(&mut out, is_dialogue);
-        }
-        for turn in turns {
-            match &turn.asked {
-                Asked::End => return Ok(()),
-                Asked::Wrong(expected) if is_dialogue => writeln!(out, "{expected}")?,
-                Asked::Wrong(expected) => {
-                    out.flush()?;
-                    return Err(wrong_line(&turn.line, expected));
-                }
-                Asked::Nothing => {}
-                Asked::Help => writeln!(out, "{}", help())?,
-                Asked::Call(_) | Asked::NoFrame(_) => answer(&mut out, &turn, &mut followed)?,
+        let Some(turn) = session.next()? else { return end(&mut out, is_dialogue) };
+        match &turn.asked {
+            Asked::End => return Ok(()),
+            Asked::Wrong(expected) if is_dialogue => writeln!(out, "{expected}")?,
+            Asked::Wrong(expected) => {
+                out.flush()?;
+                return Err(wrong_line(&turn.line, expected));
             }
+            Asked::Nothing => {}
+            Asked::Help => writeln!(out, "{}", help())?,
+            Asked::Call(_) | Asked::NoFrame(_) => answer(&mut out, &turn, &mut followed)?,
         }
     }
 }

@@ -3,11 +3,9 @@ use crate::failure::Failure;
 use crate::frames::{Frame, NoFrame, CALLS, OPENED};
 use crate::input::{Input, Line, LONGEST};
 use crate::numbers::grouped;
-use crate::program::Program;
+use crate::program::{length_asked, Program, LEAST_PIPE};
 use crate::words::{are_words, call_of};
-
-/// A pipe holds at least so many bytes. No more is asked at a time, so that neither side waits for the other.
-const LEAST_PIPE: usize = 4_096;
+use std::collections::VecDeque;
 
 /// In what an input is written.
 #[derive(Clone, Copy, PartialEq, Eq)]
@@ -51,6 +49,20 @@ impl Turn {
     pub fn is_opened(&self) -> bool {
         self.answers.iter().any(|answer| answer.kind() == OPENED)
     }
+
+    /// Whether the input ends in the middle of it, so that it is no frame.
+    fn is_cut(&self) -> bool {
+        matches!(self.asked, Asked::NoFrame(_)) && !self.line.is_ended
+    }
+
+    /// The line that is passed on to the program, if one is.
+    fn passed_on(&self) -> Option<Vec<u8>> {
+        match &self.asked {
+            Asked::Call(call) => Some(call.line().into_bytes()),
+            Asked::NoFrame(_) => Some(self.line.text.clone()),
+            _ => None,
+        }
+    }
 }
 
 /// Hexadecimal digits alone, in whatever case. Every frame has a decimal one, and no word has.
@@ -85,6 +97,8 @@ pub struct Session {
     pub input: Input,
     language: Language,
     program: Option<Program>,
+    /// Turns of which the program was asked and whose answers were not taken yet.
+    ahead: VecDeque<Turn>,
 }
 
 impl Session {
@@ -93,49 +107,44 @@ impl Session {
             input,
             language,
             program: Some(Program::start()?),
+            ahead: VecDeque::new(),
         })
     }
 
-    /// The next turns: those of the lines that are there, as many as may be asked at a time; none where the input has ended.
-    pub fn next(&mut self) -> Result<Vec<Turn>, Failure> {
-        let mut turns = vec![];
+    /// The next turn; none where the input has ended. Of several turns that are asked together only one has its answers at a time, since
+    /// those to a chart may be many.
+    pub fn next(&mut self) -> Result<Option<Turn>, Failure> {
+        if self.ahead.is_empty() {
+            self.ask()?;
+        }
+        let Some(mut turn) = self.ahead.pop_front() else { return Ok(None) };
+        turn.answers = self.answers(&turn)?;
+        Ok(Some(turn))
+    }
+
+    /// Asks the lines that are there, as long as there is room for one more, however long it is.
+    fn ask(&mut self) -> Result<(), Failure> {
+        let mut lines = vec![];
         let mut length = 0;
-        while turns.is_empty() || (self.input.has_line() && length < LEAST_PIPE / 2) {
+        while self.ahead.is_empty() || (self.input.has_line() && length + length_asked(LONGEST) <= LEAST_PIPE) {
             let Some(line) = self.input.next()? else { break };
-            // The line, its line feed and the marker's.
-            length += line.text.len() + 2;
             let asked = asked_of(&line, self.language);
-            let answers = vec![];
-            turns.push(Turn { line, asked, answers });
+            let turn = Turn { line, asked, answers: vec![] };
+            let passed_on = turn.passed_on().filter(|_| !turn.is_cut());
+            length += passed_on.as_ref().map_or(0, |line| length_asked(line.len()));
+            lines.extend(passed_on);
+            self.ahead.push_back(turn);
         }
-        self.answer(&mut turns)?;
-        Ok(turns)
+        self.program.as_mut().map_or(Ok(()), |program| program.ask(&lines))
     }
 
-    fn answer(&mut self, turns: &mut [Turn]) -> Result<(), Failure> {
-        let is_last = |turn: &Turn| matches!(turn.asked, Asked::NoFrame(_)) && !turn.line.is_ended;
-        let (last, others): (Vec<&mut Turn>, Vec<&mut Turn>) = turns.iter_mut().partition(|turn| is_last(turn));
-        let asking = others.into_iter().filter_map(|turn| asked_line(turn).map(|line| (turn, line)));
-        let (asking, lines): (Vec<&mut Turn>, Vec<Vec<u8>>) = asking.unzip();
-        if let Some(program) = &mut self.program {
-            for (turn, answers) in asking.into_iter().zip(program.ask(&lines)?) {
-                turn.answers = answers;
-            }
+    fn answers(&mut self, turn: &Turn) -> Result<Vec<Frame>, Failure> {
+        if turn.is_cut() {
+            return self.program.take().map_or(Ok(vec![]), |program| program.ask_last(&turn.line.text));
         }
-        for turn in last {
-            if let Some(program) = self.program.take() {
-                turn.answers = program.ask_last(&turn.line.text)?;
-            }
+        match (&mut self.program, &turn.asked) {
+            (Some(program), Asked::Call(_) | Asked::NoFrame(_)) => program.answers(),
+            _ => Ok(vec![]),
         }
-        Ok(())
-    }
-}
-
-/// The line that is passed on to the program.
-fn asked_line(turn: &Turn) -> Option<Vec<u8>> {
-    match &turn.asked {
-        Asked::Call(call) => Some(call.line().into_bytes()),
-        Asked::NoFrame(_) => Some(turn.line.text.clone()),
-        _ => None,
     }
 }

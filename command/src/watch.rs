@@ -38,21 +38,16 @@ pub fn watch(recorded: &Recorded, watcher: &mut impl Watcher, has_bar: bool) -> 
     let mut session = Session::start(input, language)?;
     let mut progress = Progress::new(has_bar);
     let mut followed = Followed::default();
-    loop {
-        let turns = session.next()?;
-        if turns.is_empty() {
-            return Ok(followed);
-        }
-        for turn in &turns {
-            match &turn.asked {
-                Asked::End => return Ok(followed),
-                Asked::Nothing | Asked::Help => {}
-                Asked::Wrong(expected) => return Err(wrong_line(&turn.line, expected)),
-                Asked::Call(_) | Asked::NoFrame(_) => take(turn, &mut followed, watcher, &mut progress)?,
-            }
+    while let Some(turn) = session.next()? {
+        match &turn.asked {
+            Asked::End => break,
+            Asked::Nothing | Asked::Help => {}
+            Asked::Wrong(expected) => return Err(wrong_line(&turn.line, expected)),
+            Asked::Call(_) | Asked::NoFrame(_) => take(&turn, &mut followed, watcher, &mut progress)?,
         }
         progress.show(&session.input);
     }
+    Ok(followed)
 }
 
 fn take(turn: &Turn, followed: &mut Followed, watcher: &mut impl Watcher, progress: &mut Progress) -> Result<(), Failure> {

@@ -52,7 +52,8 @@ pub fn served(clients: usize, arrivals: &[Arrival]) -> Result<Vec<Option<u64>>, 
     };
     for steps in steps(clients, arrivals).chunks(AT_A_TIME) {
         let lines: Vec<Vec<u8>> = steps.iter().map(|step| step.call.line().into_bytes()).collect();
-        told.take(steps, &program.ask(&lines)?)?;
+        program.ask(&lines)?;
+        steps.iter().try_for_each(|step| told.take(step, &program.answers()?))?;
     }
     // Nothing more is asked, and the program is not left behind.
     program.ask_last(b"")?;
@@ -60,12 +61,9 @@ pub fn served(clients: usize, arrivals: &[Arrival]) -> Result<Vec<Option<u64>>, 
 }
 
 impl Told {
-    fn take(&mut self, steps: &[Step], answers: &[Vec<Frame>]) -> Result<(), Failure> {
-        for (step, answers) in steps.iter().zip(answers) {
-            let events = self.followed.take(&step.call, answers);
-            events.iter().try_for_each(|event| self.event(step, event))?;
-        }
-        Ok(())
+    fn take(&mut self, step: &Step, answers: &[Frame]) -> Result<(), Failure> {
+        let events = self.followed.take(&step.call, answers);
+        events.iter().try_for_each(|event| self.event(step, event))
     }
 
     fn event(&mut self, step: &Step, event: &Event) -> Result<(), Failure> {
@@ -84,6 +82,7 @@ impl Told {
 #[cfg(test)]
 mod tests {
     use super::*;
+    use crate::program::{length_asked, LEAST_PIPE};
 
     #[test]
     fn each_slot_has_its_submits_and_a_tick() {
@@ -103,8 +102,7 @@ mod tests {
 
     #[test]
     fn so_many_calls_fit_in_a_pipe() {
-        // A pipe holds at least 4,096 bytes; a line feed ends the line, and another is the marker.
-        let longest = step(SUBMIT, &[0, 0], None).call.line().len() + 2;
-        assert!(AT_A_TIME * longest <= 4_096);
+        let longest = step(SUBMIT, &[0, 0], None).call.line();
+        assert!(AT_A_TIME * length_asked(longest.len()) <= LEAST_PIPE);
     }
 }

@@ -1,7 +1,8 @@
 //! The command as it is run, and what is held of it.
 use std::env::{temp_dir, var_os};
-use std::fs::{create_dir_all, remove_dir_all};
+use std::fs::{create_dir_all, remove_dir_all, set_permissions, write, Permissions};
 use std::io::{Error, Result as IoResult};
+use std::os::unix::fs::PermissionsExt;
 use std::path::{Path, PathBuf};
 use std::process::{id, Command, Output};
 use tests::program::run;
@@ -91,6 +92,14 @@ impl Welsbell {
         let mut command = Command::new(&self.path);
         command.args(arguments.split_whitespace());
         command
+    }
+
+    /// A program in the folder: lines for the shell.
+    pub fn script(&self, name: &str, lines: &str) -> IoResult<PathBuf> {
+        let path = self.folder.join(name);
+        write(&path, format!("#!/bin/sh\n{lines}\n"))?;
+        set_permissions(&path, Permissions::from_mode(0o755))?;
+        Ok(path)
     }
 
     pub fn ended(&self, arguments: &str, input: impl Into<Vec<u8>>) -> Result<Ended, String> {

@@ -17,6 +17,10 @@ const PARTS: usize = 800;
 /// Each time two reads come of which one is dropped, one slot serves and one is idle: four lines.
 const TIMES: u64 = 250_000;
 
+const RECORDS: u16 = 2_048;
+const CHARTS: usize = 600;
+const EMPTY: usize = 100_000;
+
 /// How the command came to its end, its most memory in megabytes, and its seconds.
 struct Fed {
     ended: Ended,
@@ -91,6 +95,13 @@ fn a_million_lines() -> String {
     open(2, 1_000, 8) + &(0..TIMES).map(four).collect::<String>()
 }
 
+/// Charts with as many segments as there can be, and then more empty lines than a pipe and a buffer hold, which only say that all charts
+/// were answered when memory is looked at.
+fn many_charts() -> String {
+    let submits: String = (1..=RECORDS).map(|place| format!("\n{}", submit(0, 2 * u64::from(place)))).collect();
+    open(1, 1_000, RECORDS) + &submits + &"\n05".repeat(CHARTS) + &"\n".repeat(EMPTY)
+}
+
 /// The summary of a million lines, by arithmetic.
 fn hold_summary(fed: &Fed) -> Result<(), String> {
     fed.hold(0, &["Opened in line 1", "Refused: nothing."], &[])?;
@@ -109,6 +120,8 @@ pub fn hold(welsbell: &Welsbell, checks: &mut Checks) {
     let lines = a_million_lines();
     let million = |arguments: &str| fed(welsbell, arguments, lines.as_bytes(), 1);
     hold_fed("read --summary, a million lines", million("read --summary -"), hold_summary, checks);
+    let charts = fed(welsbell, "read --summary -", many_charts().as_bytes(), 1);
+    hold_fed("read --summary, charts of 2,048 segments", charts, |fed| fed.hold(0, &["Refused: 100,000 lines "], &[]), checks);
     let is_same = |fed: &Fed| if fed.ended.out.trim_end() == lines { fed.hold(0, &["\n"], &[]) } else { Err("they are others".into()) };
     hold_fed("frames, a million lines", million("frames -"), is_same, checks);
 }

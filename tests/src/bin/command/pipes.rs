@@ -1,6 +1,6 @@
 //! The command in a pipe: good, bad and empty input, wrong arguments, files and programs that are not there, readers that go away.
 use crate::checks::{ended, Checks, Ended, Welsbell, VARIABLE};
-use std::fs::{copy, create_dir_all, write, File, OpenOptions};
+use std::fs::{copy, create_dir_all, read_to_string, write, File, OpenOptions};
 use std::io::{pipe, BufRead, BufReader, Error, Result as IoResult, Write};
 use std::path::Path;
 use std::process::{Command, Stdio};
@@ -77,6 +77,9 @@ const FILES: [(&str, &str); 5] = [
 /// A session in words.
 const WORDS: &str = "open clients 1 period 1 records 1\ntick\n";
 
+/// In bytes.
+const LEAST_PIPE: usize = 4_096;
+
 /// An answer takes much less.
 const LIMIT: Duration = Duration::from_secs(20);
 
@@ -141,6 +144,22 @@ fn hold_programs(welsbell: &Welsbell, checks: &mut Checks) {
     let copied = copied.and_then(|_| copy(&welsbell.program, alone.join("session_main")));
     hold("a session program beside the command", run_alone("run"), 0, &["opened\nslot 0"], &[]);
     checks.hold("copies", copied.map(drop).map_err(|error| error.to_string()));
+}
+
+/// However lines are written, no more is asked before an answer is read than the smallest pipe holds.
+fn hold_asked(welsbell: &Welsbell, checks: &mut Checks) -> IoResult<()> {
+    let asked = welsbell.folder.join("asked.txt");
+    // It reads once, when there is all that is asked, and ends.
+    let program = welsbell.script("counting", &format!("sleep 0.2; dd bs=65536 count=1 2>/dev/null | wc -c >'{}'", asked.display()))?;
+    let long = "0".repeat(1_100) + "\n";
+    for (what, lines) in [("short frames", "03\n".repeat(9_000)), ("long lines", long.repeat(9)), ("words", "submit 0 by 1\n".repeat(136) + &long)] {
+        let ended = ended(welsbell.command("read -").env(VARIABLE, &program), lines);
+        checks.hold(what, ended.and_then(|ended| ended.hold(1, &[], &["the session program "])));
+        let bytes: usize = read_to_string(&asked)?.trim().parse().map_err(Error::other)?;
+        let is_held = (1_000..=LEAST_PIPE).contains(&bytes);
+        checks.hold(what, is_held.then_some(()).ok_or_else(|| format!("{bytes} bytes were asked at a time")));
+    }
+    Ok(())
 }
 
 /// Where nobody reads, the command ends without a word; where the disk is full, it says so.
@@ -213,6 +232,8 @@ pub fn hold(welsbell: &Welsbell, checks: &mut Checks) {
     hold_files(welsbell, checks);
     hold_programs(welsbell, checks);
     hold_pieces(welsbell, checks);
+    let asked = hold_asked(welsbell, checks);
+    checks.hold("what is asked at a time", asked.map_err(|error| error.to_string()));
     let readers = hold_readers(welsbell, checks);
     checks.hold("readers", readers.map_err(|error| error.to_string()));
     checks.hold("a dialogue in a pipe", hold_dialogue(welsbell).map_err(|error| error.to_string()));

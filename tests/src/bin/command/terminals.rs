@@ -1,9 +1,8 @@
 //! The command at a terminal: prompt, help and the end of a dialogue, and the bar for whoever waits for a long file.
 use crate::checks::{ended, Checks, Welsbell, VARIABLE};
 use crate::terminal::{screen, Terminal};
-use std::fs::{read_to_string, set_permissions, write, File, Permissions};
+use std::fs::{read_to_string, write, File};
 use std::io::{Error, Result as IoResult};
-use std::os::unix::fs::PermissionsExt;
 use std::path::{Path, PathBuf};
 use std::process::Command;
 use tests::frames::{open, submit, TICK};
@@ -57,13 +56,10 @@ fn long_file(welsbell: &Welsbell) -> IoResult<PathBuf> {
 
 /// A session program that takes its time in the middle of the file, so that there is something to wait for on any machine.
 fn slow_program(welsbell: &Welsbell, file: &Path) -> IoResult<PathBuf> {
-    let path = welsbell.folder.join("slow");
     // The command writes an empty line behind each, so that half of the file's lines are this many.
     let lines = read_to_string(file)?.lines().count();
     let program = welsbell.program.display();
-    write(&path, format!("#!/bin/sh\n{{ sed --unbuffered {lines}q; sleep 0.6; cat; }} | '{program}'\n"))?;
-    set_permissions(&path, Permissions::from_mode(0o755))?;
-    Ok(path)
+    welsbell.script("slow", &format!("{{ sed --unbuffered {lines}q; sleep 0.6; cat; }} | '{program}'"))
 }
 
 /// A long file to wait for, and where its output goes.
