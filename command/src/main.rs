@@ -22,7 +22,7 @@ mod words;
 use failure::Failure;
 use session::Language;
 use std::env::args_os;
-use std::io::{stdout, Write};
+use std::io::{stderr, stdout, Write};
 use std::process::exit;
 use watch::Recorded;
 
@@ -69,15 +69,12 @@ fn usage() -> Result<(), Failure> {
 fn main() {
     let arguments: Vec<String> = args_os().skip(1).map(|argument| argument.to_string_lossy().into_owned()).collect();
     let arguments: Vec<&str> = arguments.iter().map(String::as_str).collect();
-    match command(&arguments) {
-        Ok(()) | Err(Failure::Closed) => {}
-        Err(Failure::Failed(message)) => {
-            eprintln!("welsbell: {message}");
-            exit(1);
-        }
-        Err(Failure::Wrong(message)) => {
-            eprintln!("welsbell: {message}");
-            exit(2);
-        }
-    }
+    let (message, code) = match command(&arguments) {
+        Ok(()) | Err(Failure::Closed) => return,
+        Err(Failure::Failed(message)) => (message, 1),
+        Err(Failure::Wrong(message)) => (message, 2),
+    };
+    // Where nobody can be told, the code says it.
+    let _ = writeln!(stderr(), "welsbell: {message}");
+    exit(code);
 }

@@ -1,6 +1,7 @@
 //! Goes through a recorded session from its first line to its last.
 use crate::failure::{wrong_line, Failure};
 use crate::follow::{Event, Followed};
+use crate::frames::{Frame, REFUSED};
 use crate::input::Input;
 use crate::progress::Progress;
 use crate::session::{Asked, Language, Session, Turn};
@@ -58,10 +59,18 @@ fn take(turn: &Turn, followed: &mut Followed, watcher: &mut impl Watcher, progre
     watcher.turn(turn, followed)?;
     let events = match &turn.asked {
         Asked::Call(call) => followed.take(call, &turn.answers),
-        _ => turn.answers.iter().map(|answer| Event::Refused(answer["number"])).collect(),
+        _ => turn.answers.iter().map(|answer| refusal(turn, answer)).collect::<Result<_, _>>()?,
     };
     for event in &events {
         watcher.event(event, followed);
     }
     Ok(())
+}
+
+/// The refusal of a line that is no frame here. To another version of the program it may be one.
+fn refusal(turn: &Turn, answer: &Frame) -> Result<Event, Failure> {
+    match answer.kind() {
+        REFUSED => Ok(Event::Refused(answer["number"])),
+        _ => Err(Failure::Failed(format!("the session program answered line {} with `{}`", turn.line.number, answer.words()))),
+    }
 }

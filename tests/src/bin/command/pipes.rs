@@ -119,6 +119,16 @@ fn hold_files(welsbell: &Welsbell, checks: &mut Checks) {
     checks.hold("welsbell run, given a folder", held);
 }
 
+/// Where nobody can be told what is wrong, the exit code says it.
+fn hold_untold(welsbell: &Welsbell, checks: &mut Checks) -> IoResult<()> {
+    for (arguments, code) in [("fly", 2), ("read /nowhere/file", 1)] {
+        let full = OpenOptions::new().write(true).open("/dev/full")?;
+        let held = output(welsbell.command(arguments).stderr(full)).and_then(|ended| ended.hold(code, &[], &[]));
+        checks.hold(&format!("welsbell {arguments}, untold"), held);
+    }
+    Ok(())
+}
+
 fn output(command: &mut Command) -> Result<Ended, String> {
     command.output().map(Ended::from).map_err(|error| error.to_string())
 }
@@ -141,6 +151,10 @@ fn hold_programs(welsbell: &Welsbell, checks: &mut Checks) {
     hold("a session program that is not there", run_with("/nowhere/program"), 1, &[], &["/nowhere/program: ", to_do, VARIABLE]);
     hold("a session program that ends", run_with("/bin/true"), 1, &[], &["the session program "]);
     hold("a session program that is another", run_with("/bin/cat"), 1, &[], &["the session program answered "]);
+    // It takes every line for an open.
+    let newer = welsbell.script("newer", "sed -u 's/^$/FF01/; t; s/.*/81/'").map_err(|error| error.to_string());
+    let newer = newer.and_then(|newer| ended(welsbell.command("read -").env(VARIABLE, newer), "7F\n"));
+    hold("a session program that knows other frames", newer, 1, &["opened"], &["the session program answered line 1 with `opened`"]);
     let copied = copied.and_then(|_| copy(&welsbell.program, alone.join("session_main")));
     hold("a session program beside the command", run_alone("run"), 0, &["opened\nslot 0"], &[]);
     checks.hold("copies", copied.map(drop).map_err(|error| error.to_string()));
@@ -232,6 +246,8 @@ pub fn hold(welsbell: &Welsbell, checks: &mut Checks) {
     hold_files(welsbell, checks);
     hold_programs(welsbell, checks);
     hold_pieces(welsbell, checks);
+    let untold = hold_untold(welsbell, checks);
+    checks.hold("untold", untold.map_err(|error| error.to_string()));
     let asked = hold_asked(welsbell, checks);
     checks.hold("what is asked at a time", asked.map_err(|error| error.to_string()));
     let readers = hold_readers(welsbell, checks);
