@@ -1,7 +1,8 @@
 //! What the lines and answers of a session show: the reads that wait, the clock, what became of each client's reads. It is read off
 //! the answers of the proved program; nothing is decided here.
-use crate::frames::{Frame, CHARTED, DROPPED, IDLE, KEPT, OPENED, REFUSED, SEGMENT, SERVED};
+use crate::frames::{Frame, CHARTED, DROPPED, IDLE, KEPT, OPENED, REFUSED, SEGMENT, SERVED, TICK};
 use std::collections::BTreeMap;
+use std::iter::Sum;
 
 /// A read that was taken in. Reads go by deadline and then by number, which is chart order.
 #[derive(Clone, Copy, Debug, PartialEq, Eq, PartialOrd, Ord)]
@@ -21,6 +22,23 @@ pub struct Counts {
     pub dropped: u64,
 }
 
+impl Counts {
+    /// The miss ratio: how many were dropped, and of how many.
+    pub fn missed(&self) -> (u64, u64) {
+        (self.dropped, self.submitted)
+    }
+}
+
+impl<'a> Sum<&'a Counts> for Counts {
+    fn sum<I: Iterator<Item = &'a Counts>>(counts: I) -> Counts {
+        counts.fold(Counts::default(), |sum, next| Counts {
+            submitted: sum.submitted + next.submitted,
+            served: sum.served + next.served,
+            dropped: sum.dropped + next.dropped,
+        })
+    }
+}
+
 /// What one answer says.
 #[derive(Debug)]
 pub enum Event {
@@ -36,6 +54,11 @@ pub enum Event {
     Refused(u64),
     /// A report.
     Other,
+}
+
+/// "The clock .. is the number of ticks .. that were not refused, whatever they answered."
+pub fn passes_slot(call: &Frame, answers: &[Frame]) -> bool {
+    call.kind() == TICK && answers.iter().all(|answer| answer.kind() != REFUSED)
 }
 
 /// A session since its last accepted open.
@@ -63,7 +86,7 @@ impl Followed {
             return vec![Event::Charted(segments.map(|segment| (segment["left"], segment["right"])).collect())];
         }
         let events: Vec<Event> = answers.iter().map(|answer| self.event(call, answer)).collect();
-        if events.iter().any(|event| matches!(event, Event::Served { .. } | Event::Idle { .. })) {
+        if passes_slot(call, answers) {
             self.end_slot();
         }
         events

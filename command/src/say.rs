@@ -44,10 +44,11 @@ fn dropped(turn: &Turn, answer: &Frame, followed: &Followed) -> String {
         false => answer.words(),
     };
     let missed = |client: u64| {
-        let counts = followed.in_period[client as usize];
+        let mut counts = followed.in_period[client as usize];
         // "the new request already counted in submitted"
-        let submitted = counts.submitted + u64::from(client == new_client);
-        format!("{} of {submitted} by client {client}", counts.dropped)
+        counts.submitted += u64::from(client == new_client);
+        let (dropped, of) = counts.missed();
+        format!("{dropped} of {of} by client {client}")
     };
     let mut ratios = missed(answer["client"]);
     if answer["client"] != new_client {

@@ -8,8 +8,16 @@ use std::fmt::{self, Display, Formatter};
 #[derive(Clone, Copy, Default)]
 struct Stretch {
     first: u64,
+    /// The slot behind the last.
+    end: u64,
     served: u64,
     dropped: u64,
+}
+
+impl Stretch {
+    fn slots(&self) -> u64 {
+        self.end - self.first
+    }
 }
 
 #[derive(Default)]
@@ -40,6 +48,7 @@ impl Summary {
             Event::Idle { .. } => {
                 self.idle += 1;
                 self.stretch = Stretch::default();
+                self.dropped = 0;
             }
             Event::Refused(number) => *self.refused.entry(*number).or_default() += 1,
             _ => {}
@@ -53,9 +62,11 @@ impl Summary {
         if self.stretch.served == 0 {
             self.stretch.first = slot;
         }
+        self.stretch.end = slot + 1;
         self.stretch.served += 1;
         self.stretch.dropped += std::mem::take(&mut self.dropped);
-        if self.stretch.served > self.busiest.served {
+        // One that has begun in the same slot is the same one.
+        if self.stretch.slots() > self.busiest.slots() || self.stretch.first == self.busiest.first {
             self.busiest = self.stretch;
         }
     }
@@ -83,17 +94,12 @@ impl Shown<'_> {
 
     fn write_clients(&self, f: &mut Formatter) -> fmt::Result {
         writeln!(f, "client  submitted     served    dropped  waiting  miss ratio")?;
-        let mut all = Counts::default();
-        for (client, counts) in self.followed.clients.iter().enumerate() {
-            all.submitted += counts.submitted;
-            all.served += counts.served;
-            all.dropped += counts.dropped;
-            if counts.submitted > 0 {
-                write_row(f, &client.to_string(), counts, self.waiting_of(client))?;
-            }
+        let clients = &self.followed.clients;
+        for (client, counts) in clients.iter().enumerate().filter(|(_, counts)| counts.submitted > 0) {
+            write_row(f, &client.to_string(), counts, self.waiting_of(client))?;
         }
-        write_row(f, "all", &all, self.followed.waiting.len() as u64)?;
-        let silent = self.followed.clients.iter().filter(|counts| counts.submitted == 0).count() as u64;
+        write_row(f, "all", &clients.iter().sum(), self.followed.waiting.len() as u64)?;
+        let silent = clients.iter().filter(|counts| counts.submitted == 0).count() as u64;
         if silent > 0 {
             writeln!(f, "{} submitted nothing.", counted(silent, "client"))?;
         }
@@ -108,8 +114,8 @@ impl Shown<'_> {
             "Longest wait: {wait}, number {} of client {}, submitted at clock {} and served in slot {slot}.",
             read.number, read.client, read.since
         )?;
-        let Stretch { first, served, dropped } = self.summary.busiest;
-        let (last, reads) = (first + served - 1, counted(served, "read"));
+        let Stretch { first, end, served, dropped } = self.summary.busiest;
+        let (last, reads) = (end - 1, counted(served, "read"));
         writeln!(
             f,
             "Busiest stretch: slots {first} to {last}, {reads} served without an idle slot, {} dropped.",
@@ -131,7 +137,8 @@ impl Shown<'_> {
 
 fn write_row(f: &mut Formatter, name: &str, counts: &Counts, waiting: u64) -> fmt::Result {
     let [submitted, served, dropped] = [counts.submitted, counts.served, counts.dropped].map(grouped);
-    let ratio = share(counts.dropped, counts.submitted);
+    let (missed, of) = counts.missed();
+    let ratio = share(missed, of);
     writeln!(f, "{name:>6} {submitted:>10} {served:>10} {dropped:>10} {waiting:>8}  {ratio:>10}")
 }
 
@@ -155,5 +162,36 @@ impl Display for Shown<'_> {
         self.write_clients(f)?;
         self.write_longest(f)?;
         self.write_refused(f)
+    }
+}
+
+#[cfg(test)]
+mod tests {
+    use super::*;
+
+    /// What is left of events, each of which is a drop, an idle slot or a read that is served.
+    fn busiest(events: &[Event]) -> (u64, u64, u64, u64) {
+        let mut summary = Summary::default();
+        events.iter().for_each(|event| summary.take(event));
+        let Stretch { first, end, served, dropped } = summary.busiest;
+        (first, end, served, dropped)
+    }
+
+    const READ: Read = Read { deadline: 9, number: 1, client: 0, since: 0 };
+
+    fn served(slot: u64) -> Event {
+        Event::Served { slot, read: READ }
+    }
+
+    #[test]
+    fn a_stretch_is_as_long_as_its_slots() {
+        assert_eq!(busiest(&[served(0), served(0), served(0), Event::Idle { slot: 1 }, served(2), served(3)]), (2, 4, 2, 0));
+        assert_eq!(busiest(&[served(4), served(4)]), (4, 5, 2, 0));
+    }
+
+    #[test]
+    fn drops_belong_to_the_slot_that_comes() {
+        let dropped = || Event::Dropped(READ, READ);
+        assert_eq!(busiest(&[dropped(), Event::Idle { slot: 0 }, dropped(), served(1), dropped()]), (1, 2, 1, 1));
     }
 }

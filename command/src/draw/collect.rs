@@ -7,8 +7,7 @@ pub mod evenly;
 pub mod recent;
 
 use crate::failure::Failure;
-use crate::follow::{Counts, Event, Followed, Read};
-use crate::frames::{OPENED, REFUSED, TICK};
+use crate::follow::{passes_slot, Counts, Event, Followed, Read};
 use crate::session::{Asked, Turn};
 use crate::watch::Watcher;
 use chart::Chart;
@@ -53,10 +52,12 @@ impl Ended {
 
 /// The miss ratios as the queue counts them, since the period began: by client, and that of all together last.
 fn ratios(followed: &Followed) -> impl Iterator<Item = f64> + '_ {
-    let ratio = |dropped: u64, submitted: u64| dropped as f64 / submitted.max(1) as f64;
-    let counts = &followed.in_period;
-    let all = ratio(counts.iter().map(|counts| counts.dropped).sum(), counts.iter().map(|counts| counts.submitted).sum());
-    counts.iter().map(move |counts: &Counts| ratio(counts.dropped, counts.submitted)).chain([all])
+    let ratio = |counts: &Counts| {
+        let (dropped, of) = counts.missed();
+        dropped as f64 / of.max(1) as f64
+    };
+    let all = ratio(&followed.in_period.iter().sum());
+    followed.in_period.iter().map(ratio).chain([all])
 }
 
 impl Collected {
@@ -153,11 +154,9 @@ impl Collector {
 impl Watcher for Collector {
     fn turn(&mut self, turn: &Turn, before: &Followed) -> Result<(), Failure> {
         self.line = turn.line.number;
-        let has = |kind: u8| turn.answers.iter().any(|answer| answer.kind() == kind);
-        let is_tick = matches!(&turn.asked, Asked::Call(call) if call.kind() == TICK);
-        match &mut self.current {
-            Some(_) if has(OPENED) => self.end(before),
-            Some(current) if is_tick && !has(REFUSED) => current.pass(before),
+        match (&mut self.current, &turn.asked) {
+            (Some(_), _) if turn.is_opened() => self.end(before),
+            (Some(current), Asked::Call(call)) if passes_slot(call, &turn.answers) => current.pass(before),
             _ => {}
         }
         Ok(())

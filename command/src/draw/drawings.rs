@@ -17,14 +17,12 @@ const ALL_CHARTS: usize = 120;
 
 /// The counts of the clients in a row, or of all, with how many of their reads wait.
 fn row(session: &Ended, name: String, is_in: impl Fn(usize) -> bool) -> Vec<String> {
-    let sum = |count: fn(&Counts) -> u64| -> u64 {
-        let clients = session.followed.clients.iter().enumerate().filter(|(client, _)| is_in(*client));
-        clients.map(|(_, counts)| count(counts)).sum()
-    };
-    let (submitted, dropped) = (sum(|counts| counts.submitted), sum(|counts| counts.dropped));
+    let clients = session.followed.clients.iter().enumerate().filter(|(client, _)| is_in(*client));
+    let counts: Counts = clients.map(|(_, counts)| counts).sum();
     let waiting = session.followed.waiting.values().filter(|read| is_in(read.client as usize)).count() as u64;
-    let counts = [submitted, sum(|counts| counts.served), dropped, waiting].map(grouped);
-    [name].into_iter().chain(counts).chain([share(dropped, submitted)]).collect()
+    let (missed, of) = counts.missed();
+    let shown = [counts.submitted, counts.served, counts.dropped, waiting].map(grouped);
+    [name].into_iter().chain(shown).chain([share(missed, of)]).collect()
 }
 
 fn counts(session: &Ended) -> String {

@@ -19,9 +19,9 @@ pub fn setup(session: &Ended) -> String {
 /// What it came to.
 pub fn outcome(session: &Ended) -> String {
     let Ended { collected, followed, .. } = session;
-    let sum = |count: fn(&Counts) -> u64| followed.clients.iter().map(count).sum::<u64>();
-    let reads = counted(sum(|counts| counts.submitted), "read");
-    let [served, dropped] = [sum(|counts| counts.served), sum(|counts| counts.dropped)].map(grouped);
+    let counts: Counts = followed.clients.iter().sum();
+    let reads = counted(counts.submitted, "read");
+    let [served, dropped] = [counts.served, counts.dropped].map(grouped);
     let (slots, idle) = (counted(followed.clock, "slot"), grouped(collected.idle));
     let waiting = grouped(followed.waiting.len() as u64);
     let refused = refused(collected.refused);
