@@ -52,7 +52,7 @@ pub static ANSWERS: [Kind; 9] = [
     kind(
         DROPPED,
         &[("number", 8), ("victim", 8), ("client", 2)],
-        "number {number} is kept, number {victim} of client {client} is dropped",
+        "kept: number {number}; dropped: number {victim} of client {client}",
     ),
     kind(
         SERVED,

@@ -19,8 +19,8 @@ pub fn counted(number: u64, name: &str) -> String {
     format!("{} {name}{plural}", grouped(number))
 }
 
-/// The share that a part is of a whole, to three places, rounded down; that of nothing is 0.
+/// The share that a part is of a whole, to the nearest thousandth; that of nothing is 0.
 pub fn share(part: u64, whole: u64) -> String {
-    let thousandths = (1_000 * part).checked_div(whole).unwrap_or_default();
+    let thousandths = (1_000 * part + whole / 2).checked_div(whole).unwrap_or_default();
     format!("{}.{:03}", thousandths / 1_000, thousandths % 1_000)
 }

@@ -9,7 +9,7 @@ table { border-collapse: collapse; } th, td { padding: .2rem .8rem; text-align: 
 th:first-child, td:first-child { text-align: left; }\n\
 .wide { overflow-x: auto; } .wide svg { max-width: none; }\n\
 .drawings { overflow-x: auto; } .drawings svg { max-width: max(100%, 44rem); }\n\
-th, td { white-space: nowrap; }";
+td { white-space: nowrap; }";
 
 /// A page with a title and what stands on it, in HTML.
 pub fn page(title: &str, body: &str) -> String {

@@ -8,12 +8,13 @@ use crate::watch::{watch, Recorded, Watcher};
 use std::io::{stdout, BufWriter, IsTerminal, StdoutLock, Write};
 
 /// How wide the words of most calls are, so that answers stand below each other.
-const ASKED: usize = 40;
+const ASKED: usize = 38;
 
 struct Reader {
     out: BufWriter<StdoutLock<'static>>,
     has_lines: bool,
     has_written: bool,
+    is_over: bool,
     summary: Summary,
 }
 
@@ -37,7 +38,7 @@ impl Reader {
     }
 
     fn end_summary(&mut self, followed: &Followed) -> Result<(), Failure> {
-        if !self.summary.is_empty(followed) {
+        if !self.summary.is_empty(followed) || self.is_over && !self.has_written {
             self.end_paragraph()?;
             writeln!(self.out, "{}", self.summary.shown(followed))?;
             // No line may stand half written when the bar comes.
@@ -70,10 +71,12 @@ pub fn read(recorded: &Recorded, has_lines: bool) -> Result<(), Failure> {
         out: BufWriter::new(stdout().lock()),
         has_lines,
         has_written: false,
+        is_over: false,
         summary: Summary::default(),
     };
     let has_bar = !has_lines || !stdout().is_terminal();
     let followed = watch(recorded, &mut reader, has_bar)?;
+    reader.is_over = true;
     reader.end_summary(&followed)?;
     reader.out.flush()?;
     Ok(())

@@ -14,7 +14,7 @@ fn help() -> String {
     let forms: Vec<String> = CALLS.iter().map(|kind| format!("  {}", kind.form())).collect();
     format!(
         "One call a line:\n{}\nA deadline is a slot counted from the open: a read by 2 has to be served in slot 0 or 1.\n\
-         Frames are understood too, and # begins a comment. `quit` ends.",
+         Frames are understood too. A line that begins with # is a comment. `quit` ends.",
         forms.join("\n")
     )
 }
@@ -36,7 +36,7 @@ pub fn run() -> Result<(), Failure> {
         let Some(turn) = session.next()? else { return end(&mut out, is_dialogue) };
         match &turn.asked {
             Asked::End => return Ok(()),
-            Asked::Wrong(expected) if is_dialogue => writeln!(out, "{expected}")?,
+            Asked::Wrong(expected) if is_dialogue => writeln!(out, "{expected}; `help` tells more")?,
             Asked::Wrong(expected) => {
                 out.flush()?;
                 return Err(wrong_line(&turn.line, expected));

@@ -33,28 +33,28 @@ fn said(turn: &Turn, answer: &Frame, followed: &Followed) -> String {
     }
 }
 
-/// A drop, with the miss ratios of the two clients, as far as they are two, that it was between.
+/// A drop, with the miss ratio of the victim's client and, where that is another, of the new read's client.
 fn dropped(turn: &Turn, answer: &Frame, followed: &Followed) -> String {
     let new_client = match &turn.asked {
         Asked::Call(call) => call["client"],
         _ => answer["client"],
-    };
-    let said = match answer["victim"] == answer["number"] {
-        true => format!("number {} is itself dropped", answer["number"]),
-        false => answer.words(),
     };
     let missed = |client: u64| {
         let mut counts = followed.in_period[client as usize];
         // "the new request already counted in submitted"
         counts.submitted += u64::from(client == new_client);
         let (dropped, of) = counts.missed();
-        format!("{dropped} of {of} by client {client}")
+        format!("client {client} missed {dropped} of {of}")
+    };
+    let said = match answer["victim"] == answer["number"] {
+        true => format!("dropped: number {} itself", answer["number"]),
+        false => answer.words(),
     };
     let mut ratios = missed(answer["client"]);
     if answer["client"] != new_client {
         ratios = format!("{ratios}, {}", missed(new_client));
     }
-    format!("{said}; missed before: {ratios}")
+    format!("{said}; {ratios}")
 }
 
 fn charted(answers: &[Frame]) -> String {

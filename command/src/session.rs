@@ -1,11 +1,14 @@
 //! A session as it goes: lines in words or frames, each with the answers of the proved program to it.
-use crate::failure::Failure;
+use crate::failure::{wrong_line, Failure};
 use crate::frames::{Frame, NoFrame, CALLS, OPENED};
 use crate::input::{Input, Line, LONGEST};
 use crate::numbers::grouped;
 use crate::program::{length_asked, Program, LEAST_PIPE};
 use crate::words::{are_words, call_of};
 use std::collections::VecDeque;
+
+/// Some editors write it before the first line of a text.
+const BYTE_ORDER_MARK: char = '\u{feff}';
 
 /// In what an input is written.
 #[derive(Clone, Copy, PartialEq, Eq)]
@@ -19,8 +22,12 @@ pub enum Language {
 impl Language {
     /// By the first line that has something in it.
     pub fn of(input: &mut Input) -> Result<Language, Failure> {
-        let is_in_words = input.first()?.is_some_and(|line| are_words(&String::from_utf8_lossy(&line.text)));
-        Ok(if is_in_words { Language::Words } else { Language::Frames })
+        let Some(line) = input.first()? else { return Ok(Language::Words) };
+        match String::from_utf8_lossy(&line.text).trim_start_matches(BYTE_ORDER_MARK).trim() {
+            text if are_words(text) => Ok(Language::Words),
+            text if looks_like_a_frame(text) => Ok(Language::Frames),
+            _ => Err(wrong_line(line, "expected words or a frame; with --frames every line is taken for a frame")),
+        }
     }
 }
 
@@ -73,7 +80,7 @@ fn looks_like_a_frame(line: &str) -> bool {
 /// What a line asks in this language.
 pub fn asked_of(line: &Line, language: Language) -> Asked {
     let text = String::from_utf8_lossy(&line.text);
-    let words = text.trim();
+    let words = text.trim_start_matches(BYTE_ORDER_MARK).trim();
     if language == Language::Frames || looks_like_a_frame(words) {
         return match Frame::read(&line.text, &CALLS) {
             _ if !line.is_ended => Asked::NoFrame(NoFrame::NoLineFeed),

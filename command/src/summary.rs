@@ -101,7 +101,7 @@ impl Shown<'_> {
         write_row(f, "all", &clients.iter().sum(), self.followed.waiting.len() as u64)?;
         let silent = clients.iter().filter(|counts| counts.submitted == 0).count() as u64;
         if silent > 0 {
-            writeln!(f, "{} submitted nothing.", counted(silent, "client"))?;
+            writeln!(f, "{} had no read taken in.", counted(silent, "client"))?;
         }
         Ok(())
     }
@@ -128,10 +128,10 @@ impl Shown<'_> {
         if refused.is_empty() {
             return write!(f, "Refused: nothing.");
         }
-        let by_number = refused.iter().map(|(number, times)| format!("{number}: {}", grouped(*times)));
+        let by_number = refused.iter().map(|(number, times)| format!("number {number}: {}", grouped(*times)));
         let by_number: Vec<String> = by_number.collect();
         let all = counted(refused.values().sum(), "line");
-        write!(f, "Refused: {all} (by the refusal's number: {}).", by_number.join(", "))
+        write!(f, "Refused: {all} ({}).", by_number.join(", "))
     }
 }
 

@@ -13,10 +13,9 @@ pub fn frames(file: &str) -> Result<(), Failure> {
         match asked_of(&line, Language::Words) {
             Asked::Call(call) => writeln!(out, "{}", call.line())?,
             Asked::Nothing => {}
-            Asked::End => break,
             Asked::Wrong(expected) => return Err(wrong(expected)),
             Asked::NoFrame(reason) => return Err(wrong(format!("expected words or a frame: {reason}"))),
-            Asked::Help => return Err(wrong("expected a call".into())),
+            Asked::End | Asked::Help => return Err(wrong("expected a call: this is for `welsbell run`".into())),
         }
     }
     out.flush()?;

@@ -41,8 +41,8 @@ pub fn watch(recorded: &Recorded, watcher: &mut impl Watcher, has_bar: bool) -> 
     let mut followed = Followed::default();
     while let Some(turn) = session.next()? {
         match &turn.asked {
-            Asked::End => break,
-            Asked::Nothing | Asked::Help => {}
+            Asked::Nothing => {}
+            Asked::End | Asked::Help => return Err(wrong_line(&turn.line, "expected a call: this is for `welsbell run`")),
             Asked::Wrong(expected) => return Err(wrong_line(&turn.line, expected)),
             Asked::Call(_) | Asked::NoFrame(_) => take(&turn, &mut followed, watcher, &mut progress)?,
         }

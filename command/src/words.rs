@@ -1,6 +1,5 @@
 //! What a person writes: calls in words, by the table of frames.
 use crate::frames::{most, Frame, Kind, CALLS};
-use crate::numbers::grouped;
 
 /// The call that a line of words asks for, or what was expected in its place.
 pub fn call_of(line: &str) -> Result<Frame, String> {
@@ -9,7 +8,7 @@ pub fn call_of(line: &str) -> Result<Frame, String> {
     let kind = CALLS.iter().find(|kind| first.as_deref() == Some(kind.name()));
     let Some(kind) = kind else {
         let names: Vec<&str> = CALLS.iter().map(Kind::name).collect();
-        return Err(format!("expected {} or a frame; `help` tells more", names.join(", ")));
+        return Err(format!("expected {} or a frame", names.join(", ")));
     };
     let values = values_of(&words, kind)?;
     Ok(Frame::new(kind, values))
@@ -31,16 +30,22 @@ fn values_of(words: &[&str], kind: &'static Kind) -> Result<Vec<u64>, String> {
     Ok(values)
 }
 
-/// A number in decimal digits, in which commas or underscores may stand.
+/// Whether it is decimal digits, with a comma before each three of them or with none.
+fn is_number(word: &str) -> bool {
+    let mut groups = word.split(',');
+    let first = groups.next().unwrap_or_default();
+    let are_digits = word.bytes().all(|byte| byte.is_ascii_digit() || byte == b',');
+    let has_groups = word.contains(',');
+    are_digits && !first.is_empty() && (first.len() <= 3 || !has_groups) && groups.all(|group| group.len() == 3)
+}
+
 fn value_of(word: &str, name: &str, width: usize) -> Result<u64, String> {
-    let digits = word.replace([',', '_'], "");
-    let is_number = !digits.is_empty() && digits.bytes().all(|byte| byte.is_ascii_digit());
-    if !is_number {
+    if !is_number(word) {
         // A recorded file may have anything in it, and a terminal obeys some characters.
         return Err(format!("expected a number for {name}, not `{}`", word.escape_debug()));
     }
-    let value = digits.parse().ok().filter(|&value| value <= most(width));
-    value.ok_or_else(|| format!("expected a number of at most {} for {name}, since its field has {width} bytes", grouped(most(width))))
+    let value = word.replace(',', "").parse().ok().filter(|&value| value <= most(width));
+    value.ok_or_else(|| format!("{word} does not fit in {name}, whose field has {width} bytes"))
 }
 
 /// Whether a line begins as a line of words does, or is a comment.

@@ -129,7 +129,7 @@ impl List {
     }
 
     pub fn has_silent(&self) -> bool {
-        self.rows().iter().any(|(words, _)| *words == "submitted nothing")
+        self.rows().iter().any(|(words, _)| *words == "no read taken in")
     }
 
     /// The slots between the clock at submission and the slot that served it, the most there were, and the first of these reads:
@@ -171,18 +171,18 @@ impl List {
         ]
     }
 
-    /// A row for each client that submitted something, one for all, and how many submitted nothing.
+    /// A row for each client that submitted something, one for all, and of how many no read was taken in.
     fn rows(&self) -> Vec<(&'static str, Vec<u64>)> {
         let row = |client: Option<u64>| {
             let counts @ [submitted, _, dropped, _] = self.counts(|request| client.is_none_or(|client| request.client == client));
-            // to three places, rounded down
-            let thousandths = 1_000 * dropped / submitted.max(1);
+            // to three places, rounded
+            let thousandths = (1_000 * dropped + submitted / 2) / submitted.max(1);
             [client.into_iter().collect(), counts.to_vec(), vec![thousandths / 1_000, thousandths % 1_000]].concat()
         };
         let submitting = |client: &u64| self.requests.iter().any(|request| request.client == *client);
         let rows = (0..self.clients).filter(submitting).map(|client| ("", row(Some(client))));
         let silent = (0..self.clients).filter(|client| !submitting(client)).count() as u64;
-        let silent = (silent > 0).then(|| ("submitted nothing", vec![silent]));
+        let silent = (silent > 0).then(|| ("no read taken in", vec![silent]));
         rows.chain([("all", row(None))]).chain(silent).collect()
     }
 

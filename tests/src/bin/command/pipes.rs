@@ -14,16 +14,17 @@ type Case = (&'static str, &'static [u8], i32, &'static [&'static str], &'static
 
 const USAGE: &[&str] = &["welsbell run", "welsbell read FILE", "welsbell frames FILE"];
 
-const EMPTY: [Case; 6] = [
+const EMPTY: [Case; 7] = [
     ("run", b"", 0, &[], &[]),
-    ("read -", b"", 0, &[], &[]),
-    ("read --summary -", b"", 0, &[], &[]),
+    ("read -", b"", 0, &["No open was accepted."], &[]),
+    ("read --summary -", b"", 0, &["No open was accepted."], &[]),
+    ("draw -", b"", 0, &["No open was accepted"], &[]),
     ("frames -", b"", 0, &[], &[]),
     ("run", b"\n \n# a comment\n", 0, &[], &[]),
     ("frames -", b"\n \n# a comment\n", 0, &[], &[]),
 ];
 
-const GOOD: [Case; 12] = [
+const GOOD: [Case; 15] = [
     ("help", b"", 0, USAGE, &[]),
     ("--help", b"", 0, USAGE, &[]),
     ("run", b"help\n", 0, &["open clients CLIENTS period PERIOD records RECORDS", "submit CLIENT by DEADLINE"], &[]),
@@ -31,14 +32,17 @@ const GOOD: [Case; 12] = [
     ("run", b"open clients 1 period 1 records 1\r\nTICK\r\n", 0, &["opened\nslot 0: "], &[]),
     ("run", b"tick\nquit\nfly\n", 0, &["refused, 4: "], &[]),
     ("run", b"# a comment\n\n03\nTick\n03", 0, &["refused, 4: no open was accepted yet\nrefused, 4: ", "\nrefused, 1: the last line"], &[]),
-    ("frames -", b"OPEN Clients 1,0 period 1_000 records 65535\n04FFFF\ntick", 0, &["01000A000003E8FFFF\n04FFFF\n03\n"], &[]),
+    ("frames -", b"OPEN Clients 10 period 1,000 records 65535\n04FFFF\ntick", 0, &["01000A000003E8FFFF\n04FFFF\n03\n"], &[]),
     ("read -", b"# a comment\ntick", 0, &["    2  tick", "refused, 4: ", "Refused: 1 line"], &[]),
     ("read -", b"\n \n\nopen clients 1 period 1 records 1\n", 0, &["    4  open clients 1 period 1 records 1", "  opened\n"], &[]),
-    ("read --summary -", b"tick\nquit\nfly\n", 0, &["Refused: 1 line "], &[]),
-    ("read --frames --summary -", b"tick\n03\n", 0, &["Refused: 2 lines (by the refusal's number: 1: 1, 4: 1)"], &[]),
+    ("read -", b"\xEF\xBB\xBFopen clients 1 period 1 records 1\n", 0, &["  opened\n"], &[]),
+    ("draw -", b"open clients 1 period 1 records 1\ntick\n", 0, &["Session 1. Opened in line 1", "1 slot passed, 1 idle"], &[]),
+    ("draw --frames -", b"tick\n03\n", 0, &["No open was accepted"], &[]),
+    ("compare", b"", 0, &["Experiment 1: 2 clients", "Experiment 2: 10 clients", "the queue (proved program)", "(simulated)"], &[]),
+    ("read --frames --summary -", b"tick\n03\n", 0, &["Refused: 2 lines (number 1: 1, number 4: 1)"], &[]),
 ];
 
-const BAD: [Case; 19] = [
+const BAD: [Case; 26] = [
     ("run", b"tick\nfly 3\n", 2, &["refused, 4"], &["line 2: `fly 3`: expected open, submit, tick, report, chart or a frame"]),
     ("read -", b"tick\nfly 3\n", 2, &["refused, 4"], &["line 2: `fly 3`: expected open, submit, tick, report, chart or a frame"]),
     ("read --summary -", b"tick\n\nfly 3\n", 2, &[], &["line 3: `fly 3`: expected open"]),
@@ -46,8 +50,8 @@ const BAD: [Case; 19] = [
     ("run", b"submit 0 at 1\n", 2, &[], &["line 1: `submit 0 at 1`: expected `submit CLIENT by DEADLINE`"]),
     ("run", b"submit 0\n", 2, &[], &["line 1: `submit 0`: expected `submit CLIENT by DEADLINE`"]),
     ("run", b"report -1\n", 2, &[], &["line 1: `report -1`: expected a number for client"]),
-    ("run", b"report 65536\n", 2, &[], &["line 1: `report 65536`: expected a number of at most 65,535 for client"]),
-    ("run", b"submit 0 by 18446744073709551616\n", 2, &[], &["line 1", "at most 18,446,744,073,709,551,615 for deadline"]),
+    ("run", b"report 65536\n", 2, &[], &["line 1: `report 65536`: 65536 does not fit in client"]),
+    ("run", b"submit 0 by 18446744073709551616\n", 2, &[], &["line 1", "does not fit in deadline"]),
     ("run", b"\xFF\xFE\n", 2, &[], &[r"line 1: `\xff\xfe`: expected open"]),
     ("run", b"report \x1b[31m\n", 2, &[], &[r"line 1: `report \x1b[31m`: expected a number for client"]),
     ("frames -", b"03", 2, &[], &["line 1: `03`: expected words or a frame: the last line does not end with a line feed"]),
@@ -56,22 +60,31 @@ const BAD: [Case; 19] = [
     ("read -", b"03\r\n", 0, &["refused, 1: the line ends with a carriage return"], &[]),
     ("read -", b"020000000000000000000a\n", 0, &["refused, 1: the digits A to F have to be upper case"], &[]),
     ("read -", b"03", 0, &["refused, 1: the last line does not end with a line feed"], &[]),
-    ("read -", b"\xFF\xFE\n", 0, &[r"\xff\xfe ", "refused, 1: character 1, byte FF"], &[]),
+    ("read -", b"opne clients 3\n03\n", 2, &[], &["line 1: `opne clients 3`: expected words or a frame", "--frames"]),
+    ("read -", b"tick\nquit\n", 2, &["refused, 4"], &["line 2: `quit`: expected a call"]),
+    ("frames -", b"tick\nquit\n", 2, &["03\n"], &["line 2: `quit`: expected a call"]),
+    ("run", b"submit 0 by 1,5\n", 2, &[], &["line 1: `submit 0 by 1,5`: expected a number for deadline"]),
+    ("draw -", b"tick\nfly 3\n", 2, &[], &["line 2: `fly 3`: expected open"]),
+    ("draw - page.txt", b"", 2, &[], &["`page.txt`: expected the name of a page"]),
+    ("compare page.txt", b"", 2, &[], &["page.txt: expected a name"]),
+    ("read --frames -", b"\xFF\xFE\n", 0, &[r"\xff\xfe ", "refused, 1: character 1, byte FF"], &[]),
     ("run", b"03\r\n", 0, &["refused, 1: the line ends with a carriage return"], &[]),
 ];
 
-const ARGUMENTS: [&str; 14] = [
+const ARGUMENTS: [&str; 18] = [
     "", "--all", "fly", "run now", "run --all", "read", "read --summary", "read --all -", "read --summary --all", "read - -", "frames",
-    "frames --all", "frames --all -", "frames - -",
+    "frames --all", "frames --all -", "frames - -", "draw", "draw --summary -", "compare --frames", "compare a.html b.html",
 ];
 
 /// Files that cannot be read, each the last of the arguments, and what is said of them.
-const FILES: [(&str, &str); 5] = [
+const FILES: [(&str, &str); 7] = [
     ("read /nowhere/file", "No such file"),
     ("read --summary /nowhere/file", "No such file"),
     ("frames /nowhere/file", "No such file"),
     ("read /", "directory"),
     ("frames /", "directory"),
+    ("draw /nowhere/file", "No such file"),
+    ("draw /", "directory"),
 ];
 
 /// A session in words.

@@ -93,7 +93,7 @@ fn dropped([number, victim, of]: [u64; 3], client: u64, before: &List) -> Vec<u6
     let answer = if victim == number { vec![number] } else { vec![number, victim, of] };
     let missed = |client: u64, new: u64| {
         let [dropped, submitted] = before.missed(client);
-        vec![dropped, submitted + new, client]
+        vec![client, dropped, submitted + new]
     };
     let ratios = if of == client { missed(of, 1) } else { [missed(of, 0), missed(client, 1)].concat() };
     [answer, ratios].concat()
@@ -194,6 +194,12 @@ fn hold_summaries(shown: &mut Shown, list: &List) -> Result<(), String> {
     summary.try_for_each(|expected| hold_summary(shown.next(), &expected).map_err(|fault| shown.told(fault)))
 }
 
+/// Whether the first line that has something in it looks like a frame. Otherwise the command has to be told that these are frames.
+fn is_seen_as_frames(input: &[u8]) -> bool {
+    let first = input.split(|&byte| byte == b'\n').map(|line| line.trim_ascii()).find(|line| !line.is_empty());
+    first.is_some_and(|line| line.iter().all(u8::is_ascii_hexdigit) && line.iter().any(u8::is_ascii_digit))
+}
+
 /// What the sessions came to together.
 #[derive(Default)]
 struct Held {
@@ -207,8 +213,7 @@ impl Held {
     fn session(&mut self, welsbell: &Welsbell, input: &[u8]) -> Result<(), String> {
         let turns = turns(input);
         let lists: Vec<&[Turn]> = turns.chunk_by(|_, next| !next.is_opened()).collect();
-        // Such a beginning would be taken for words.
-        let language = if input.trim_ascii_start().starts_with(b"#") { "--frames" } else { "" };
+        let language = if is_seen_as_frames(input) { "" } else { "--frames" };
         let read = welsbell.ended(&format!("read {language} -"), input)?;
         let summary = welsbell.ended(&format!("read {language} --summary -"), input)?;
         let (mut lines, mut summaries) = (Shown::of(&read.out), Shown::of(&summary.out));

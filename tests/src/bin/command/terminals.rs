@@ -86,7 +86,7 @@ impl Waiting {
     /// What goes to a pipe; there is no bar beside it.
     fn piped(&self, welsbell: &Welsbell, arguments: &str) -> IoResult<String> {
         let ended = ended(&mut self.command(welsbell, arguments), "").map_err(Error::other)?;
-        ended.hold(0, &["Opened in line 1"], &[]).map_err(Error::other)?;
+        ended.hold(0, &["Opened in line "], &[]).map_err(Error::other)?;
         Ok(ended.out)
     }
 
@@ -108,7 +108,8 @@ impl Waiting {
 
 fn hold_bars(welsbell: &Welsbell, checks: &mut Checks) -> IoResult<()> {
     let waiting = Waiting::new(welsbell)?;
-    for (arguments, has_bar, to_file) in [("read --summary", true, false), ("read --summary", true, true), ("read", false, false)] {
+    let cases = [("read --summary", true, false), ("read --summary", true, true), ("read", false, false), ("draw", true, false)];
+    for (arguments, has_bar, to_file) in cases {
         let held = waiting.hold(welsbell, arguments, has_bar, to_file).map_err(|error| error.to_string());
         checks.hold(&format!("welsbell {arguments} at a terminal, its output in a file: {to_file}"), held);
     }
