@@ -230,3 +230,23 @@ impl Display for NoFrame {
         }
     }
 }
+
+#[cfg(test)]
+mod tests {
+    use super::*;
+
+    /// Words are read in their order, and values stand in that of the fields.
+    #[test]
+    fn fields_stand_in_the_words_in_their_order() {
+        for kind in CALLS.iter().chain(&ANSWERS) {
+            let names: Vec<&str> = kind.words.split('{').skip(1).filter_map(|part| part.split('}').next()).collect();
+            let fields: Vec<&str> = kind.fields.iter().map(|(name, _)| *name).collect();
+            assert_eq!(names, fields);
+        }
+    }
+
+    #[test]
+    fn no_frame_is_as_long_as_what_is_kept_of_a_line() {
+        assert!(CALLS.iter().chain(&ANSWERS).all(|kind| kind.digits() < LONGEST));
+    }
+}

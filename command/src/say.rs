@@ -86,3 +86,40 @@ pub fn reason(turn: &Turn, number: u64, followed: &Followed) -> String {
         _ => "a refusal that this command does not know".into(),
     }
 }
+
+#[cfg(test)]
+mod tests {
+    use super::*;
+    use crate::frames::{ANSWERS, SUBMIT};
+    use crate::input::Line;
+
+    /// A submit that was refused.
+    fn turn() -> Turn {
+        let line = Line { number: 1, text: vec![], is_ended: true };
+        Turn { line, asked: Asked::Call(Frame::call(SUBMIT, &[0, 0])), answers: vec![] }
+    }
+
+    #[test]
+    fn refusals_that_no_short_session_meets_have_their_reasons() {
+        let followed = Followed { clock: 1_000, ..Followed::default() };
+        for (number, said) in [
+            (5, "the tables are not sound"),
+            (7, "the clock is at 1,000"),
+            (8, "the client has submitted 268,435,455 reads"),
+            (9, "the last request number, 281,474,976,710,655,"),
+            (11, "the clock is at its end, 281,474,976,710,655"),
+            (200, "a refusal that this command does not know"),
+        ] {
+            assert!(reason(&turn(), number, &followed).contains(said), "{number}");
+        }
+    }
+
+    #[test]
+    fn of_many_segments_the_first_are_named() {
+        let segment = |left: u64| Frame::read(format!("87{left:016X}{:016X}", left + 1).as_bytes(), &ANSWERS).unwrap();
+        let said = |count: u64| charted(&(0..count).map(|place| segment(2 * place)).collect::<Vec<_>>());
+        assert_eq!(said(0), "nothing waits: 0 segments");
+        assert!(said(12).ends_with("[20, 21], [22, 23]: 12 segments"));
+        assert!(said(13).ends_with("[20, 21], [22, 23], and so on: 13 segments"));
+    }
+}

@@ -22,7 +22,7 @@ pub enum Language {
 impl Language {
     /// By the first line that has something in it.
     pub fn of(input: &mut Input) -> Result<Language, Failure> {
-        let Some(line) = input.first()? else { return Ok(Language::Words) };
+        let Some(line) = input.first()? else { return Ok(Language::Frames) };
         match String::from_utf8_lossy(&line.text).trim_start_matches(BYTE_ORDER_MARK).trim() {
             text if are_words(text) => Ok(Language::Words),
             text if looks_like_a_frame(text) => Ok(Language::Frames),

@@ -121,6 +121,8 @@ pub fn hold(welsbell: &Welsbell, checks: &mut Checks) {
     let million = |arguments: &str| fed(welsbell, arguments, lines.as_bytes(), 1);
     hold_fed("read --summary, a million lines", million("read --summary -"), hold_summary, checks);
     hold_fed("draw, a million lines", million("draw -"), |fed| fed.hold(0, &["Session 1. Opened in line 1"], &[]), checks);
+    let empty = fed(welsbell, "read --summary -", &[b'\n'; EMPTY], 5);
+    hold_fed("read --summary, half a million empty lines", empty, |fed| fed.hold(0, &["Refused: 500,001 lines "], &[]), checks);
     let charts = fed(welsbell, "read --summary -", many_charts().as_bytes(), 1);
     hold_fed("read --summary, charts of 2,048 segments", charts, |fed| fed.hold(0, &["Refused: 100,000 lines "], &[]), checks);
     let is_same = |fed: &Fed| if fed.ended.out.trim_end() == lines { fed.hold(0, &["\n"], &[]) } else { Err("they are others".into()) };

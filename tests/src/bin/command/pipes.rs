@@ -2,6 +2,7 @@
 use crate::checks::{ended, Checks, Ended, Welsbell, VARIABLE};
 use std::fs::{copy, create_dir_all, read_to_string, write, File, OpenOptions};
 use std::io::{pipe, BufRead, BufReader, Error, Result as IoResult, Write};
+use std::os::unix::fs::symlink;
 use std::path::Path;
 use std::process::{Command, Stdio};
 use std::sync::mpsc::channel;
@@ -14,7 +15,7 @@ type Case = (&'static str, &'static [u8], i32, &'static [&'static str], &'static
 
 const USAGE: &[&str] = &["welsbell run", "welsbell read FILE", "welsbell frames FILE"];
 
-const EMPTY: [Case; 7] = [
+const EMPTY: &[Case] = &[
     ("run", b"", 0, &[], &[]),
     ("read -", b"", 0, &["No open was accepted."], &[]),
     ("read --summary -", b"", 0, &["No open was accepted."], &[]),
@@ -22,10 +23,12 @@ const EMPTY: [Case; 7] = [
     ("frames -", b"", 0, &[], &[]),
     ("run", b"\n \n# a comment\n", 0, &[], &[]),
     ("frames -", b"\n \n# a comment\n", 0, &[], &[]),
+    ("run", b"Exit\nfly\n", 0, &[], &[]),
 ];
 
-const GOOD: [Case; 15] = [
+const GOOD: &[Case] = &[
     ("help", b"", 0, USAGE, &[]),
+    ("-h", b"", 0, USAGE, &[]),
     ("--help", b"", 0, USAGE, &[]),
     ("run", b"help\n", 0, &["open clients CLIENTS period PERIOD records RECORDS", "submit CLIENT by DEADLINE"], &[]),
     ("run", b"help\n", 0, &["\n  tick\n", "\n  report CLIENT\n", "\n  chart\n"], &[]),
@@ -40,9 +43,18 @@ const GOOD: [Case; 15] = [
     ("draw --frames -", b"tick\n03\n", 0, &["No open was accepted"], &[]),
     ("compare", b"", 0, &["Experiment 1: 2 clients", "Experiment 2: 10 clients", "the queue (proved program)", "(simulated)"], &[]),
     ("read --frames --summary -", b"tick\n03\n", 0, &["Refused: 2 lines (number 1: 1, number 4: 1)"], &[]),
+    ("read -", b"\n\n", 0, &["Refused: 2 lines (number 1: 2)"], &[]),
+    ("read -", b"TICK\n", 0, &["    1  tick", "refused, 4: "], &[]),
+    ("run", b"HELP\nQuit\nfly\n", 0, &["submit CLIENT by DEADLINE"], &[]),
+    ("draw -", b"03\n", 0, &["No open was accepted, so there is nothing to draw. Refused: 1 line.\n"], &[]),
+    ("draw - /nowhere/x.HTM", b"03\n", 0, &["/nowhere/x.HTM is not written."], &[]),
+    ("draw -", b"03\n010001000000010001\n03\nFF\n", 0, &["Refused before the first open: 1 line.\n\nSession 1. Opened in line 2: ", "1 slot passed, 1 idle; 0 reads: ", " Refused: 1 line.\n"], &[]),
+    ("draw --frames -", b"tick\n010001000000010001\n", 0, &["Refused before the first open: 1 line.\n\nSession 1. Opened in line 2: "], &[]),
+    ("run", b"020000000000000000000a\n", 0, &["refused, 1: the digits A to F have to be upper case"], &[]),
 ];
 
-const BAD: [Case; 26] = [
+const BAD: &[Case] = &[
+    ("read -", b"# a comment\nhelp\ntick\n", 2, &[], &["line 2: `help`: expected a call"]),
     ("run", b"tick\nfly 3\n", 2, &["refused, 4"], &["line 2: `fly 3`: expected open, submit, tick, report, chart or a frame"]),
     ("read -", b"tick\nfly 3\n", 2, &["refused, 4"], &["line 2: `fly 3`: expected open, submit, tick, report, chart or a frame"]),
     ("read --summary -", b"tick\n\nfly 3\n", 2, &[], &["line 3: `fly 3`: expected open"]),
@@ -69,15 +81,25 @@ const BAD: [Case; 26] = [
     ("compare page.txt", b"", 2, &[], &["page.txt: expected a name"]),
     ("read --frames -", b"\xFF\xFE\n", 0, &[r"\xff\xfe ", "refused, 1: character 1, byte FF"], &[]),
     ("run", b"03\r\n", 0, &["refused, 1: the line ends with a carriage return"], &[]),
+    ("run", b"tick 3\n", 2, &[], &["line 1: `tick 3`: expected `tick`\n"]),
+    ("run", b"report ,\n", 2, &[], &["line 1: `report ,`: expected a number for client"]),
+    ("run", b"fade\n", 2, &[], &["line 1: `fade`: expected open"]),
+    ("run", b"submit 0 \x1b[31m 1\n", 2, &[], &[r"line 1: `submit 0 \x1b[31m 1`: expected `submit CLIENT by DEADLINE`, and `\u{1b}[31m` stands where `by` has to"]),
+    ("run", b"fly 5678901234567890123456789012345678901234567890123456789X\n", 2, &[], &["56789X`: expected open"]),
+    ("run", b"fly 5678901234567890123456789012345678901234567890123456789XY\n", 2, &[], &["56789X...`: expected open"]),
+    ("read -", b"0100020000006400\n", 0, &["a frame 01, open, has 18 digits (01, clients in 4, period in 8, records in 4), and this line has 16"], &[]),
+    ("draw - /nowhere/words.txt", b"tick\n", 2, &[], &["`/nowhere/words.txt`: expected the name of a page"]),
+    ("draw - /nowhere/x.html", b"010001000000010001\n", 1, &["Session 1. "], &["welsbell: /nowhere/x.html: No such file"]),
 ];
 
-const ARGUMENTS: [&str; 18] = [
+const ARGUMENTS: &[&str] = &[
     "", "--all", "fly", "run now", "run --all", "read", "read --summary", "read --all -", "read --summary --all", "read - -", "frames",
-    "frames --all", "frames --all -", "frames - -", "draw", "draw --summary -", "compare --frames", "compare a.html b.html",
+    "frames --all", "frames --all -", "frames - -", "draw", "draw --summary -", "draw --all - /nowhere/x.html", "draw - /nowhere/x.html more",
+    "compare --all", "compare --frames", "compare --all /nowhere/x.svg", "compare /nowhere/x.svg more",
 ];
 
 /// Files that cannot be read, each the last of the arguments, and what is said of them.
-const FILES: [(&str, &str); 7] = [
+const FILES: &[(&str, &str)] = &[
     ("read /nowhere/file", "No such file"),
     ("read --summary /nowhere/file", "No such file"),
     ("frames /nowhere/file", "No such file"),
@@ -85,6 +107,7 @@ const FILES: [(&str, &str); 7] = [
     ("frames /", "directory"),
     ("draw /nowhere/file", "No such file"),
     ("draw /", "directory"),
+    ("compare /nowhere/x.svg", "No such file"),
 ];
 
 /// A session in words.
@@ -97,7 +120,7 @@ const LEAST_PIPE: usize = 4_096;
 const LIMIT: Duration = Duration::from_secs(20);
 
 fn hold_cases(welsbell: &Welsbell, checks: &mut Checks) {
-    for (arguments, input, code, out, err) in [&EMPTY[..], &GOOD, &BAD].concat() {
+    for (arguments, input, code, out, err) in [EMPTY, GOOD, BAD].concat() {
         let held = welsbell.ended(arguments, input).and_then(|ended| ended.hold(code, out, err));
         checks.hold(&format!("welsbell {arguments}, given {}", input.escape_ascii()), held);
     }
@@ -115,14 +138,14 @@ fn hold_long_words(welsbell: &Welsbell, checks: &mut Checks) {
 }
 
 fn hold_arguments(welsbell: &Welsbell, checks: &mut Checks) {
-    for arguments in ARGUMENTS {
+    for &arguments in ARGUMENTS {
         let held = welsbell.ended(arguments, "").and_then(|ended| ended.hold(2, &[], USAGE));
         checks.hold(&format!("welsbell {arguments}"), held);
     }
 }
 
 fn hold_files(welsbell: &Welsbell, checks: &mut Checks) {
-    for (arguments, said) in FILES {
+    for &(arguments, said) in FILES {
         let file = arguments.split(' ').next_back().unwrap_or_default();
         let held = welsbell.ended(arguments, "").and_then(|ended| ended.hold(1, &[], &[&format!("{file}: "), said]));
         checks.hold(&format!("welsbell {arguments}"), held);
@@ -148,7 +171,7 @@ fn output(command: &mut Command) -> Result<Ended, String> {
 
 /// Without the session program the command says what to do; words to frames need none.
 fn hold_programs(welsbell: &Welsbell, checks: &mut Checks) {
-    let alone = welsbell.folder.join("alone");
+    let alone = welsbell.folder.join("build/alone");
     let copied = create_dir_all(&alone).and_then(|()| copy(&welsbell.path, alone.join("welsbell")));
     let run_alone = |arguments: &str| {
         let mut command = Command::new(alone.join("welsbell"));
@@ -169,7 +192,14 @@ fn hold_programs(welsbell: &Welsbell, checks: &mut Checks) {
     let newer = newer.and_then(|newer| ended(welsbell.command("read -").env(VARIABLE, newer), "7F\n"));
     hold("a session program that knows other frames", newer, 1, &["opened"], &["the session program answered line 1 with `opened`"]);
     let copied = copied.and_then(|_| copy(&welsbell.program, alone.join("session_main")));
+    // Where the prover builds it, there is another now.
+    let built = welsbell.folder.join("target/bin");
+    let copied = copied.and_then(|_| create_dir_all(&built)).and_then(|()| copy("/bin/true", built.join("session_main")));
     hold("a session program beside the command", run_alone("run"), 0, &["opened\nslot 0"], &[]);
+    let link = welsbell.folder.join("link");
+    let copied = copied.and_then(|_| symlink(alone.join("welsbell"), &link));
+    let linked = ended(Command::new(&link).arg("run").env_remove(VARIABLE), WORDS);
+    hold("a session program beside the command that is linked", linked, 0, &["opened\nslot 0"], &[]);
     checks.hold("copies", copied.map(drop).map_err(|error| error.to_string()));
 }
 
@@ -191,7 +221,7 @@ fn hold_asked(welsbell: &Welsbell, checks: &mut Checks) -> IoResult<()> {
 
 /// Where nobody reads, the command ends without a word; where the disk is full, it says so.
 fn hold_unread(welsbell: &Welsbell, input: &Path, checks: &mut Checks) -> IoResult<()> {
-    for arguments in ["help", "run", "read -", "read --summary -", "frames -"] {
+    for arguments in ["help", "run", "read -", "read --summary -", "frames -", "draw -", "compare"] {
         let (reader, writer) = pipe()?;
         drop(reader);
         let ended = output(welsbell.command(arguments).stdin(File::open(input)?).stdout(writer));
@@ -244,8 +274,10 @@ fn hold_dialogue(welsbell: &Welsbell) -> IoResult<()> {
     child.wait().map(drop)
 }
 
-/// However a pipe cuts the input, words are words.
+/// However a pipe cuts the input, and behind many empty lines, words are words.
 fn hold_pieces(welsbell: &Welsbell, checks: &mut Checks) {
+    let behind = welsbell.ended("read -", "\n".repeat(99) + WORDS);
+    checks.hold("words behind empty lines", behind.and_then(|ended| ended.hold(0, &["  100  open", "opened\n", "slot 0"], &[])));
     let pauses = "(printf '\\n'; sleep 0.1; printf 'op'; sleep 0.1; printf 'en clients 1 period 1 records 1\\ntick\\n') | \"$0\" read -";
     let mut bash = Command::new("bash");
     let held = ended(bash.arg("-c").arg(pauses).arg(&welsbell.path), "");
