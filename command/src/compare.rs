@@ -15,6 +15,7 @@ use experiment::EXPERIMENTS;
 use outcome::Comparison;
 use std::fs::write;
 use std::io::{stdout, Error, Write};
+use std::path::Path;
 use table::Table;
 
 fn comparisons() -> Result<Vec<Comparison>, Failure> {
@@ -28,13 +29,14 @@ pub fn print() -> Result<(), Failure> {
 }
 
 /// Writes the page, or the picture of the second experiment alone where the file's name ends as a picture's.
-pub fn draw(file: &str) -> Result<(), Failure> {
-    let text = if file.ends_with(".svg") {
-        figures::whole(&Comparison::of(&EXPERIMENTS[1])?)
-    } else if file.ends_with(".html") {
-        results::results(&comparisons()?)
-    } else {
-        return Err(Failure::Wrong(format!("{file}: expected a name that ends in .html or .svg")));
+pub fn draw(file: &Path) -> Result<(), Failure> {
+    let ending = file.extension().map(|ending| ending.to_string_lossy().to_lowercase());
+    let (what, text) = match ending.as_deref() {
+        Some("svg") => ("picture", figures::whole(&Comparison::of(&EXPERIMENTS[1])?)),
+        Some("html" | "htm") => ("page", results::results(&comparisons()?)),
+        _ => return Err(Failure::Wrong(format!("{}: expected a name that ends in .html or .svg", file.display()))),
     };
-    write(file, text).map_err(|error: Error| Failure::Failed(format!("{file}: {error}")))
+    write(file, text).map_err(|error: Error| Failure::Failed(format!("{}: {error}", file.display())))?;
+    writeln!(stdout(), "The {what} is {}.", file.display())?;
+    Ok(())
 }

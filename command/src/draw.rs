@@ -12,6 +12,7 @@ use crate::watch::{watch, Recorded};
 use collect::{Collector, MOST_SESSIONS};
 use std::fs;
 use std::io::{stdout, Write};
+use std::path::Path;
 
 /// What is said before the sessions, where some are not drawn or lines stood before the first.
 fn preface(collector: &Collector) -> Option<String> {
@@ -34,19 +35,21 @@ fn text(collector: &Collector) -> String {
 }
 
 /// A page is written only over a page, since the name of another session file is easily given in its place.
-fn is_page(name: &str) -> Result<(), Failure> {
-    let is_named_so = [".html", ".htm"].iter().any(|ending| name.to_lowercase().ends_with(ending));
-    let wrong = || Failure::Wrong(format!("`{name}`: expected the name of a page, which ends with .html"));
-    is_named_so.then_some(()).ok_or_else(wrong)
+fn is_page(page: &Path, recorded: &Recorded) -> Result<(), Failure> {
+    let ending = page.extension().map(|ending| ending.to_string_lossy().to_lowercase());
+    let is_named_so = matches!(ending.as_deref(), Some("html" | "htm"));
+    let is_same = page.canonicalize().is_ok_and(|page| recorded.file.canonicalize().is_ok_and(|file| file == page));
+    let wrong = || Failure::Wrong(format!("`{}`: expected the name of a page, which ends with .html and is not the session", page.display()));
+    (is_named_so && !is_same).then_some(()).ok_or_else(wrong)
 }
 
-fn write_page(file: &str, name: &str, collector: &Collector) -> Result<(), Failure> {
-    let page = drawings::page(file, preface(collector), &collector.ended);
-    fs::write(name, page).map_err(|error| Failure::Failed(format!("{name}: {error}")))
+fn write_page(file: &Path, name: &Path, collector: &Collector) -> Result<(), Failure> {
+    let page = drawings::page(&file.display().to_string(), preface(collector), &collector.ended);
+    fs::write(name, page).map_err(|error| Failure::Failed(format!("{}: {error}", name.display())))
 }
 
-pub fn draw(recorded: &Recorded, page: Option<&str>) -> Result<(), Failure> {
-    page.map_or(Ok(()), is_page)?;
+pub fn draw(recorded: &Recorded, page: Option<&Path>) -> Result<(), Failure> {
+    page.map_or(Ok(()), |page| is_page(page, recorded))?;
     let mut collector = Collector::default();
     let followed = watch(recorded, &mut collector, true)?;
     collector.end(&followed);
@@ -57,10 +60,10 @@ pub fn draw(recorded: &Recorded, page: Option<&str>) -> Result<(), Failure> {
         writeln!(out, "{}", text(&collector))?;
     }
     match page {
-        Some(name) if collector.ended.is_empty() => writeln!(out, "{name} is not written.")?,
+        Some(name) if collector.ended.is_empty() => writeln!(out, "{} is not written.", name.display())?,
         Some(name) => {
             write_page(recorded.file, name, &collector)?;
-            writeln!(out, "\nThe page is {name}.")?;
+            writeln!(out, "\nThe page is {}.", name.display())?;
         }
         None => {}
     }

@@ -56,11 +56,11 @@ impl Input {
     }
 
     /// The file of this name; `-` is the standard input.
-    pub fn named(name: &str) -> Result<Input> {
-        if name == "-" {
+    pub fn named(name: &Path) -> Result<Input> {
+        if name == Path::new("-") {
             return Ok(Input::standard());
         }
-        let file = File::open(Path::new(name))?;
+        let file = File::open(name)?;
         let about = file.metadata()?;
         let size = about.is_file().then_some(about.len());
         Ok(Input::of(Box::new(file), size, false))

@@ -21,7 +21,10 @@ mod words;
 
 use failure::Failure;
 use session::Language;
+use std::borrow::Cow;
 use std::env::args_os;
+use std::ffi::OsString;
+use std::path::Path;
 use std::io::{stderr, stdout, Write};
 use std::process::exit;
 use watch::Recorded;
@@ -38,27 +41,37 @@ welsbell compare PAGE.html   the same with the paper's figures, as a page
 welsbell compare PICTURE.svg the figure of experiment 2 alone
 FILE is in words or in frames, as its first line is; - is the standard input. With --frames every line is taken for a frame.";
 
-fn command(arguments: &[&str]) -> Result<(), Failure> {
-    let (options, words): (Vec<&str>, Vec<&str>) = arguments.iter().partition(|argument| argument.starts_with("--"));
+fn command(arguments: &[OsString]) -> Result<(), Failure> {
+    let shown: Vec<Cow<str>> = arguments.iter().map(|argument| argument.to_string_lossy()).collect();
+    let options: Vec<&str> = shown.iter().map(Cow::as_ref).filter(|argument| argument.starts_with("--")).collect();
+    let others = arguments.iter().zip(&shown).filter(|(_, shown)| !shown.starts_with("--"));
+    // A name need not be text, and a command is.
+    let (files, words): (Vec<&Path>, Vec<&str>) = others.map(|(argument, shown)| (Path::new(argument), shown.as_ref())).unzip();
     let has = |option| options.contains(&option);
     let are_known = |known: &[&str]| options.iter().all(|option| known.contains(option));
-    let recorded = |file| Recorded {
-        file,
+    let recorded = || Recorded {
+        file: files[1],
         language: has("--frames").then_some(Language::Frames),
     };
     match words[..] {
-        ["read", file] if are_known(&["--summary", "--frames"]) => read::read(&recorded(file), !has("--summary")),
-        ["draw", file] if are_known(&["--frames"]) => draw::draw(&recorded(file), None),
-        ["draw", file, page] if are_known(&["--frames"]) => draw::draw(&recorded(file), Some(page)),
+        _ if has("--help") => usage(),
+        ["read", _] if are_known(&["--summary", "--frames"]) => read::read(&recorded(), !has("--summary")),
+        ["draw", _] if are_known(&["--frames"]) => draw::draw(&recorded(), None),
+        ["draw", _, _] if are_known(&["--frames"]) => draw::draw(&recorded(), Some(files[2])),
         ["run"] if options.is_empty() => run::run(),
-        ["frames", file] if options.is_empty() => to_frames::frames(file),
+        ["frames", _] if options.is_empty() => to_frames::frames(files[1]),
         ["compare"] if options.is_empty() => compare::print(),
-        ["compare", file] if options.is_empty() => compare::draw(file),
+        ["compare", _] if options.is_empty() => compare::draw(files[1]),
         ["help" | "-h"] => usage(),
-        [] if has("--help") => usage(),
+        [] if options == ["--version"] => version(),
         [] if options.is_empty() => Err(Failure::Wrong(format!("welsbell has to be told what to do:\n{USAGE}"))),
-        _ => Err(Failure::Wrong(format!("`welsbell {}` is not understood:\n{USAGE}", arguments.join(" ")))),
+        _ => Err(Failure::Wrong(format!("`welsbell {}` is not understood:\n{USAGE}", shown.join(" ")))),
     }
+}
+
+fn version() -> Result<(), Failure> {
+    writeln!(stdout(), "welsbell {}", env!("CARGO_PKG_VERSION"))?;
+    Ok(())
 }
 
 fn usage() -> Result<(), Failure> {
@@ -67,8 +80,7 @@ fn usage() -> Result<(), Failure> {
 }
 
 fn main() {
-    let arguments: Vec<String> = args_os().skip(1).map(|argument| argument.to_string_lossy().into_owned()).collect();
-    let arguments: Vec<&str> = arguments.iter().map(String::as_str).collect();
+    let arguments: Vec<OsString> = args_os().skip(1).collect();
     let (message, code) = match command(&arguments) {
         Ok(()) | Err(Failure::Closed) => return,
         Err(Failure::Failed(message)) => (message, 1),

@@ -2,9 +2,10 @@
 use crate::failure::{wrong_line, Failure};
 use crate::session::{asked_of, Asked, Language};
 use crate::watch::input_named;
+use std::path::Path;
 use std::io::{stdout, LineWriter, Write};
 
-pub fn frames(file: &str) -> Result<(), Failure> {
+pub fn frames(file: &Path) -> Result<(), Failure> {
     let mut input = input_named(file)?;
     // Line by line, so that lines of several writers to one pipe do not mix.
     let mut out = LineWriter::new(stdout().lock());

@@ -6,6 +6,7 @@ use crate::input::Input;
 use crate::progress::Progress;
 use crate::session::{Asked, Language, Session, Turn};
 use std::io::Error;
+use std::path::Path;
 
 /// What looks on.
 pub trait Watcher {
@@ -16,8 +17,8 @@ pub trait Watcher {
 }
 
 /// The input of this name, in which at least something can be read.
-pub fn input_named(file: &str) -> Result<Input, Failure> {
-    let failed = |error: Error| Failure::Failed(format!("{file}: {error}"));
+pub fn input_named(file: &Path) -> Result<Input, Failure> {
+    let failed = |error: Error| Failure::Failed(format!("{}: {error}", file.display()));
     let mut input = Input::named(file).map_err(failed)?;
     input.begin().map_err(failed)?;
     Ok(input)
@@ -25,7 +26,7 @@ pub fn input_named(file: &str) -> Result<Input, Failure> {
 
 /// A recorded session: its file, and its language where that is not to be seen from how it begins.
 pub struct Recorded<'a> {
-    pub file: &'a str,
+    pub file: &'a Path,
     pub language: Option<Language>,
 }
 

@@ -30,6 +30,8 @@ const GOOD: &[Case] = &[
     ("help", b"", 0, USAGE, &[]),
     ("-h", b"", 0, USAGE, &[]),
     ("--help", b"", 0, USAGE, &[]),
+    ("read --help", b"", 0, USAGE, &[]),
+    ("--version", b"", 0, &["welsbell 1."], &[]),
     ("run", b"help\n", 0, &["open clients CLIENTS period PERIOD records RECORDS", "submit CLIENT by DEADLINE"], &[]),
     ("run", b"help\n", 0, &["\n  tick\n", "\n  report CLIENT\n", "\n  chart\n"], &[]),
     ("run", b"open clients 1 period 1 records 1\r\nTICK\r\n", 0, &["opened\nslot 0: "], &[]),
