@@ -4,7 +4,7 @@ use crate::numbers::counted;
 use std::fmt::{self, Display, Formatter};
 
 /// Where the numbers are from.
-pub const SOURCES: &str = "The queue's rows are the proved session program's; the others are simulated.";
+pub const SOURCES: &str = "The queue's rows are the proved session program's; the others are simulated. Clients are numbered from 1, as in the paper.";
 
 /// What the ratios are.
 const MEANING: &str = "Success, which is served in time / arrived, of all reads and of the worst client";

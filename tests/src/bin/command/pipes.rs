@@ -47,6 +47,8 @@ const GOOD: &[Case] = &[
     ("read --frames --summary -", b"tick\n03\n", 0, &["Refused: 2 lines (number 1: 1, number 4: 1)"], &[]),
     ("read -", b"\n\n", 0, &["Refused: 2 lines (number 1: 2)"], &[]),
     ("read -", b"TICK\n", 0, &["    1  tick", "refused, 4: "], &[]),
+    ("read --summary -", b"010001000000010001\n010001000000010001\n", 0, &["Refused: nothing.\n\nOpened in line 2: "], &[]),
+    ("read -", b"010001000000010001\n010001000000010001\n", 0, &["opened\n\nOpened in line 1: ", "Refused: nothing.\n\n    2  open"], &[]),
     ("run", b"HELP\nQuit\nfly\n", 0, &["submit CLIENT by DEADLINE"], &[]),
     ("draw -", b"03\n", 0, &["No open was accepted, so there is nothing to draw. Refused: 1 line.\n"], &[]),
     ("draw - /nowhere/x.HTM", b"03\n", 0, &["/nowhere/x.HTM is not written."], &[]),
@@ -253,18 +255,21 @@ fn hold_readers(welsbell: &Welsbell, checks: &mut Checks) -> IoResult<()> {
     let input = welsbell.folder.join("long.txt");
     write(&input, [frames::open(1, 1, 1), "\n03".repeat(50_000), "\n".into()].concat())?;
     hold_unread(welsbell, &input, checks)?;
-    hold_half_read(welsbell, &input, checks)
+    hold_half_read(welsbell, &input, checks)?;
+    // What is written only at the end is written too.
+    write(&input, "03\n")?;
+    hold_unread(welsbell, &input, checks)
 }
 
 /// In a pipe too each line is answered before the next is written.
-fn hold_dialogue(welsbell: &Welsbell) -> IoResult<()> {
-    let mut child = welsbell.command("run").stdin(Stdio::piped()).stdout(Stdio::piped()).spawn()?;
+fn hold_dialogue(welsbell: &Welsbell, arguments: &str, expected: [&str; 2]) -> IoResult<()> {
+    let mut child = welsbell.command(arguments).stdin(Stdio::piped()).stdout(Stdio::piped()).spawn()?;
     let (Some(mut input), Some(output)) = (child.stdin.take(), child.stdout.take()) else {
         return Err(Error::other("no pipes"));
     };
     let (sender, answers) = channel();
     spawn(move || BufReader::new(output).lines().map_while(Result::ok).try_for_each(|answer| sender.send(answer)));
-    for (line, expected) in WORDS.lines().zip(["opened", "slot 0"]) {
+    for (line, expected) in WORDS.lines().zip(expected) {
         writeln!(input, "{line}")?;
         let answer = answers.recv_timeout(LIMIT).unwrap_or("no answer".into());
         if !answer.starts_with(expected) {
@@ -299,5 +304,8 @@ pub fn hold(welsbell: &Welsbell, checks: &mut Checks) {
     checks.hold("what is asked at a time", asked.map_err(|error| error.to_string()));
     let readers = hold_readers(welsbell, checks);
     checks.hold("readers", readers.map_err(|error| error.to_string()));
-    checks.hold("a dialogue in a pipe", hold_dialogue(welsbell).map_err(|error| error.to_string()));
+    for (arguments, expected) in [("run", ["opened", "slot 0"]), ("frames -", ["010001000000010001", "03"])] {
+        let held = hold_dialogue(welsbell, arguments, expected).map_err(|error| error.to_string());
+        checks.hold(&format!("a dialogue in a pipe, welsbell {arguments}"), held);
+    }
 }

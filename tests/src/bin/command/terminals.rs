@@ -54,12 +54,21 @@ fn long_file(welsbell: &Welsbell) -> IoResult<PathBuf> {
     Ok(path)
 }
 
-/// A session program that takes its time in the middle of the file, so that there is something to wait for on any machine.
+/// A session program that takes its time behind a quarter of the file, so that there is something to wait for on any machine.
 fn slow_program(welsbell: &Welsbell, file: &Path) -> IoResult<PathBuf> {
-    // The command writes an empty line behind each, so that half of the file's lines are this many.
-    let lines = read_to_string(file)?.lines().count();
+    // The command writes an empty line behind each, so that a quarter of the file's lines are this many.
+    let lines = read_to_string(file)?.lines().count() / 2;
     let program = welsbell.program.display();
     welsbell.script("slow", &format!("{{ sed --unbuffered {lines}q; sleep 0.6; cat; }} | '{program}'"))
+}
+
+/// The bars that were written: the signs in each, and what it says, both in percent.
+fn bars(written: &str) -> Vec<(usize, usize)> {
+    let bar = |part: &str| {
+        let (signs, said) = part.strip_prefix('[')?.strip_suffix(" %")?.split_once(']')?;
+        Some((100 * signs.matches('#').count() / signs.len(), said.trim().parse().ok()?))
+    };
+    written.split('\r').filter_map(bar).collect()
 }
 
 /// A long file to wait for, and where its output goes.
@@ -95,8 +104,9 @@ impl Waiting {
         let expected = self.piped(welsbell, arguments)?;
         let output = to_file.then(|| File::create(&self.written)).transpose()?;
         let (status, all) = Terminal::start(self.command(welsbell, arguments), output)?.end()?;
-        let bar = all.contains("[###") && all.contains(" %");
-        is_so(status.success() && bar == has_bar, || format!("{status}, bar: {bar}"))?;
+        let bars = bars(&all);
+        let is_right = bars.iter().all(|(signs, said)| signs.abs_diff(*said) < 3) && bars.iter().any(|(_, said)| (20..40).contains(said));
+        is_so(status.success() && !bars.is_empty() == has_bar && is_right == has_bar, || format!("{status}, bars: {bars:?}"))?;
         let screen = screen(&all);
         let came = if to_file { read_to_string(&self.written)? } else { screen.join("\n") };
         let differ = expected.lines().zip(came.lines()).find(|(expected, came)| expected.trim_end() != *came);
@@ -108,7 +118,7 @@ impl Waiting {
 
 fn hold_bars(welsbell: &Welsbell, checks: &mut Checks) -> IoResult<()> {
     let waiting = Waiting::new(welsbell)?;
-    let cases = [("read --summary", true, false), ("read --summary", true, true), ("read", false, false), ("draw", true, false)];
+    let cases = [("read --summary", true, false), ("read --summary", true, true), ("read", false, false), ("read", true, true), ("draw", true, false)];
     for (arguments, has_bar, to_file) in cases {
         let held = waiting.hold(welsbell, arguments, has_bar, to_file).map_err(|error| error.to_string());
         checks.hold(&format!("welsbell {arguments} at a terminal, its output in a file: {to_file}"), held);
@@ -116,7 +126,27 @@ fn hold_bars(welsbell: &Welsbell, checks: &mut Checks) -> IoResult<()> {
     Ok(())
 }
 
+/// Where not both sides are the terminal, there is no prompt; and nobody waits for a short file.
+fn hold_without_signs(welsbell: &Welsbell) -> IoResult<()> {
+    let written = welsbell.folder.join("answers.txt");
+    let mut terminal = Terminal::start(welsbell.command("run"), Some(File::create(&written)?))?;
+    terminal.type_in("tick\n")?;
+    terminal.type_in(END)?;
+    let (status, _) = terminal.end()?;
+    let answers = read_to_string(&written)?;
+    is_so(status.success() && answers == "refused, 4: no open was accepted yet\n", || format!("{status}, {answers}"))?;
+    for lines in ["echo tick | \"$0\" run", "echo 03 > \"$1\"; \"$0\" read --summary \"$1\""] {
+        let mut command = Command::new("bash");
+        command.args(["-c", lines]).arg(&welsbell.path).arg(&written);
+        let (status, shown) = Terminal::start(command, None)?.end()?;
+        let is_plain = shown.contains("efused") && !shown.contains(PROMPT) && bars(&shown).is_empty();
+        is_so(status.success() && is_plain, || format!("{lines}: {status}, {shown}"))?;
+    }
+    Ok(())
+}
+
 pub fn hold(welsbell: &Welsbell, checks: &mut Checks) {
+    checks.hold("neither prompt nor bar", hold_without_signs(welsbell).map_err(|error| error.to_string()));
     for last in ENDS {
         let held = hold_dialogue(welsbell, last).map_err(|error| error.to_string());
         checks.hold(&format!("a dialogue that ends with {last:?}"), held);
