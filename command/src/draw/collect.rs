@@ -175,13 +175,13 @@ impl Watcher for Collector {
 }
 
 #[cfg(test)]
-mod tests {
+pub mod tests {
     use super::*;
     use crate::frames::{Frame, ANSWERS, CALLS};
     use crate::input::Line;
 
     /// What is collected of lines, each with its answers.
-    fn collected(lines: &[(&str, &[&str])]) -> Collector {
+    pub fn collected(lines: &[(&str, &[&str])]) -> Collector {
         let (mut collector, mut followed) = (Collector::default(), Followed::default());
         for (number, (line, answers)) in (1..).zip(lines) {
             let call = Frame::read(line.as_bytes(), &CALLS).unwrap();
@@ -196,7 +196,7 @@ mod tests {
         collector
     }
 
-    const DOCUMENT_01: [(&str, &[&str]); 7] = [
+    pub const DOCUMENT_01: [(&str, &[&str]); 7] = [
         ("010002000000640008", &["81"]),
         ("0200000000000000000001", &["8200000000000000010000"]),
         ("0200010000000000000002", &["8200000000000000020001"]),
@@ -214,10 +214,19 @@ mod tests {
         assert_eq!((collector.sessions, collected.line, followed.clock, collected.idle), (1, 1, 1, 0));
         assert_eq!((slot.has_passed, slot.served[0].number, slot.dropped.get(&1)), (true, 1, Some(&1)));
         let column = &collected.columns.columns[0];
+        assert_eq!((&column.served[..], &column.dropped[..]), (&[1, 0, 0][..], &[0, 1, 0][..]));
         assert_eq!((column.mean(0), column.mean(1), column.mean(2)), (Some(0.0), Some(0.5), Some(1.0 / 3.0)));
         let chart = collected.charts.chosen(1)[0];
         let placed: Vec<(u64, u64)> = chart.placed().map(|(slot, read)| (slot, read.number)).collect();
         assert_eq!((chart.line, chart.clock, placed), (5, 0, vec![(0, 1), (1, 2)]));
+    }
+
+    #[test]
+    fn an_idle_slot_and_a_slot_that_is_begun_have_columns() {
+        let collector = collected(&[DOCUMENT_01[0], ("03", &["850000000000000000"]), ("0200000000000000000002", &["8200000000000000010000"])]);
+        let Ended { collected, .. } = &collector.ended[0];
+        let columns = &collected.columns.columns;
+        assert_eq!((collected.idle, columns[0].idle, columns.len(), columns[1].mean(0)), (1, 1, 2, Some(0.0)));
     }
 
     #[test]

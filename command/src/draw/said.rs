@@ -70,3 +70,15 @@ pub fn segment((left, right): &(u64, u64)) -> String {
 pub fn chosen(drawn: usize, charts: u64) -> Option<String> {
     (drawn as u64 != charts).then(|| format!("{drawn} of {} charts are drawn, evenly chosen.", grouped(charts)))
 }
+
+#[cfg(test)]
+mod tests {
+    use super::super::collect::chart::tests::chart_of;
+    use super::*;
+
+    #[test]
+    fn one_read_waits_and_two_wait() {
+        assert_eq!(heading(&chart_of(&[1], &[(0, 1)])), "Chart in line 5, at clock 0: 1 read waits.");
+        assert_eq!(heading(&chart_of(&[1, 2], &[(0, 2)])), "Chart in line 5, at clock 0: 2 reads wait.");
+    }
+}

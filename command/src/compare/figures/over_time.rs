@@ -94,3 +94,49 @@ fn draw_time(plot: &mut Plot) {
     let labels: Vec<(f64, String)> = (0..=4).map(label).collect();
     plot.draw_below("arrival of the reads, ms", &labels);
 }
+
+#[cfg(test)]
+mod tests {
+    use super::*;
+    use crate::compare::experiment::{Arrival, EXPERIMENTS};
+    use crate::compare::outcome::Outcome;
+    use crate::compare::policy::Policy;
+
+    /// The first experiment, in which a read of each client arrives at time 0 and is served in a slot, if it is.
+    fn comparison(served: [Option<u64>; 2]) -> Comparison {
+        let outcome = |client: usize| Outcome {
+            arrival: Arrival::new(client, 0, 500),
+            served: served[client],
+        };
+        Comparison {
+            experiment: &EXPERIMENTS[0],
+            runs: vec![Run::new(Policy::Edf, 2, [0, 1].map(outcome).to_vec())],
+        }
+    }
+
+    /// The points of the lines that have only one.
+    fn marks(drawn: &str) -> Vec<&str> {
+        let points = drawn.split("points=\"").skip(1).filter_map(|part| part.split('"').next());
+        points.filter(|points| points.matches(',').count() == 1).collect()
+    }
+
+    #[test]
+    fn each_client_has_its_own_success() {
+        let drawn = success(&comparison([Some(0), None])).concat();
+        let marks = marks(&drawn);
+        assert_eq!(marks.len(), 2);
+        assert_ne!(marks[0], marks[1]);
+    }
+
+    #[test]
+    fn a_response_is_in_milliseconds() {
+        // 7 slots of 137 µs are 0.959 ms, which stand just below the axis's 1.
+        let drawn = response(&comparison([Some(6), None]), 0);
+        let y: f64 = marks(&drawn)[0].split(',').nth(1).unwrap().parse().unwrap();
+        let tick = |name: &str| -> f64 {
+            let label = drawn.split(&format!(">{name}</text>")).next().unwrap();
+            label.rsplit("y=\"").next().unwrap().split('"').next().unwrap().parse().unwrap()
+        };
+        assert!(y > tick("1") - 0.35 * PANEL.text && y < tick("0.5"), "{y} {} {}", tick("1"), tick("0.5"));
+    }
+}

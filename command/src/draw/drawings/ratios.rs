@@ -138,7 +138,18 @@ pub fn ratios(session: &Ended) -> String {
 
 #[cfg(test)]
 mod tests {
+    use super::super::super::collect::tests::{collected, DOCUMENT_01};
     use super::*;
+
+    #[test]
+    fn a_line_is_at_its_client_s_ratio() {
+        // Of client 0 nothing is dropped, of client 1 the half, which is the largest on the axis, and of all reads a third.
+        let drawn = ratios(&collected(&DOCUMENT_01).ended[0]);
+        let line = |title: &str| drawn.split(title).nth(1).and_then(|part| part.split('"').nth(1)).map(str::to_string);
+        assert_eq!(line("<title>client 0</title>").as_deref(), Some("90.0,214.0 150.0,214.0"));
+        assert_eq!(line("<title>client 1</title>").as_deref(), Some("90.0,34.0 150.0,34.0"));
+        assert!(drawn.contains("points=\"90.0,94.0 150.0,94.0\"") && drawn.contains(">0.500</text>"));
+    }
 
     #[test]
     fn a_level_line_has_two_ends() {

@@ -96,6 +96,12 @@ mod tests {
     use super::*;
 
     #[test]
+    fn the_first_slot_stands_at_the_left() {
+        let scale = Scale { first: 40, end: 80, slot: 10.0 };
+        assert_eq!((scale.x(40), scale.x(42), scale.right()), (LEFT, LEFT + 20.0, LEFT + 400.0));
+    }
+
+    #[test]
     fn numbers_on_an_axis_are_round_and_have_room() {
         assert_eq!(ticks(0, 5, 30.0), [0, 1, 2, 3, 4, 5]);
         assert_eq!(ticks(40, 80, 22.0), [40, 42, 44, 46, 48, 50, 52, 54, 56, 58, 60, 62, 64, 66, 68, 70, 72, 74, 76, 78, 80]);

@@ -67,3 +67,28 @@ pub fn slots(session: &Ended) -> String {
     }
     bands::bands(session).unwrap_or_else(|| shares::shares(session))
 }
+
+#[cfg(test)]
+mod tests {
+    use super::super::super::collect::tests::{collected, DOCUMENT_01};
+    use super::*;
+
+    #[test]
+    fn the_first_period_has_not_ended_before_its_last_slot_has() {
+        let session = |period: &'static str| collected(&[&[(period, &["81"][..])], &DOCUMENT_01[1..]].concat());
+        assert_eq!(periods(&session("010002000000640008").ended[0]), " The first period, of 100 slots, has not ended.");
+        assert_eq!(periods(&session("010002000000010008").ended[0]), " A thin line is where a period starts, each 1 slot.");
+    }
+
+    #[test]
+    fn a_row_has_its_own_drops_and_the_last_the_idle_slots() {
+        let drawn = shares::shares(&collected(&DOCUMENT_01).ended[0]);
+        // Whether each path of a colour has bars in it.
+        let bars = |fill: &str| -> Vec<bool> {
+            let end = format!("\" fill=\"{fill}\"></path>");
+            drawn.match_indices(&end).map(|(place, _)| !drawn[..place].ends_with("d=\"")).collect()
+        };
+        // Client 1's read was dropped, client 0's was served, and no slot was idle.
+        assert_eq!((bars("#c00000"), bars("#767676"), bars("#0072b2")), (vec![false, true], vec![false], vec![true]));
+    }
+}

@@ -153,6 +153,13 @@ segments  [0, 2]";
     }
 
     #[test]
+    fn a_list_is_not_cut_for_few() {
+        let listed = |count: u64| list(&chart_of(&(1..=count).collect::<Vec<_>>(), &[(0, count)]));
+        assert_eq!((listed(12).len(), listed(13).len()), (13, 12));
+        assert_eq!(listed(13)[11], "       and  3 more, up to slot 12");
+    }
+
+    #[test]
     fn many_reads_are_a_list_that_is_cut() {
         let deadlines: Vec<u64> = (1..=40).collect();
         let drawn = chart(&chart_of(&deadlines, &[(0, 40)]), 80);

@@ -42,8 +42,16 @@ pub fn turns(input: &[u8]) -> Vec<Turn<'_>> {
 struct Request {
     number: u64,
     client: u64,
+    deadline: u64,
     /// The clock at its submission.
     clock: u64,
+}
+
+impl Request {
+    fn title(&self, slot: u64) -> String {
+        let Request { number, client, deadline, clock } = self;
+        format!("slot {slot}: number {number} of client {client}, submitted at clock {clock}, to end by {deadline}")
+    }
 }
 
 /// What a list of lines shows, from an accepted open on or before the first.
@@ -78,9 +86,9 @@ impl List {
             (&[_, clients, period, records], [OPENED]) => {
                 (self.line, self.clients, self.period, self.records) = (turn.number, clients, period, records);
             }
-            (&[_, client, _], &[KEPT, number, _]) => self.requests.push(Request { number, client, clock }),
-            (&[_, client, _], &[DROPPED, number, victim, _]) => {
-                self.requests.push(Request { number, client, clock });
+            (&[_, client, deadline], &[KEPT, number, _]) => self.requests.push(Request { number, client, deadline, clock }),
+            (&[_, client, deadline], &[DROPPED, number, victim, _]) => {
+                self.requests.push(Request { number, client, deadline, clock });
                 self.dropped.push((clock, victim));
             }
             (_, &[SERVED, slot, number, _]) => self.served.push((slot, number)),
@@ -111,6 +119,49 @@ impl List {
         [of.len(), served, dropped, of.len() - served - dropped].map(|count| count as u64)
     }
 
+    fn request(&self, number: u64) -> Option<&Request> {
+        self.requests.iter().find(|request| request.number == number)
+    }
+
+    /// Of all reads: slots passed, idle ones, reads submitted, served, dropped and waiting, and, where some were, lines refused.
+    pub fn outcome(&self) -> Vec<u64> {
+        let refused = (!self.refused.is_empty()).then(|| self.refused.values().sum());
+        [self.clock(), self.idle].into_iter().chain(self.counts(|_| true)).chain(refused).collect()
+    }
+
+    /// The client that was served in each slot, if one was.
+    pub fn clients_served(&self) -> Vec<Option<u64>> {
+        let number = |slot: u64| self.served.iter().find(|(served, _)| *served == slot).map(|(_, number)| *number);
+        (0..self.clock()).map(|slot| self.request(number(slot)?).map(|request| request.client)).collect()
+    }
+
+    /// What a drawing says of each read that was served.
+    pub fn served_titles(&self) -> Vec<String> {
+        let title = |&(slot, number): &(u64, u64)| self.request(number).map(|request| request.title(slot));
+        self.served.iter().filter_map(title).collect()
+    }
+
+    /// How many reads of a client were dropped at a clock, by both.
+    pub fn drops(&self) -> BTreeMap<(u64, u64), u64> {
+        let mut drops = BTreeMap::new();
+        let dropped = self.dropped.iter().filter_map(|&(clock, number)| Some((clock, self.request(number)?.client)));
+        dropped.for_each(|drop| *drops.entry(drop).or_default() += 1);
+        drops
+    }
+
+    /// What a drawing says of each waiting read on a chart. "From the last record to the first, a request ends at the smaller of its
+    /// deadline and the start of the record behind it, and starts one slot earlier."
+    pub fn chart_titles(&self) -> Vec<String> {
+        let is_waiting = |request: &&Request| !self.is_served(request) && !self.is_dropped(request);
+        let mut waiting: Vec<&Request> = self.requests.iter().filter(is_waiting).collect();
+        waiting.sort_by_key(|request| (request.deadline, request.number));
+        let starts = waiting.iter().rev().scan(u64::MAX, |start, request| {
+            *start = request.deadline.min(*start) - 1;
+            Some(request.title(*start))
+        });
+        starts.collect()
+    }
+
     /// A client's drops and submits since its period began, in which what waited at the beginning counts as submitted.
     pub fn missed(&self, client: u64) -> [u64; 2] {
         let start = self.clock() - self.clock() % self.period;
@@ -136,7 +187,7 @@ impl List {
     /// its number, its client, that clock and that slot.
     pub fn longest_wait(&self) -> Option<[u64; 5]> {
         let waits = self.served.iter().rev().filter_map(|&(slot, served)| {
-            let request = self.requests.iter().find(|request| request.number == served)?;
+            let request = self.request(served)?;
             Some([slot - request.clock, served, request.client, request.clock, slot])
         });
         // Of equals the last is given, and they come from behind.
@@ -163,9 +214,14 @@ impl List {
         }
     }
 
+    /// The open's line, and what it opened.
+    pub fn opened(&self) -> [u64; 4] {
+        [self.line, self.clients, self.period, self.records]
+    }
+
     fn setup(&self) -> Vec<(&'static str, Vec<u64>)> {
         vec![
-            ("Opened in line", vec![self.line, self.clients, self.period, self.records]),
+            ("Opened in line", self.opened().to_vec()),
             ("passed, of them idle", vec![self.clock(), self.idle]),
             ("client submitted served dropped waiting miss ratio", vec![]),
         ]
@@ -173,17 +229,19 @@ impl List {
 
     /// A row for each client that submitted something, one for all, and of how many no read was taken in.
     fn rows(&self) -> Vec<(&'static str, Vec<u64>)> {
-        let row = |client: Option<u64>| {
-            let counts @ [submitted, _, dropped, _] = self.counts(|request| client.is_none_or(|client| request.client == client));
-            // to three places, rounded
-            let thousandths = (1_000 * dropped + submitted / 2) / submitted.max(1);
-            [client.into_iter().collect(), counts.to_vec(), vec![thousandths / 1_000, thousandths % 1_000]].concat()
-        };
         let submitting = |client: &u64| self.requests.iter().any(|request| request.client == *client);
-        let rows = (0..self.clients).filter(submitting).map(|client| ("", row(Some(client))));
+        let rows = (0..self.clients).filter(submitting).map(|client| ("", self.row(Some(client))));
         let silent = (0..self.clients).filter(|client| !submitting(client)).count() as u64;
         let silent = (silent > 0).then(|| ("no read taken in", vec![silent]));
-        rows.chain([("all", row(None))]).chain(silent).collect()
+        rows.chain([("all", self.row(None))]).chain(silent).collect()
+    }
+
+    /// A client, its counts and its miss ratio; without a client, those of all.
+    pub fn row(&self, client: Option<u64>) -> Vec<u64> {
+        let counts @ [submitted, _, dropped, _] = self.counts(|request| client.is_none_or(|client| request.client == client));
+        // to three places, rounded
+        let thousandths = (1_000 * dropped + submitted / 2) / submitted.max(1);
+        [client.into_iter().collect(), counts.to_vec(), vec![thousandths / 1_000, thousandths % 1_000]].concat()
     }
 
     fn extremes(&self) -> Vec<(&'static str, Vec<u64>)> {

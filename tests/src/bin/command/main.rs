@@ -1,7 +1,8 @@
-//! Holds `welsbell`, the command for people, to the slow model on random sessions, and to what it owes its user in a pipe, on large
-//! inputs and at a terminal. The arguments are the command's path and, if wanted, a seed. The session program is where the command
-//! finds it.
+//! Holds `welsbell`, the command for people, to the slow model on random sessions, said and drawn, and to what it owes its user in a
+//! pipe, on large inputs and at a terminal. The arguments are the command's path and, if wanted, a seed. The session program is where
+//! the command finds it.
 mod checks;
+mod drawn;
 mod large;
 mod list;
 mod pipes;
@@ -25,7 +26,9 @@ fn main() {
     terminals::hold(&welsbell, &mut checks);
     checks.tell(format!("{} cases in a pipe and at a terminal: all as they have to be", checks.held));
     large::hold(&welsbell, &mut checks);
-    sessions::hold(&welsbell, seed(arguments.get(2)), &mut checks);
+    let seed = seed(arguments.get(2));
+    sessions::hold(&welsbell, seed, &mut checks);
+    drawn::hold(&welsbell, seed, &mut checks);
     drop(welsbell);
     end(checks.faults);
 }

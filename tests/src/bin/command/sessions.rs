@@ -195,7 +195,7 @@ fn hold_summaries(shown: &mut Shown, list: &List) -> Result<(), String> {
 }
 
 /// Whether the first line that has something in it looks like a frame. Otherwise the command has to be told that these are frames.
-fn is_seen_as_frames(input: &[u8]) -> bool {
+pub fn is_seen_as_frames(input: &[u8]) -> bool {
     let first = input.split(|&byte| byte == b'\n').map(|line| line.trim_ascii()).find(|line| !line.is_empty());
     first.is_some_and(|line| line.iter().all(u8::is_ascii_hexdigit) && line.iter().any(u8::is_ascii_digit))
 }

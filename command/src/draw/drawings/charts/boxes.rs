@@ -121,3 +121,18 @@ pub fn boxes(session: &Ended, chart: &Chart) -> Option<String> {
     let bands = || stretches.chunks(in_band.max(1)).map(band).collect();
     (stretches.len() <= MOST_BANDS * in_band).then(bands)
 }
+
+#[cfg(test)]
+mod tests {
+    use super::super::super::super::collect::chart::tests::chart_of;
+    use super::super::super::super::collect::tests::{collected, DOCUMENT_01};
+    use super::*;
+
+    #[test]
+    fn a_mark_is_where_a_read_has_to_end() {
+        let drawn = boxes(&collected(&DOCUMENT_01).ended[0], &chart_of(&[1, 3], &[(0, 1), (2, 3)])).unwrap();
+        // Slots are 36 wide: 1 is at 126, and 3 at 198.
+        let marks: Vec<&str> = drawn.split("d=\"M").skip(1).filter_map(|part| part.split_once("l-4 6h8z")).map(|(at, _)| at).collect();
+        assert_eq!(marks, ["126 68", "198 68"]);
+    }
+}

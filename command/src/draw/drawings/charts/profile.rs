@@ -128,3 +128,27 @@ pub fn profile(session: &Ended, chart: &Chart) -> (String, String) {
         format!(" A column stands for {stands} and is as high as the share of them that is taken; below hang the deadlines in it.");
     (said, svg.drawing())
 }
+
+#[cfg(test)]
+mod tests {
+    use super::super::super::super::collect::chart::tests::chart_of;
+    use super::super::super::super::collect::tests::{collected, DOCUMENT_01};
+    use super::*;
+
+    #[test]
+    fn a_deadline_belongs_to_the_slot_that_it_ends() {
+        let profile = Profile::of(&collected(&DOCUMENT_01).ended[0], &chart_of(&[1, 3, 3], &[(0, 3)]));
+        assert_eq!((profile.width, profile.taken, profile.deadlines), (1, vec![vec![1, 1, 1], vec![0, 0, 0]], vec![1, 0, 2]));
+    }
+
+    #[test]
+    fn rows_stand_on_each_other() {
+        let session = &collected(&DOCUMENT_01).ended[0];
+        let profile = Profile { width: 2, taken: vec![vec![1], vec![1]], deadlines: vec![2] };
+        let mut svg = Svg::new(1.0, 1.0, "");
+        let scale = Scale { first: 0, end: 2, slot: 10.0 };
+        (0..2).for_each(|row| profile.draw_row(&mut svg, session, &scale, row));
+        let drawn = svg.drawing();
+        assert!(drawn.contains("M90 58h20v30H90z") && drawn.contains("M90 28h20v30H90z"), "{drawn}");
+    }
+}
