@@ -1,5 +1,5 @@
 //! How the command ends where it cannot go on.
-use crate::input::Line;
+use crate::lines::input::Line;
 use std::fmt::Display;
 use std::io::{Error, ErrorKind};
 

@@ -1,25 +1,15 @@
 //! `welsbell`, the command for people: sessions in words, over the proved session program.
-mod compare;
-mod draw;
+mod commands;
+mod drawing;
 mod failure;
-mod follow;
-mod frames;
-mod input;
+mod lines;
 mod numbers;
-mod page;
-mod program;
-mod progress;
-mod read;
-mod run;
-mod say;
+mod said;
 mod session;
-mod summary;
-mod svg;
-mod to_frames;
-mod watch;
-mod words;
 
+use commands::{compare, draw, frames, read, run};
 use failure::Failure;
+use session::watch::Recorded;
 use session::Language;
 use std::borrow::Cow;
 use std::env::args_os;
@@ -27,7 +17,6 @@ use std::ffi::OsString;
 use std::path::Path;
 use std::io::{stderr, stdout, Write};
 use std::process::exit;
-use watch::Recorded;
 
 const USAGE: &str = "\
 welsbell run                 a session in words, at a terminal or from a pipe; `help` in it tells what to write
@@ -59,7 +48,7 @@ fn command(arguments: &[OsString]) -> Result<(), Failure> {
         ["draw", _] if are_known(&["--frames"]) => draw::draw(&recorded(), None),
         ["draw", _, _] if are_known(&["--frames"]) => draw::draw(&recorded(), Some(files[2])),
         ["run"] if options.is_empty() => run::run(),
-        ["frames", _] if options.is_empty() => to_frames::frames(files[1]),
+        ["frames", _] if options.is_empty() => frames::frames(files[1]),
         ["compare"] if options.is_empty() => compare::print(),
         ["compare", _] if options.is_empty() => compare::draw(files[1]),
         ["help" | "-h"] => usage(),

@@ -1,0 +1,197 @@
+//! What a session came to: counts by client, the longest wait, the busiest stretch, the refusals.
+use crate::session::follow::{Counts, Event, Followed, Read};
+use crate::numbers::{counted, grouped, share};
+use std::collections::BTreeMap;
+use std::fmt::{self, Display, Formatter};
+
+/// A run of slots in each of which a read was served.
+#[derive(Clone, Copy, Default)]
+struct Stretch {
+    first: u64,
+    /// The slot behind the last.
+    end: u64,
+    served: u64,
+    dropped: u64,
+}
+
+impl Stretch {
+    fn slots(&self) -> u64 {
+        self.end - self.first
+    }
+}
+
+#[derive(Default)]
+pub struct Summary {
+    /// The line of the open.
+    line: u64,
+    idle: u64,
+    longest: Option<(u64, Read)>,
+    stretch: Stretch,
+    busiest: Stretch,
+    /// Drops since the last slot passed: they belong to the slot that comes.
+    dropped: u64,
+    refused: BTreeMap<u64, u64>,
+}
+
+impl Summary {
+    pub fn of_line(line: u64) -> Summary {
+        Summary {
+            line,
+            ..Summary::default()
+        }
+    }
+
+    pub fn take(&mut self, event: &Event) {
+        match event {
+            Event::Dropped(..) => self.dropped += 1,
+            Event::Served { slot, read } => self.serve(*slot, *read),
+            Event::Idle { .. } => {
+                self.idle += 1;
+                self.stretch = Stretch::default();
+                self.dropped = 0;
+            }
+            Event::Refused(number) => *self.refused.entry(*number).or_default() += 1,
+            _ => {}
+        }
+    }
+
+    fn serve(&mut self, slot: u64, read: Read) {
+        if self.longest.is_none_or(|(last, longest)| slot - read.since > last - longest.since) {
+            self.longest = Some((slot, read));
+        }
+        if self.stretch.served == 0 {
+            self.stretch.first = slot;
+        }
+        self.stretch.end = slot + 1;
+        self.stretch.served += 1;
+        self.stretch.dropped += std::mem::take(&mut self.dropped);
+        // One that has begun in the same slot is the same one.
+        if self.stretch.slots() > self.busiest.slots() || self.stretch.first == self.busiest.first {
+            self.busiest = self.stretch;
+        }
+    }
+
+    /// Whether there is nothing to say of the session, which was followed to its end.
+    pub fn is_empty(&self, followed: &Followed) -> bool {
+        !followed.is_open && self.refused.is_empty()
+    }
+
+    pub fn shown<'a>(&'a self, followed: &'a Followed) -> Shown<'a> {
+        Shown { summary: self, followed }
+    }
+}
+
+/// A summary with the session that it is of, followed to its end.
+pub struct Shown<'a> {
+    summary: &'a Summary,
+    followed: &'a Followed,
+}
+
+impl Shown<'_> {
+    fn waiting_of(&self, client: usize) -> u64 {
+        self.followed.waiting.values().filter(|read| read.client == client as u64).count() as u64
+    }
+
+    fn write_clients(&self, f: &mut Formatter) -> fmt::Result {
+        writeln!(f, "client  submitted     served    dropped  waiting  miss ratio")?;
+        let clients = &self.followed.clients;
+        for (client, counts) in clients.iter().enumerate().filter(|(_, counts)| counts.submitted > 0) {
+            write_row(f, &client.to_string(), counts, self.waiting_of(client))?;
+        }
+        write_row(f, "all", &clients.iter().sum(), self.followed.waiting.len() as u64)?;
+        let silent = clients.iter().filter(|counts| counts.submitted == 0).count() as u64;
+        if silent > 0 {
+            writeln!(f, "{} had no read taken in.", counted(silent, "client"))?;
+        }
+        Ok(())
+    }
+
+    fn write_longest(&self, f: &mut Formatter) -> fmt::Result {
+        let Some((slot, read)) = self.summary.longest else { return Ok(()) };
+        let wait = counted(slot - read.since, "slot");
+        writeln!(
+            f,
+            "Longest wait: {wait}, number {} of client {}, submitted at clock {} and served in slot {slot}.",
+            read.number, read.client, read.since
+        )?;
+        let Stretch { first, end, served, dropped } = self.summary.busiest;
+        let (last, reads) = (end - 1, counted(served, "read"));
+        writeln!(
+            f,
+            "Busiest stretch: slots {first} to {last}, {reads} served without an idle slot, {} dropped.",
+            grouped(dropped)
+        )
+    }
+
+    fn write_refused(&self, f: &mut Formatter) -> fmt::Result {
+        let refused = &self.summary.refused;
+        if refused.is_empty() {
+            return write!(f, "Refused: nothing.");
+        }
+        let by_number = refused.iter().map(|(number, times)| format!("number {number}: {}", grouped(*times)));
+        let by_number: Vec<String> = by_number.collect();
+        let all = counted(refused.values().sum(), "line");
+        write!(f, "Refused: {all} ({}).", by_number.join(", "))
+    }
+}
+
+fn write_row(f: &mut Formatter, name: &str, counts: &Counts, waiting: u64) -> fmt::Result {
+    let [submitted, served, dropped] = [counts.submitted, counts.served, counts.dropped].map(grouped);
+    let (missed, of) = counts.missed();
+    let ratio = share(missed, of);
+    writeln!(f, "{name:>6} {submitted:>10} {served:>10} {dropped:>10} {waiting:>8}  {ratio:>10}")
+}
+
+impl Display for Shown<'_> {
+    fn fmt(&self, f: &mut Formatter) -> fmt::Result {
+        let Shown { summary, followed } = self;
+        if !followed.is_open {
+            writeln!(f, "No open was accepted.")?;
+            return self.write_refused(f);
+        }
+        let clients = counted(followed.clients.len() as u64, "client");
+        let records = counted(followed.records, "waiting record");
+        let slots = counted(followed.clock, "slot");
+        writeln!(
+            f,
+            "Opened in line {}: {clients}, period {}, {records}.",
+            grouped(summary.line),
+            grouped(followed.period)
+        )?;
+        writeln!(f, "{slots} passed, {} of them idle.", grouped(summary.idle))?;
+        self.write_clients(f)?;
+        self.write_longest(f)?;
+        self.write_refused(f)
+    }
+}
+
+#[cfg(test)]
+mod tests {
+    use super::*;
+
+    /// What is left of events, each of which is a drop, an idle slot or a read that is served.
+    fn busiest(events: &[Event]) -> (u64, u64, u64, u64) {
+        let mut summary = Summary::default();
+        events.iter().for_each(|event| summary.take(event));
+        let Stretch { first, end, served, dropped } = summary.busiest;
+        (first, end, served, dropped)
+    }
+
+    const READ: Read = Read { deadline: 9, number: 1, client: 0, since: 0 };
+
+    fn served(slot: u64) -> Event {
+        Event::Served { slot, read: READ }
+    }
+
+    #[test]
+    fn a_stretch_is_as_long_as_its_slots() {
+        assert_eq!(busiest(&[served(0), served(0), served(0), Event::Idle { slot: 1 }, served(2), served(3)]), (2, 4, 2, 0));
+        assert_eq!(busiest(&[served(4), served(4)]), (4, 5, 2, 0));
+    }
+
+    #[test]
+    fn drops_belong_to_the_slot_that_comes() {
+        let dropped = || Event::Dropped(READ, READ);
+        assert_eq!(busiest(&[dropped(), Event::Idle { slot: 0 }, dropped(), served(1), dropped()]), (1, 2, 1, 1));
+    }
+}
