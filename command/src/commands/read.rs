@@ -41,7 +41,7 @@ impl Reader {
         if !self.summary.is_empty(followed) || self.is_over && !self.has_written {
             self.end_paragraph()?;
             writeln!(self.out, "{}", self.summary.shown(followed))?;
-            // No line may stand half written when the bar comes.
+            // It is seen before the bar comes and the next session is waited for.
             self.out.flush()?;
         }
         Ok(())

@@ -7,6 +7,13 @@ use crate::session::{Asked, Turn};
 /// So many segments are named in one answer.
 const NAMED: usize = 12;
 
+/// What a session was opened with, and in which line.
+pub fn opened(line: u64, followed: &Followed) -> String {
+    let clients = counted(followed.clients.len() as u64, "client");
+    let records = counted(followed.records, "waiting record");
+    format!("Opened in line {}: {clients}, period {}, {records}.", grouped(line), grouped(followed.period))
+}
+
 /// What a turn asked, in words where it is a call.
 pub fn asked(turn: &Turn) -> String {
     match &turn.asked {

@@ -1,6 +1,7 @@
 //! What a session came to: counts by client, the longest wait, the busiest stretch, the refusals.
 use crate::session::follow::{Counts, Event, Followed, Read};
 use crate::numbers::{counted, grouped, share};
+use crate::say;
 use std::collections::BTreeMap;
 use std::fmt::{self, Display, Formatter};
 
@@ -149,15 +150,8 @@ impl Display for Shown<'_> {
             writeln!(f, "No open was accepted.")?;
             return self.write_refused(f);
         }
-        let clients = counted(followed.clients.len() as u64, "client");
-        let records = counted(followed.records, "waiting record");
         let slots = counted(followed.clock, "slot");
-        writeln!(
-            f,
-            "Opened in line {}: {clients}, period {}, {records}.",
-            grouped(summary.line),
-            grouped(followed.period)
-        )?;
+        writeln!(f, "{}", say::opened(summary.line, followed))?;
         writeln!(f, "{slots} passed, {} of them idle.", grouped(summary.idle))?;
         self.write_clients(f)?;
         self.write_longest(f)?;

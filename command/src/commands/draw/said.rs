@@ -3,17 +3,14 @@ use super::collect::chart::Chart;
 use super::collect::Ended;
 use crate::session::follow::{Counts, Read};
 use crate::numbers::{counted, grouped};
+use crate::say;
 
 /// So many segments are named.
 const NAMED: usize = 12;
 
 /// What the session was opened with.
 pub fn setup(session: &Ended) -> String {
-    let Ended { collected, followed, .. } = session;
-    let clients = counted(followed.clients.len() as u64, "client");
-    let records = counted(followed.records, "waiting record");
-    let (line, period) = (grouped(collected.line), grouped(followed.period));
-    format!("Opened in line {line}: {clients}, period {period}, {records}.")
+    say::opened(session.collected.line, &session.followed)
 }
 
 /// What it came to.

@@ -117,6 +117,17 @@ pub fn ended(command: &mut Command, input: impl Into<Vec<u8>>) -> Result<Ended, 
     run(command, vec![input.into()]).map(Ended::from).map_err(|error| error.to_string())
 }
 
+/// What the command has to be told where the first line that has something in it does not look like a frame.
+pub fn option_for(input: &[u8]) -> &'static str {
+    let first = input.split(|&byte| byte == b'\n').map(|line| line.trim_ascii()).find(|line| !line.is_empty());
+    let is_like_a_frame = |line: &[u8]| line.iter().all(u8::is_ascii_hexdigit) && line.iter().any(u8::is_ascii_digit);
+    if first.is_some_and(is_like_a_frame) {
+        ""
+    } else {
+        "--frames"
+    }
+}
+
 /// All numbers in a text, in their order. A comma between two digits only groups them.
 pub fn numbers(text: &str) -> Vec<u64> {
     let is_digit = |place: Option<usize>| place.and_then(|place| text.as_bytes().get(place)).is_some_and(u8::is_ascii_digit);

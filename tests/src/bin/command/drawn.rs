@@ -1,7 +1,6 @@
 //! `welsbell draw` on random sessions, beside the model: what is said of each session, the sign of each slot, and on the page every row
 //! of the table, every box and every cross; and the page of `welsbell compare` beside its table.
-use crate::sessions::is_seen_as_frames;
-use crate::checks::{ended, numbers, Checks, Welsbell};
+use crate::checks::{ended, numbers, option_for, Checks, Welsbell};
 use crate::list::{turns, List, Turn};
 use std::collections::BTreeMap;
 use std::fs::read_to_string;
@@ -124,10 +123,9 @@ fn hold_places(svg: &str) -> Result<(), String> {
 /// A file of sessions. How many of them have all their slots, and all their charts, drawn one by one.
 fn hold_file(welsbell: &Welsbell, input: &[u8]) -> Result<[usize; 2], String> {
     let page = welsbell.folder.join("page.html");
-    let language = if is_seen_as_frames(input) { "" } else { "--frames" };
     let turns = turns(input);
     let lists: Vec<&[Turn]> = turns.chunk_by(|_, next| !next.is_opened()).filter(|list| list[0].is_opened()).collect();
-    let came = welsbell.ended(&format!("draw {language} - {}", page.display()), input)?;
+    let came = welsbell.ended(&format!("draw {} - {}", option_for(input), page.display()), input)?;
     is_so(came.code == Some(0) && came.err.is_empty(), || format!("{came:?}"))?;
     came.hold_plain()?;
     if lists.is_empty() {

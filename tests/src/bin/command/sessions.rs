@@ -1,5 +1,5 @@
 //! `welsbell read` and `welsbell frames` on random sessions, beside the model.
-use crate::checks::{numbers, Checks, Welsbell};
+use crate::checks::{numbers, option_for, Checks, Welsbell};
 use crate::list::{turns, List, Turn};
 use crate::reasons::{true_reason, REASONS};
 use std::collections::BTreeMap;
@@ -194,12 +194,6 @@ fn hold_summaries(shown: &mut Shown, list: &List) -> Result<(), String> {
     summary.try_for_each(|expected| hold_summary(shown.next(), &expected).map_err(|fault| shown.told(fault)))
 }
 
-/// Whether the first line that has something in it looks like a frame. Otherwise the command has to be told that these are frames.
-pub fn is_seen_as_frames(input: &[u8]) -> bool {
-    let first = input.split(|&byte| byte == b'\n').map(|line| line.trim_ascii()).find(|line| !line.is_empty());
-    first.is_some_and(|line| line.iter().all(u8::is_ascii_hexdigit) && line.iter().any(u8::is_ascii_digit))
-}
-
 /// What the sessions came to together.
 #[derive(Default)]
 struct Held {
@@ -213,9 +207,9 @@ impl Held {
     fn session(&mut self, welsbell: &Welsbell, input: &[u8]) -> Result<(), String> {
         let turns = turns(input);
         let lists: Vec<&[Turn]> = turns.chunk_by(|_, next| !next.is_opened()).collect();
-        let language = if is_seen_as_frames(input) { "" } else { "--frames" };
-        let read = welsbell.ended(&format!("read {language} -"), input)?;
-        let summary = welsbell.ended(&format!("read {language} --summary -"), input)?;
+        let option = option_for(input);
+        let read = welsbell.ended(&format!("read {option} -"), input)?;
+        let summary = welsbell.ended(&format!("read {option} --summary -"), input)?;
         let (mut lines, mut summaries) = (Shown::of(&read.out), Shown::of(&summary.out));
         let mut calls = vec![];
         for turns in &lists {
