@@ -1,7 +1,7 @@
 //! What a session came to: counts by client, the longest wait, the busiest stretch, the refusals.
 use crate::session::follow::{Counts, Event, Followed, Read};
 use crate::numbers::{counted, grouped, share};
-use crate::say;
+use crate::said::say;
 use std::collections::BTreeMap;
 use std::fmt::{self, Display, Formatter};
 

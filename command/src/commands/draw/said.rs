@@ -3,7 +3,7 @@ use super::collect::chart::Chart;
 use super::collect::Ended;
 use crate::session::follow::{Counts, Read};
 use crate::numbers::{counted, grouped};
-use crate::say;
+use crate::said::say;
 
 /// So many segments are named.
 const NAMED: usize = 12;
