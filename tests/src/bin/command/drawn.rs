@@ -100,11 +100,23 @@ impl Drawn<'_> {
     }
 }
 
-/// A box stands in the row that has its client's name, and over the number of its slot where the axis has it.
+/// The next row below a cross has the name of the client whose read it is.
+fn hold_crosses(svg: &str, rows: &BTreeMap<&str, &str>) -> Result<(), String> {
+    between(svg, "<title>clock ", "</g>").into_iter().try_for_each(|drawn| {
+        let (title, cross) = drawn.split_once("</title>").unwrap_or_default();
+        let from: f64 = attribute(cross, "d").split(['M', ' ', 'l']).nth(2).and_then(|y| y.parse().ok()).unwrap_or_default();
+        let below = rows.iter().filter_map(|(name, y)| Some((y.parse::<f64>().ok()?, *name))).filter(|(y, _)| *y > from);
+        let next = below.min_by(|(a, _), (b, _)| a.total_cmp(b)).map(|(_, name)| name);
+        is_so(next.is_some_and(|name| title.ends_with(&format!(" of {name}"))), || format!("{title}: {cross}, rows {rows:?}"))
+    })
+}
+
+/// A box stands in the row that has its client's name, and over the number of its slot where the axis has it; a cross stands above its row.
 fn hold_places(svg: &str) -> Result<(), String> {
     let labels = || svg.split("<text").skip(1).filter_map(|label| Some((label, label.split(['>', '<']).nth(1)?)));
     let rows = labels().filter(|(_, name)| name.starts_with("client ")).map(|(label, name)| (name, attribute(label, "y")));
     let rows: BTreeMap<&str, &str> = rows.collect();
+    hold_crosses(svg, &rows)?;
     let is_axis = |label: &str| attribute(label, "font-size") == "11" && attribute(label, "fill") == "#222222";
     let slots = labels().filter(|(label, _)| is_axis(label)).map(|(label, slot)| (slot, attribute(label, "x")));
     let slots: BTreeMap<&str, &str> = slots.collect();
@@ -151,6 +163,8 @@ fn hold_file(welsbell: &Welsbell, input: &[u8]) -> Result<[usize; 2], String> {
     Ok(wholly)
 }
 
+const POLICIES: usize = 4;
+
 type Table<'a> = Vec<Vec<&'a str>>;
 
 /// The rows of a table on a page, without its head.
@@ -180,11 +194,11 @@ fn hold_comparison(welsbell: &Welsbell) -> Result<(), String> {
     let page = read_to_string(path).map_err(|error| error.to_string())?.replace('\u{a0}', " ");
     let tables: Vec<Table> = between(&page, "<table>", "</table>").into_iter().map(rows_of).collect();
     let parts: Vec<&str> = table.split("\nExperiment ").skip(1).collect();
-    let lines = (0..parts.len()).flat_map(|experiment| parts[experiment].lines().skip(1).take(4).enumerate().map(move |line| (experiment, line)));
-    let lines: Vec<(usize, (usize, &str))> = lines.collect();
-    lines.iter().try_for_each(|(experiment, (policy, line))| hold_policy(&tables, (*experiment, *policy), line))?;
+    let lines = parts.iter().flat_map(|part| part.lines().skip(1).take(POLICIES));
+    let lines: Vec<&str> = lines.collect();
+    (0..).zip(&lines).try_for_each(|(place, line)| hold_policy(&tables, (place / POLICIES, place % POLICIES), line))?;
     let is_drawn = |client: usize| page.contains(&format!("average response of client {client} over time"));
-    is_so(lines.len() == 8 && is_drawn(1) && is_drawn(2), || format!("{} rows, or a figure is missing", lines.len()))
+    is_so(lines.len() == 2 * POLICIES && is_drawn(1) && is_drawn(2), || format!("{} rows, or a figure is missing", lines.len()))
 }
 
 /// So many sessions that not all are drawn, with so many charts that not all are.

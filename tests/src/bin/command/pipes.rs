@@ -92,6 +92,7 @@ const BAD: &[Case] = &[
     ("run", b"fly 5678901234567890123456789012345678901234567890123456789X\n", 2, &[], &["56789X`: expected open"]),
     ("run", b"fly 5678901234567890123456789012345678901234567890123456789XY\n", 2, &[], &["56789X...`: expected open"]),
     ("read -", b"0100020000006400\n", 0, &["a frame 01, open, has 18 digits (01, clients in 4, period in 8, records in 4), and this line has 16"], &[]),
+    ("compare /nowhere/words.txt", b"", 2, &[], &["/nowhere/words.txt: expected a name that ends in .html or .svg"]),
     ("draw - /nowhere/words.txt", b"tick\n", 2, &[], &["`/nowhere/words.txt`: expected the name of a page"]),
     ("draw - /nowhere/x.html", b"010001000000010001\n", 1, &["Session 1. "], &["welsbell: /nowhere/x.html: No such file"]),
 ];
