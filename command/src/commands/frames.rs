@@ -2,13 +2,13 @@
 use crate::failure::{wrong_line, Failure};
 use crate::session::{asked_of, Asked, Language};
 use crate::session::watch::input_named;
+use std::io::{stdout, Write};
 use std::path::Path;
-use std::io::{stdout, LineWriter, Write};
 
 pub fn frames(file: &Path) -> Result<(), Failure> {
     let mut input = input_named(file)?;
-    // Line by line, so that lines of several writers to one pipe do not mix.
-    let mut out = LineWriter::new(stdout().lock());
+    // It is written line by line, so that lines of several writers to one pipe do not mix.
+    let mut out = stdout().lock();
     while let Some(line) = input.next()? {
         let wrong = |expected: String| wrong_line(&line, expected);
         match asked_of(&line, Language::Words) {
