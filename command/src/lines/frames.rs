@@ -1,5 +1,5 @@
 //! The one table of the session's frames: kinds, fields with their widths in bytes, and words. What reads, writes, says or explains
-//! a line goes by it, so that a change of a frame is a change here.
+//! a line goes by it, so that a frame with another number in it is a change here. A field is a number of at most 8 bytes.
 use crate::lines::input::LONGEST;
 use crate::numbers::grouped;
 use std::fmt::{self, Display, Formatter};
