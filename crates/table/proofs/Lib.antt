@@ -1,5 +1,5 @@
 pub mod ChangedCounts
-pub mod ThinShifts
+pub mod ThinSlides
 pub mod Heads
 pub mod MovedRecords
 pub mod Requests

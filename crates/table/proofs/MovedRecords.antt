@@ -17,14 +17,14 @@ use Rattle.spec.specs.declared.types.Request.{Request}
 use Rattle.spec.specs.Tables.{zeroRequest}
 use Rattle.spec.specs.Order.{insertAt, removeAt}
 use Rattle.spec.proofs.Laws.Every.{length-remove}
-use Rattle.table.specs.Records.{Shifted, areIn, replaced, takenOut, inserted, removed, removedOut}
+use Rattle.table.specs.Records.{Slid, areIn, replaced, takenOut, inserted, removed, removedOut}
 
 -- a test denied twice holds
 pub not-not : (b : Bool) → T (not (not b)) → T b
 not-not true h = h
 not-not false h = h
 
--- ---- a shift
+-- ---- a slide
 
 -- a record is copied to the place beside its own: without its own place the others are those that were there without the other
 copied : (ws : List Request) (i j : ℕ) (z : Request) → i ≤ suc j → j ≤ suc i → i < length ws → j < length ws
@@ -74,18 +74,18 @@ next-step false n to i fits m h t d =
       nearer = omega arith;
     }
 
--- a shift on its way: the place has moved from `from` to i, and the others are those of before
+-- a slide on its way: the place has moved from `from` to i, and the others are those of before
 pub record Going (up : Bool) (from to : ℕ) (ys : List Request) (i : ℕ) (zs : List Request) : Type 0 where
   pub others : removeAt i zs ≡ removeAt from ys
   pub same-length : length zs ≡ length ys
   pub within : i < length ys
   pub toward : Toward up to i
 
--- what `shift` asks of two places in a table of n
-abbrev pub ShiftBounds : Bool → ℕ → ℕ → ℕ → Type 0
-ShiftBounds up from to n = (from < n) × (to < n) × (up ≡ true → to ≤ from) × (up ≡ false → from ≤ to)
+-- what `slide` asks of two places in a table of n
+abbrev pub SlideBounds : Bool → ℕ → ℕ → ℕ → Type 0
+SlideBounds up from to n = (from < n) × (to < n) × (up ≡ true → to ≤ from) × (up ≡ false → from ≤ to)
 
-pub sets-out : (up : Bool) (from to : ℕ) (ys : List Request) → ShiftBounds up from to (length ys) → Going up from to ys from ys
+pub sets-out : (up : Bool) (from to : ℕ) (ys : List Request) → SlideBounds up from to (length ys) → Going up from to ys from ys
 sets-out true from to ys h = record { others = refl; same-length = refl; within = h .0; toward = h .2 refl }
 sets-out false from to ys h = record { others = refl; same-length = refl; within = h .0; toward = h .3 refl }
 
@@ -107,33 +107,33 @@ module _ {up : Bool} {from to : ℕ} {ys : List Request} (i : ℕ) (zs : List Re
         toward = s .toward;
       }
 
-  pub arrives : T (not (not (eqb i to))) → Shifted from to ys zs
+  pub arrives : T (not (not (eqb i to))) → Slid from to ys zs
   arrives h = record { others = rw (← eqb→eq i to (not-not (eqb i to) h)) (g .others) }
 
--- ---- a shift over the first places, the way that `up` says
-pub asks : (up : Bool) (last n : ℕ) → last < n → ShiftBounds up (cond up last 0) (cond up 0 last) n
+-- ---- a slide over the first places, the way that `up` says
+pub asks : (up : Bool) (last n : ℕ) → last < n → SlideBounds up (cond up last 0) (cond up 0 last) n
 asks true last n h = (h, omega arith, (λ _. zero-le), λ e. absurd (true≢false e))
 asks false last n h = (omega arith, h, (λ e. absurd (true≢false (sym e))), λ _. zero-le)
 
 -- a test has come out as b
 pub turned : (up b : Bool) (last : ℕ) (ys zs : List Request) → T (cond b up (not up))
-    → Shifted (cond b last 0) (cond b 0 last) ys zs → Shifted (cond up last 0) (cond up 0 last) ys zs
+    → Slid (cond b last 0) (cond b 0 last) ys zs → Slid (cond up last 0) (cond up 0 last) ys zs
 turned true true last ys zs h s = s
 turned true false last ys zs h s = absurd h
 turned false true last ys zs h s = absurd h
 turned false false last ys zs h s = s
 
--- ---- a shift of a part
+-- ---- a slide of a part
 -- a record behind others is taken out: they stay
 remove-behind : (xs ws : List Request) (k : ℕ) → removeAt (length xs + k) (xs ++ ws) ≡ xs ++ removeAt k ws
 unfolding removeAt
 remove-behind [] ws k = rw (zero-add k)
 remove-behind (x ∷ xs) ws k = rw (suc-add (length xs) k) (ap (λ (l : List Request). x ∷ l) (remove-behind xs ws k))
 
--- the records from a on, shifted, are the whole shifted at places that are a further
-shifted-from : (a k l : ℕ) (ys zs : List Request) → a ≤ length ys → Shifted k l (drop a ys) zs
-    → Shifted (a + k) (a + l) ys (take a ys ++ zs)
-shifted-from a k l ys zs h s =
+-- the records from a on, slid, are the whole slid at places that are a further
+slid-from : (a k l : ℕ) (ys zs : List Request) → a ≤ length ys → Slid k l (drop a ys) zs
+    → Slid (a + k) (a + l) ys (take a ys ++ zs)
+slid-from a k l ys zs h s =
     record {
       others =
           behind l zs ∙ ap (λ (ws : List Request). take a ys ++ ws) (s .others) ∙ sym (behind k (drop a ys))
@@ -148,15 +148,15 @@ module _ (a i : ℕ) (ys : List Request) (h : a ≤ i) (k : i < length ys) where
   far-within = rw (length-drop a ys) (omega arith)
 
   -- between a and i, the way that `up` says
-  pub moved : (up : Bool) (zs : List Request) → Shifted (cond up (i - a) 0) (cond up 0 (i - a)) (drop a ys) zs
-      → Shifted (cond up i a) (cond up a i) ys (take a ys ++ zs)
-  moved up zs s = go up (shifted-from a (cond up (i - a) 0) (cond up 0 (i - a)) ys zs (omega arith) s)
+  pub moved : (up : Bool) (zs : List Request) → Slid (cond up (i - a) 0) (cond up 0 (i - a)) (drop a ys) zs
+      → Slid (cond up i a) (cond up a i) ys (take a ys ++ zs)
+  moved up zs s = go up (slid-from a (cond up (i - a) 0) (cond up 0 (i - a)) ys zs (omega arith) s)
     where
       far : a + (i - a) ≡ i
       far = omega arith
 
-      go : (b : Bool) → Shifted (a + cond b (i - a) 0) (a + cond b 0 (i - a)) ys (take a ys ++ zs)
-          → Shifted (cond b i a) (cond b a i) ys (take a ys ++ zs)
+      go : (b : Bool) → Slid (a + cond b (i - a) 0) (a + cond b 0 (i - a)) ys (take a ys ++ zs)
+          → Slid (cond b i a) (cond b a i) ys (take a ys ++ zs)
       go true t = rw (far, add-zero) at t
       go false t = rw (far, add-zero) at t
 
@@ -202,8 +202,8 @@ both-in out at ys h = go (ltb out (length ys)) (ltb at (length ys)) (ltb→lt ou
     go true c f g i = (f tt, g i)
     go false c f g i = absurd i
 
--- otherwise the shift leaves `at` to be written
-pub puts-for : (out at : ℕ) (r : Request) (ys zs : List Request) → T (areIn out at ys) → Shifted out at ys zs
+-- otherwise the slide leaves `at` to be written
+pub puts-for : (out at : ℕ) (r : Request) (ys zs : List Request) → T (areIn out at ys) → Slid out at ys zs
     → length zs ≡ length ys → (getD ys out zeroRequest ≡ takenOut out at r ys) × (set zs at r ≡ replaced out at r ys)
 unfolding takenOut replaced
 puts-for out at r ys zs h s l = go (areIn out at ys) h

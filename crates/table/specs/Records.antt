@@ -43,7 +43,7 @@ removed n at ys = cond (canRemove n at ys) (removeAt at (take n ys) ++ zeroReque
 unfoldable pub removedOut : ℕ → ℕ → List Request → Request
 removedOut n at ys = cond (canRemove n at ys) (getD ys at zeroRequest) zeroRequest
 
--- ---- a shift
+-- ---- a slide
 -- the records but for one place: from one table to the other that place moved from `from` to `to`
-pub record Shifted (from to : ℕ) (before after : List Request) : Type 0 where
+pub record Slid (from to : ℕ) (before after : List Request) : Type 0 where
   pub others : removeAt to after ≡ removeAt from before

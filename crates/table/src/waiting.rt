@@ -7,7 +7,7 @@ ghost use mathlib.Core.Bool.{true, false, cond};
 ghost use mathlib.Core.List.{_++_};
 ghost use lib.ListN.{length, getD, set, drop, replicate};
 ghost use Rattle.spec.specs.Tables.{zeroRequest};
-ghost use Rattle.table.specs.Records.{Shifted, replaced, takenOut, inserted, removed, removedOut};
+ghost use Rattle.table.specs.Records.{Slid, replaced, takenOut, inserted, removed, removedOut};
 
 // One record.
 pub fn get(t: &[Request], i: usize) -> Request
@@ -49,14 +49,14 @@ pub(crate) fn next(i: usize, up: bool) -> usize
 
 // Every record from one place to another moves by one, over the first place. The second is free then: whatever it holds, all
 // others stand as they should. `up` says that the second is nearer to the front, as in `next`.
-pub(crate) fn shift(t: &mut [Request], from: usize, to: usize, up: bool)
+pub(crate) fn slide(t: &mut [Request], from: usize, to: usize, up: bool)
     requires { ⌜
         (from < length (now t))
         × (to < length (now t))
         × (up ≡ true → to ≤ from)
         × (up ≡ false → from ≤ to)
         ⌝ }
-    ensures { λ _. ⌜ Shifted from to (now (t .entry)) (now (t .exit)) ⌝ }
+    ensures { λ _. ⌜ Slid from to (now (t .entry)) (now (t .exit)) ⌝ }
 {
     let mut i = from;
     while i != to {
@@ -71,23 +71,23 @@ pub(crate) fn shift(t: &mut [Request], from: usize, to: usize, up: bool)
 // that it moves them as one block.
 pub(crate) fn to_front(t: &mut [Request], last: usize)
     requires { ⌜ last < length (now t) ⌝ }
-    ensures { λ _. ⌜ Shifted 0 last (now (t .entry)) (now (t .exit)) ⌝ }
+    ensures { λ _. ⌜ Slid 0 last (now (t .entry)) (now (t .exit)) ⌝ }
 {
-    shift(t, 0, last, false);
+    slide(t, 0, last, false);
 }
 
 // The same to the back, over the one at `last`.
 pub(crate) fn to_back(t: &mut [Request], last: usize)
     requires { ⌜ last < length (now t) ⌝ }
-    ensures { λ _. ⌜ Shifted last 0 (now (t .entry)) (now (t .exit)) ⌝ }
+    ensures { λ _. ⌜ Slid last 0 (now (t .entry)) (now (t .exit)) ⌝ }
 {
-    shift(t, last, 0, true);
+    slide(t, last, 0, true);
 }
 
 // The one or the other. Each way stays a block only where the choice is made here, over a part that the caller lends.
 pub(crate) fn rotate(t: &mut [Request], last: usize, up: bool)
     requires { ⌜ last < length (now t) ⌝ }
-    ensures { λ _. ⌜ Shifted (cond up last 0) (cond up 0 last) (now (t .entry)) (now (t .exit)) ⌝ }
+    ensures { λ _. ⌜ Slid (cond up last 0) (cond up 0 last) (now (t .entry)) (now (t .exit)) ⌝ }
 {
     if up {
         return to_back(t, last);
@@ -95,10 +95,10 @@ pub(crate) fn rotate(t: &mut [Request], last: usize, up: bool)
     to_front(t, last)
 }
 
-// Every record between two places moves by one, over the one at `out`: a shift, on the part that begins at the nearer place.
+// Every record between two places moves by one, over the one at `out`: a slide, on the part that begins at the nearer place.
 pub(crate) fn move_between(t: &mut [Request], out: usize, at: usize)
     requires { ⌜ (out < length (now t)) × (at < length (now t)) ⌝ }
-    ensures { λ _. ⌜ Shifted out at (now (t .entry)) (now (t .exit)) ⌝ }
+    ensures { λ _. ⌜ Slid out at (now (t .entry)) (now (t .exit)) ⌝ }
 {
     if at < out {
         return rotate(&mut t[at..], out - at, true);

@@ -1,5 +1,5 @@
 -- `table::waiting::move_between` meets its contract: a walk with a branch, in each arm of which the records from the nearer place on are
--- lent to `rotate` (`walk`'s `Slices/Parts.antt`). A shift of that part is one of the whole (`MovedRecords.antt`'s `moved`).
+-- lent to `rotate` (`walk`'s `Slices/Parts.antt`). A slide of that part is one of the whole (`MovedRecords.antt`'s `moved`).
 -- Assumes nothing.
 use Rattle.walk.proofs.Prelude.{refl, ℕ, _-_, _*_, _≤_, _<_, _^_, le-of-lt, lt-of-le-of-lt, sub-le, arith, Bool, true, false, List, [], _∷_, _++_, length, take, ltb→lt, nltb→le, URA, Lft, Share, named, w64, vunit, SProp, Memory, Routine, Heap, Tables, Atoms, Fun, Given, _$_, !, agg, stop, hop, from, addr, lit, true-lit, false-lit, unit-lit, of-opd, bin, and-then, no-more, Room, Nothing, tripleOf}
 use Rattle.walk.proofs.Prelude.{heard, lent, taken, so, Shape, Walk, proved, var, field-var, sets, gives, gives-within, fit, of-nothing, calls-for, branches-out, Param, loan, number, flag, made, of-number, computes}

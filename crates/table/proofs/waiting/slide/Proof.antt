@@ -1,4 +1,4 @@
--- `table::waiting::shift` meets its contract: a walk with a loop. The loop's variant is the place i and the list zs with what is known
+-- `table::waiting::slide` meets its contract: a walk with a loop. The loop's variant is the place i and the list zs with what is known
 -- of them (`MovedRecords.antt`'s `Going`), ordered by the distance to `to`. A turn calls `next`, `get` and `put`, and one law on lists
 -- (`goes-on`) takes both on. The parameters `from` and `to` are a and z here.
 -- Assumes nothing.
@@ -7,11 +7,11 @@ use Rattle.walk.proofs.Prelude.{heard, lent, taken, so, fit, of-number, of-noth
 use Rattle.spec.specs.declared.types.Request.{Request}
 use Rattle.spec.specs.Tables.{zeroRequest}
 use Rattle.table.proofs.Requests.{RequestT, request, a-request}
-use Rattle.table.proofs.MovedRecords.{NextPlace, Going, ShiftBounds, sets-out, steps, goes-on, arrives}
+use Rattle.table.proofs.MovedRecords.{NextPlace, Going, SlideBounds, sets-out, steps, goes-on, arrives}
 use Rattle.table.proofs.waiting.next as next
 use Rattle.table.proofs.waiting.get as get
 use Rattle.table.proofs.waiting.put as put
-use Rattle.table.proofs.waiting.shift as f
+use Rattle.table.proofs.waiting.slide as f
 
 module _ {M : Type 1} (𝓤 : URA M) (H : Heap 𝓤) (A : Atoms 𝓤) (W : Given 𝓤 H A) (mem : Memory → SProp 𝓤) (run : Routine → Fun 𝓤) where
   abbrev shape : Shape W
@@ -31,7 +31,7 @@ module _ {M : Type 1} (𝓤 : URA M) (H : Heap 𝓤) (A : Atoms 𝓤) (W : Given
   walk : (𝓣 : Tables 𝓤 H) → Walk shape 𝓣
   walk 𝓣 known-next known-get known-put κs qs t a a-is z z-is up up-is g Q leaves bs =
       let ys : List Request = t .list in
-      heard ! (ShiftBounds up a z (length ys)) (λ within.
+      heard ! (SlideBounds up a z (length ys)) (λ within.
       copies ! refl refl (tt, fit (a-is .1)) $
       iterates ! 𝓣 {X = (i : ℕ) × (zs : List Request) × Going up a z ys i zs} (λ v. (v .0 - z) + (z - v .0)) (λ v. (0, ‵ (Lent-at t (v .1))) ∷ []) (λ v. (5, vint w64 (v .0)) ∷ []) (a, ys, sets-out up a z ys within) refl (λ v turn.
       let i : ℕ = v .0 in
@@ -59,9 +59,9 @@ module _ {M : Type 1} (𝓤 : URA M) (H : Heap 𝓤) (A : Atoms 𝓤) (W : Given
       sets ! (of-opd ! (unit-lit !)) refl (tt, tt) $ gives ! refl refl $
       leaves vunit tt (zs, tt) (len, tt) (made W of-nothing tt refl) (so 𝓤 (arrives i zs g over)))))
 
-pub shift-spec : {M : Type 1} → f.Statement.statement M
+pub slide-spec : {M : Type 1} → f.Statement.statement M
 unfolding f.Code.routine
-shift-spec 𝓤 H 𝓜 𝓖 𝓡 =
+slide-spec 𝓤 H 𝓜 𝓖 𝓡 =
     proved 𝓤 H 𝓜 𝓖 𝓡 (shape 𝓤 H) (walk 𝓤 H) f.Code.env f.Key.name (f.Code.unfolded 𝓤 H 𝓜 𝓡) (
       (next.Symbol.routine, f.Code.calls-table·waiting·next, next.Met.met 𝓤 H 𝓜 𝓖 𝓡),
       (
