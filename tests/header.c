@@ -113,43 +113,51 @@ static void layouts(void)
     HOLD(clients[4].submitted == 1 && clients[4].served == 0 && clients[4].dropped == 0);
 }
 
-/* Each kind by the call that gives it, with its values by name. No two of an answer's values are the same, so that none can stand
-   for another. Client 7 has missed more than clients 2 and 6, so that its read is kept and the last of theirs is dropped. */
+/* Each kind by the call that gives it, with its values by name. In no answer but the first read's are two values the same, so that
+   none can stand for another. Client 7 has missed more than clients 2 and 6, so that its read is kept and the last of theirs is
+   dropped; two reads of client 5 wait behind them all. */
 static void answers(void)
 {
-    uint64_t starts[3] = {99, 99, 99};
+    uint64_t starts[5] = {99, 99, 99, 99, 99};
     lend(8, 8);
     welsbell_answer a = open_with(8, 1000);
     HOLD(a.kind == WELSBELL_OPENED);
     queue.head.clock = 4;
+    queue.head.last = 20;
     clients[7].submitted = 10;
     clients[7].served = 7;
     clients[7].dropped = 3;
     a = welsbell_queue_tick(&queue);
     HOLD(a.kind == WELSBELL_IDLE && a.is.idle.slot == 4);
+    a = welsbell_queue_submit(&queue, 5, 30);
+    HOLD(a.kind == WELSBELL_KEPT && a.is.kept.number == 21 && a.is.kept.place == 0 && a.is.kept.shift == 0);
+    a = welsbell_queue_submit(&queue, 5, 31);
+    HOLD(a.kind == WELSBELL_KEPT && a.is.kept.number == 22 && a.is.kept.place == 1 && a.is.kept.shift == 0);
     a = welsbell_queue_submit(&queue, 2, 7);
-    HOLD(a.kind == WELSBELL_KEPT && a.is.kept.number == 1 && a.is.kept.place == 0);
+    HOLD(a.kind == WELSBELL_KEPT && a.is.kept.number == 23 && a.is.kept.place == 0 && a.is.kept.shift == 2);
     a = welsbell_queue_submit(&queue, 6, 7);
-    HOLD(a.kind == WELSBELL_KEPT && a.is.kept.number == 2 && a.is.kept.place == 1);
+    HOLD(a.kind == WELSBELL_KEPT && a.is.kept.number == 24 && a.is.kept.place == 1 && a.is.kept.shift == 2);
+    /* the victim stood behind the new one too */
     a = welsbell_queue_submit(&queue, 7, 6);
-    HOLD(a.kind == WELSBELL_DROPPED && a.is.dropped.number == 3 && a.is.dropped.victim == 2 && a.is.dropped.client == 6);
+    HOLD(a.kind == WELSBELL_DROPPED && a.is.dropped.number == 25 && a.is.dropped.victim == 24);
+    HOLD(a.is.dropped.client == 6 && a.is.dropped.shift == 4);
     a = welsbell_queue_tick(&queue);
-    HOLD(a.kind == WELSBELL_SERVED && a.is.served.slot == 5 && a.is.served.number == 3 && a.is.served.client == 7);
+    HOLD(a.kind == WELSBELL_SERVED && a.is.served.slot == 5 && a.is.served.number == 25 && a.is.served.client == 7);
     a = welsbell_queue_submit(&queue, 7, 9);
-    HOLD(a.kind == WELSBELL_KEPT && a.is.kept.number == 4 && a.is.kept.place == 1);
+    HOLD(a.kind == WELSBELL_KEPT && a.is.kept.number == 26 && a.is.kept.place == 1 && a.is.kept.shift == 2);
     a = welsbell_queue_report(&queue, 7);
     HOLD(a.kind == WELSBELL_REPORTED && a.is.reported.client == 7 && a.is.reported.submitted == 12);
     HOLD(a.is.reported.served == 8 && a.is.reported.dropped == 3 && a.is.reported.waiting == 1);
-    a = welsbell_queue_chart(&queue, starts, 3);
-    HOLD(a.kind == WELSBELL_CHARTED && a.is.charted.count == 2);
-    HOLD(starts[0] == 6 && starts[1] == 8 && starts[2] == 99);
+    a = welsbell_queue_chart(&queue, starts, 5);
+    HOLD(a.kind == WELSBELL_CHARTED && a.is.charted.count == 4);
+    HOLD(starts[0] == 6 && starts[1] == 8 && starts[2] == 29 && starts[3] == 30 && starts[4] == 99);
     HOLD(refused(welsbell_queue_report(&queue, 8), WELSBELL_REFUSED_CLIENT));
 }
 
 /* Whether the first numbers, so many, are these, and the others stand as they were. */
-static int wrote(const welsbell_values *values, size_t count, uint64_t a, uint64_t b, uint64_t c)
+static int wrote(const welsbell_values *values, size_t count, uint64_t a, uint64_t b, uint64_t c, uint64_t d)
 {
-    const uint64_t numbers[5] = {a, b, c, 7, 7};
+    const uint64_t numbers[5] = {a, b, c, d, 7};
     for (size_t i = 0; i < 5; i++)
         if (values->numbers[i] != (i < count ? numbers[i] : 7))
             return 0;
@@ -165,18 +173,24 @@ static void values(void)
     welsbell_values v = unwritten;
     lend(8, 2);
     HOLD(welsbell_open(&queue.head, waiting, 8, clients, 6, &setup, &v) == WELSBELL_OPENED);
-    HOLD(wrote(&v, 0, 0, 0, 0));
+    HOLD(wrote(&v, 0, 0, 0, 0, 0));
     HOLD(welsbell_submit(&queue.head, waiting, 8, clients, 6, 1, 5, &v) == WELSBELL_KEPT);
-    HOLD(wrote(&v, 2, 1, 0, 0));
+    HOLD(wrote(&v, 3, 1, 0, 0, 0));
+    v = unwritten;
+    HOLD(welsbell_submit(&queue.head, waiting, 8, clients, 6, 0, 1, &v) == WELSBELL_KEPT);
+    HOLD(wrote(&v, 3, 2, 0, 1, 0));
+    v = unwritten;
+    HOLD(welsbell_submit(&queue.head, waiting, 8, clients, 6, 0, 1, &v) == WELSBELL_DROPPED);
+    HOLD(wrote(&v, 4, 3, 3, 0, 1));
     v = unwritten;
     HOLD(welsbell_report(&queue.head, waiting, 8, clients, 6, 2, &v) == WELSBELL_REFUSED);
-    HOLD(wrote(&v, 1, WELSBELL_REFUSED_CLIENT, 0, 0));
+    HOLD(wrote(&v, 1, WELSBELL_REFUSED_CLIENT, 0, 0, 0));
     v = unwritten;
     HOLD(welsbell_chart(&queue.head, waiting, 8, clients, 6, output, 0, &v) == WELSBELL_REFUSED);
-    HOLD(wrote(&v, 1, WELSBELL_REFUSED_OUTPUT, 0, 0));
+    HOLD(wrote(&v, 1, WELSBELL_REFUSED_OUTPUT, 0, 0, 0));
     v = unwritten;
     HOLD(welsbell_tick(&queue.head, waiting, 8, clients, 6, &v) == WELSBELL_SERVED);
-    HOLD(wrote(&v, 3, 0, 1, 1));
+    HOLD(wrote(&v, 3, 0, 2, 0, 0));
     /* in a welsbell_answer they are 0 */
     HOLD(welsbell_queue_tick(&queue).is.numbers[4] == 0);
 }

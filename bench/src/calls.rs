@@ -34,16 +34,17 @@ pub trait Calls {
         t.clients[client as usize].submitted += 1;
         let waiting = &t.waiting[..n];
         let place = waiting.partition_point(|w| w.deadline <= deadline);
+        let shift = (n - place) as u64;
         let Some(last) = last_candidate(waiting, clock, place, deadline) else {
             t.waiting.copy_within(place..n, place + 1);
             t.waiting[place] = new;
             t.head.waiting += 1;
-            return give(values, KEPT, [number, place as u64]);
+            return give(values, KEPT, [number, place as u64, shift]);
         };
         let at = victim(t, client, place, last);
         let lost = put_for(t.waiting, place, new, at);
         t.clients[lost.client as usize].dropped += 1;
-        give(values, DROPPED, [number, lost.number, lost.client])
+        give(values, DROPPED, [number, lost.number, lost.client, shift])
     }
 
     #[inline(never)]

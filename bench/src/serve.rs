@@ -7,9 +7,9 @@ use tests::tables::*;
 
 pub const SEGMENT: u64 = 0x87;
 
-// With their line feeds: a submit's frame, and the answer of a drop or a tick that serves.
+// With their line feeds: a submit's frame, and the answer of a drop.
 const LONGEST_FRAME: usize = 23;
-const LONGEST_ANSWER: usize = 39;
+const LONGEST_ANSWER: usize = 43;
 
 const INPUT: usize = 65_536;
 const OUTPUT: usize = 131_072;
@@ -134,8 +134,9 @@ impl Answers {
     fn put(&mut self, kind: u64, values: &Values) -> io::Result<()> {
         match kind {
             OPENED => self.put_line(kind, [], values),
-            KEPT => self.put_line(kind, [8, 2], values),
-            DROPPED | SERVED => self.put_line(kind, [8, 8, 2], values),
+            KEPT => self.put_line(kind, [8, 2, 2], values),
+            DROPPED => self.put_line(kind, [8, 8, 2, 2], values),
+            SERVED => self.put_line(kind, [8, 8, 2], values),
             IDLE => self.put_line(kind, [8], values),
             REPORT => self.put_line(kind, [2, 4, 4, 4, 2], values),
             _ => self.put_line(kind, [1], values),

@@ -22,5 +22,10 @@ pub fn counted(number: u64, name: &str) -> String {
 /// The share that a part is of a whole, to the nearest thousandth; that of nothing is 0.
 pub fn share(part: u64, whole: u64) -> String {
     let thousandths = (1_000 * part + whole / 2).checked_div(whole).unwrap_or_default();
-    format!("{}.{:03}", thousandths / 1_000, thousandths % 1_000)
+    format!("{}.{:03}", grouped(thousandths / 1_000), thousandths % 1_000)
+}
+
+/// The mean of so many numbers that have this sum, to the nearest thousandth; that of none is 0.
+pub fn mean(sum: u64, count: u64) -> String {
+    share(sum, count)
 }

@@ -1,6 +1,6 @@
 /* A station that embeds the queue, with tables of 8 waiting records and 2 clients in arrays. It makes the calls of document 01's
-   session, goes on until nothing waits, and says each answer in words. It is C99 and C++11 alike; embed.rs, the Rust wrapper's
-   example, and embed.py do the same. */
+   session, goes on until nothing waits and then for three reads more, and says each answer in words. It is C99 and C++11 alike;
+   embed.rs, the Rust wrapper's example, and embed.py do the same. */
 #include "welsbell.h"
 
 #include <inttypes.h>
@@ -51,11 +51,12 @@ static void say(welsbell_answer answer)
         printf("opened\n");
         break;
     case WELSBELL_KEPT:
-        printf("number %" PRIu64 " is kept, at place %" PRIu64 "\n", is->kept.number, is->kept.place);
+        printf("number %" PRIu64 " is kept, at place %" PRIu64 ", shift %" PRIu64 "\n", is->kept.number, is->kept.place,
+               is->kept.shift);
         break;
     case WELSBELL_DROPPED:
-        printf("number %" PRIu64 " is one too many, number %" PRIu64 " of client %" PRIu64 " is dropped\n", is->dropped.number,
-               is->dropped.victim, is->dropped.client);
+        printf("number %" PRIu64 ", shift %" PRIu64 ", is one too many, number %" PRIu64 " of client %" PRIu64 " is dropped\n",
+               is->dropped.number, is->dropped.shift, is->dropped.victim, is->dropped.client);
         break;
     case WELSBELL_SERVED:
         printf("number %" PRIu64 " of client %" PRIu64 " is served in slot %" PRIu64 "\n", is->served.number, is->served.client,
@@ -130,5 +131,8 @@ int main(void)
     tick();
     tick();
     submit(2, 9);
+    submit(0, 9);
+    submit(0, 4);
+    submit(1, 4);
     return 0;
 }

@@ -1,6 +1,6 @@
 #!/usr/bin/env python3
 """A station that embeds the queue by ctypes, with tables of 8 waiting records and 2 clients. It makes the calls of document 01's
-session, goes on until nothing waits, and says each answer in words; embed.c and embed.rs do the same.
+session, goes on until nothing waits and then for three reads more, and says each answer in words; embed.c and embed.rs do the same.
 
     python3 embed.py [LIBRARY]
 
@@ -11,7 +11,7 @@ import os
 import sys
 from ctypes import CDLL, POINTER, Structure, byref, c_size_t, c_uint32, c_uint64
 
-VERSION = 2  # the interface that this file is written for: WELSBELL_VERSION of the header
+VERSION = 3  # the interface that this file is written for: WELSBELL_VERSION of the header
 RECORDS = 8
 CLIENTS = 2
 
@@ -40,8 +40,8 @@ REFUSED = 0xFF
 CHARTED = 0x88
 SAYINGS = {
     0x81: "opened",
-    0x82: "number {0} is kept, at place {1}",
-    0x83: "number {0} is one too many, number {1} of client {2} is dropped",
+    0x82: "number {0} is kept, at place {1}, shift {2}",
+    0x83: "number {0}, shift {3}, is one too many, number {1} of client {2} is dropped",
     0x84: "number {1} of client {2} is served in slot {0}",
     0x85: "nothing waits in slot {0}",
     0x86: "client {0}: {1} submitted, {2} served, {3} dropped, {4} waiting",
@@ -178,6 +178,9 @@ def main():
     tick(queue)
     tick(queue)
     submit(queue, 2, 9)
+    submit(queue, 0, 9)
+    submit(queue, 0, 4)
+    submit(queue, 1, 4)
 
 
 if __name__ == "__main__":

@@ -47,7 +47,7 @@ extern "C" {
 
 /* The version of this header. It rises with each change of a signature, a layout or a number, so a program asks first whether
    welsbell_version() gives the same: an archive of another version does not fit. */
-#define WELSBELL_VERSION 2
+#define WELSBELL_VERSION 3
 
 /* Clients are 1 to so many, numbered from 0. */
 #define WELSBELL_MOST_CLIENTS 256
@@ -93,11 +93,11 @@ typedef struct welsbell_client {
     uint32_t dropped;
 } welsbell_client;
 
-/* The kinds of answers, with their values in order. */
+/* The kinds of answers, with their values in order. What a shift is stands at welsbell_submit. */
 enum {
     WELSBELL_OPENED = 0x81,   /* no values */
-    WELSBELL_KEPT = 0x82,     /* number, place in chart order (from 0) */
-    WELSBELL_DROPPED = 0x83,  /* the new request's number, the victim's number, the victim's client */
+    WELSBELL_KEPT = 0x82,     /* number, place in chart order (from 0), shift */
+    WELSBELL_DROPPED = 0x83,  /* the new request's number, the victim's number, the victim's client, shift */
     WELSBELL_SERVED = 0x84,   /* slot, number, client */
     WELSBELL_IDLE = 0x85,     /* slot */
     WELSBELL_REPORTED = 0x86, /* client, submitted, served, dropped, waiting */
@@ -110,10 +110,10 @@ enum {
 typedef union welsbell_values {
     uint64_t numbers[5];
     struct {
-        uint64_t number, place;
+        uint64_t number, place, shift;
     } kept;
     struct {
-        uint64_t number, victim, client;
+        uint64_t number, victim, client, shift;
     } dropped;
     struct {
         uint64_t slot, number, client;
@@ -199,7 +199,8 @@ uint64_t welsbell_open(welsbell_head *head,
 
 /* A client submits a request, to be served in slot deadline - 1 at the latest. It gets the next number, and the client's submitted
    rises by 1. Gives WELSBELL_KEPT if every request can still finish. Otherwise one record is taken out, its client's dropped rises
-   by 1, and the answer is WELSBELL_DROPPED; the victim may be the new request. Refusals 4 to 10. */
+   by 1, and the answer is WELSBELL_DROPPED; the victim may be the new request. In both answers shift is how many waiting records
+   stood behind the new one in chart order when it was put in, before any was taken out. Refusals 4 to 10. */
 uint64_t welsbell_submit(welsbell_head *head,
                          welsbell_request *waiting, size_t waiting_length,
                          welsbell_client *clients, size_t client_numbers,

@@ -2,13 +2,13 @@
 pub use crate::tables::*;
 use welsbell::raw;
 
-// An answer's number and as many values as it has. One that document 01 does not know shows all five.
+// An answer's number and as many values as it has. One that the documents do not know shows all five.
 pub fn answer(kind: u64, values: &Values) -> Vec<u64> {
     let count = match kind {
         OPENED => 0,
         IDLE | CHART | REFUSED => 1,
-        KEPT => 2,
-        DROPPED | SERVED => 3,
+        KEPT | SERVED => 3,
+        DROPPED => 4,
         _ => 5,
     };
     [&[kind], &values[..count]].concat()

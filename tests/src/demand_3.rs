@@ -1,8 +1,7 @@
 //! Demand 3: "For every list of calls from open on, served plus waiting is as many as the largest plan has". Requests, clocks,
-//! served and waiting are read off the lines of a session and off what the program printed for them.
+//! served and waiting are read off the calls of a session and off the program's answers.
 use crate::model::calls::{OPENED, REPORT};
 use crate::model::lists::List;
-use crate::model::session::{call_of, read, widths_in, widths_out};
 use crate::model::Call;
 use std::collections::BTreeMap;
 use std::fmt::{self, Display, Formatter};
@@ -30,18 +29,13 @@ pub struct Lists {
 }
 
 impl Lists {
-    // One line of the session more. What is no frame is no call.
-    pub fn follow(&mut self, line: &[u8], printed: &[u8]) -> Result<(), String> {
-        let frame = read(line, widths_in).unwrap_or_default();
-        let last = printed.split(|&byte| byte == b'\n').rev().nth(1).unwrap_or_default();
-        let (Some(call), Some(answer)) = (call_of(&frame), read(last, widths_out)) else {
-            return Ok(());
-        };
-        if answer == [OPENED] {
+    // One call of the session more.
+    pub fn follow(&mut self, call: &Call, answer: &[u64]) -> Result<(), String> {
+        if let (&Call::Open { clients, .. }, [OPENED]) = (call, answer) {
             self.end()?;
             self.current = Some(Current {
                 list: List::default(),
-                clients: frame[1] as usize,
+                clients: clients as usize,
                 reported: BTreeMap::new(),
             });
         }
@@ -49,7 +43,7 @@ impl Lists {
             return Ok(());
         };
         self.calls += 1;
-        current.hold(&call, &answer)?;
+        current.hold(call, answer)?;
         self.sums += current.hold_reports()?;
         if current.list.requests.len() == MOST_REQUESTS {
             self.end()?;

@@ -1,6 +1,7 @@
 //! The exported calls held to the model: after each call its answer, the head, every record of both tables and the output.
 use crate::calls;
 use crate::model::{Answer, Call, Counts, Fault, Queue};
+use crate::shifts::Shifts;
 use crate::tables::{Client, Tables, Values, WIDTH};
 use crate::tally::Tally;
 use std::fmt::Debug;
@@ -64,6 +65,7 @@ pub struct Held {
     pub made: u64,
     pub held: u64,
     pub tally: Tally,
+    pub shifts: Shifts,
 }
 
 impl Held {
@@ -76,6 +78,7 @@ impl Held {
             made: 0,
             held: 0,
             tally: Tally::default(),
+            shifts: Shifts::default(),
         }
     }
 
@@ -111,6 +114,7 @@ impl Held {
         }
         let (mut output, mut values) = lent_for(call);
         let (mut drawn, mut expected) = lent_for(call);
+        let waiting = self.queue.waiting().to_vec();
         let kind = make(&mut self.lent, call, &mut output, &mut values);
         let answer = self.queue.make(call, &mut drawn);
         write(&self.queue, &mut self.expected);
@@ -121,6 +125,7 @@ impl Held {
         expected[..answer.len() - 1].copy_from_slice(&answer[1..]);
         let is_same = kind == answer[0] && values == expected && output == drawn && self.lent == self.expected;
         if is_same {
+            self.shifts.count(&waiting, call, &answer)?;
             return Ok(answer);
         }
         let tables = self.tables_differ().or(differ("output", &drawn, &output));

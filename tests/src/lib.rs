@@ -1,5 +1,5 @@
-//! What the test programs and the benchmark share: the slow model of document 01; tables that are lent and the exported calls over
-//! them, alone (`calls`) and beside the model (`held`); session frames; damages; random sessions and tables.
+//! What the test programs and the benchmark share: the slow model; tables that are lent and the exported calls over them, alone
+//! (`calls`) and beside the model (`held`); session frames; damages; random sessions and tables.
 pub mod calls;
 pub mod damages;
 pub mod demand_3;
@@ -8,5 +8,6 @@ pub mod held;
 pub mod model;
 pub mod program;
 pub mod random;
+pub mod shifts;
 pub mod tables;
 pub mod tally;

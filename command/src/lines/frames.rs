@@ -48,11 +48,15 @@ pub static CALLS: [Kind; 5] = [
 
 pub static ANSWERS: [Kind; 9] = [
     kind(OPENED, &[], "opened"),
-    kind(KEPT, &[("number", 8), ("place", 2)], "kept: number {number}, at place {place}"),
+    kind(
+        KEPT,
+        &[("number", 8), ("place", 2), ("shift", 2)],
+        "kept: number {number}, at place {place}, shift {shift}",
+    ),
     kind(
         DROPPED,
-        &[("number", 8), ("victim", 8), ("client", 2)],
-        "kept: number {number}; dropped: number {victim} of client {client}",
+        &[("number", 8), ("victim", 8), ("client", 2), ("shift", 2)],
+        "kept: number {number}, shift {shift}; dropped: number {victim} of client {client}",
     ),
     kind(
         SERVED,
@@ -235,14 +239,28 @@ impl Display for NoFrame {
 mod tests {
     use super::*;
 
+    fn named(kind: &Kind) -> Vec<&str> {
+        kind.words.split('{').skip(1).filter_map(|part| part.split('}').next()).collect()
+    }
+
+    fn fields(kind: &Kind) -> Vec<&str> {
+        kind.fields.iter().map(|(name, _)| *name).collect()
+    }
+
     /// Words are read in their order, and values stand in that of the fields.
     #[test]
-    fn fields_stand_in_the_words_in_their_order() {
-        for kind in CALLS.iter().chain(&ANSWERS) {
-            let names: Vec<&str> = kind.words.split('{').skip(1).filter_map(|part| part.split('}').next()).collect();
-            let fields: Vec<&str> = kind.fields.iter().map(|(name, _)| *name).collect();
-            assert_eq!(names, fields);
-        }
+    fn fields_of_calls_stand_in_the_words_in_their_order() {
+        CALLS.iter().for_each(|kind| assert_eq!(named(kind), fields(kind)));
+    }
+
+    /// Answers are only written, in whichever order they read well.
+    #[test]
+    fn each_field_of_an_answer_stands_in_its_words() {
+        let sorted = |mut names: Vec<&'static str>| {
+            names.sort_unstable();
+            names
+        };
+        ANSWERS.iter().for_each(|kind| assert_eq!(sorted(named(kind)), sorted(fields(kind))));
     }
 
     #[test]

@@ -54,7 +54,7 @@ fn dropped(turn: &Turn, answer: &Frame, followed: &Followed) -> String {
         format!("client {client} missed {dropped} of {of}")
     };
     let said = match answer["victim"] == answer["number"] {
-        true => format!("dropped: number {} itself", answer["number"]),
+        true => format!("dropped: number {} itself, shift {}", answer["number"], answer["shift"]),
         false => answer.words(),
     };
     let mut ratios = missed(answer["client"]);

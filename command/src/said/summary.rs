@@ -1,6 +1,6 @@
-//! What a session came to: counts by client, the longest wait, the busiest stretch, the refusals.
+//! What a session came to: counts by client, the largest shift, the longest wait, the busiest stretch, the refusals.
 use crate::session::follow::{Counts, Event, Followed, Read};
-use crate::numbers::{counted, grouped, share};
+use crate::numbers::{counted, grouped, mean, share};
 use crate::said::say;
 use std::collections::BTreeMap;
 use std::fmt::{self, Display, Formatter};
@@ -107,6 +107,17 @@ impl Shown<'_> {
         Ok(())
     }
 
+    /// How busy the table was.
+    fn write_shifts(&self, f: &mut Formatter) -> fmt::Result {
+        let submitted = self.followed.clients.iter().map(|counts| counts.submitted).sum();
+        if submitted == 0 {
+            return Ok(());
+        }
+        let most = grouped(self.followed.largest_shift);
+        let mean = mean(self.followed.shifts, submitted);
+        writeln!(f, "Largest shift: {most}, on average {mean}.")
+    }
+
     fn write_longest(&self, f: &mut Formatter) -> fmt::Result {
         let Some((slot, read)) = self.summary.longest else { return Ok(()) };
         let wait = counted(slot - read.since, "slot");
@@ -154,6 +165,7 @@ impl Display for Shown<'_> {
         writeln!(f, "{}", say::opened(summary.line, followed))?;
         writeln!(f, "{slots} passed, {} of them idle.", grouped(summary.idle))?;
         self.write_clients(f)?;
+        self.write_shifts(f)?;
         self.write_longest(f)?;
         self.write_refused(f)
     }
@@ -187,5 +199,16 @@ mod tests {
     fn drops_belong_to_the_slot_that_comes() {
         let dropped = || Event::Dropped(READ, READ);
         assert_eq!(busiest(&[dropped(), Event::Idle { slot: 0 }, dropped(), served(1), dropped()]), (1, 2, 1, 1));
+    }
+
+    #[test]
+    fn shifts_are_summed_up_where_reads_were_submitted() {
+        let said = |submitted: u64| {
+            let clients = vec![Counts { submitted, ..Counts::default() }];
+            let followed = Followed { is_open: true, clients, shifts: 10, largest_shift: 5, ..Followed::default() };
+            Summary::default().shown(&followed).to_string()
+        };
+        assert!(said(3).contains("\nLargest shift: 5, on average 3.333.\n"));
+        assert!(!said(0).contains("behind"));
     }
 }

@@ -75,6 +75,9 @@ pub struct Followed {
     pub clients: Vec<Counts>,
     /// One a client, since the period began, as the queue counts.
     pub in_period: Vec<Counts>,
+    /// The sum of the shifts of all reads that were taken in since the open, and the largest of them.
+    pub shifts: u64,
+    pub largest_shift: u64,
 }
 
 impl Followed {
@@ -125,6 +128,8 @@ impl Followed {
             since: self.clock,
         };
         self.count(read.client, |counts| counts.submitted += 1);
+        self.shifts += answer["shift"];
+        self.largest_shift = self.largest_shift.max(answer["shift"]);
         self.waiting.insert(read.number, read);
         read
     }

@@ -16,6 +16,7 @@ use Rattle.table.specs.Clients.{changedAt, oneMoreUnlessFull}
 use Rattle.occupancy.specs.Scans.{smallestRatioPlace}
 use Rattle.decide.specs.declared.submit.Decision.{Decision}
 use Rattle.decide.specs.declared.submit.Decision.the-variants.{Refuse, Keep, Drop}
+use Rattle.decide.specs.declared.submit.Insertion.{Insertion}
 use Rattle.decide.specs.Reply.{refusedWith}
 use Rattle.decide.specs.Refusal.{ofTables, told}
 
@@ -47,6 +48,10 @@ numberedRequest head client deadline =
 abbrev pub placeWithout : ℕ → ℕ → ℕ
 placeWithout place other = cond (ltb other place) (place - 1) place
 
+-- what became of the new record: which one went out, itself where none did, and how many waiting records stood behind it
+abbrev pub insertionOf : Request → ℕ → Insertion
+insertionOf gone shift = record { gone = gone; shift = shift }
+
 -- ---- the client table's numbers after it; `gone` is the record that went out
 abbrev pub submitNumbers : ℕ → Request → Decision → List ℕ → List ℕ
 submitNumbers client gone (Refuse number) xs = xs
@@ -65,23 +70,24 @@ headAfterSubmit head waiting =
       waiting = waiting;
     }
 
--- "the answer is kept, with number and place"
-abbrev pub keptWith : Head → ℕ → Reply
-keptWith head place =
+-- "the answer is kept, with number and place", and the shift
+abbrev pub keptWith : Head → ℕ → ℕ → Reply
+keptWith head place shift =
     record {
       head = headAfterSubmit head (saturatingNext largest64 (head .waiting));
-      answer = Kept (saturatingNext largest64 (head .last)) place;
+      answer = Kept (saturatingNext largest64 (head .last)) place shift;
     }
 
--- "the answer names the new number, the victim's number and the victim's client."
-abbrev pub droppedWith : Head → Request → Reply
-droppedWith head gone =
+-- "the answer names the new number, the victim's number and the victim's client.", and the shift
+abbrev pub droppedWith : Head → Insertion → Reply
+droppedWith head insertion =
     record {
       head = headAfterSubmit head (head .waiting);
-      answer = Dropped (saturatingNext largest64 (head .last)) (gone .number) (gone .client);
+      answer =
+          Dropped (saturatingNext largest64 (head .last)) (insertion .gone .number) (insertion .gone .client) (insertion .shift);
     }
 
-abbrev pub submitReply : Head → Request → Decision → Reply
-submitReply head gone (Refuse number) = refusedWith head number
-submitReply head gone (Keep place) = keptWith head place
-submitReply head gone (Drop place victim) = droppedWith head gone
+abbrev pub submitReply : Head → Insertion → Decision → Reply
+submitReply head insertion (Refuse number) = refusedWith head number
+submitReply head insertion (Keep place) = keptWith head place (insertion .shift)
+submitReply head insertion (Drop place victim) = droppedWith head insertion

@@ -9,15 +9,17 @@ use spec::types::Reply;
 use spec::types::Request;
 use table::clients;
 use table::clients::Count;
+use table::waiting;
 ghost use mathlib.Core.Path.{_≡_};
 ghost use Prim.Native.Nat.{_≤_, _<_};
 ghost use lib.ListN.{length, getD};
 ghost use Rattle.spec.specs.Tables.{zeroCounts, recordsOf};
 ghost use Rattle.table.specs.Widths.{largest32};
+ghost use Rattle.table.specs.Records.{shiftAt};
 ghost use Rattle.occupancy.specs.Scans.{countsWith};
 ghost use Rattle.decide.specs.declared.submit.Decision.the-variants.{Refuse};
 ghost use Rattle.decide.specs.Submit.{submitMatch, choiceBy, placeWithout, numberedRequest, headAfterSubmit, keptWith};
-ghost use Rattle.decide.specs.Submit.{droppedWith, submitReply, submitNumbers};
+ghost use Rattle.decide.specs.Submit.{insertionOf, droppedWith, submitReply, submitNumbers};
 
 // What a submit does to the waiting table.
 pub enum Decision {
@@ -26,6 +28,20 @@ pub enum Decision {
     Keep { place: usize },
     // The new record goes in at `place`, and then the one at `victim` is taken out.
     Drop { place: usize, victim: usize },
+}
+
+// What became of the new record: which one went out for it, itself where none did, and how many waiting records stood behind it when
+// it was put in.
+pub struct Insertion {
+    pub gone: Request,
+    pub shift: usize,
+}
+
+// The two together, made by a call, since a proof by hand goes over calls.
+pub fn insertion_of(gone: Request, shift: usize) -> Insertion
+    ensures { λ r. ⌜ r ≡ insertionOf gone shift ⌝ }
+{
+    Insertion { gone, shift }
 }
 
 // The number of the first refusal that matches, or 0.
@@ -94,13 +110,35 @@ pub fn choice(
 }
 
 // A place among the waiting records and the new one, as it is where the one at `other` is left out.
-pub fn place_without(place: usize, other: usize) -> usize
+fn place_without(place: usize, other: usize) -> usize
     ensures { λ r. ⌜ r ≡ placeWithout place other ⌝ }
 {
     if other < place {
         return place - 1;
     }
     place
+}
+
+// A drop as it is done to the waiting table: the record at `out` goes and the new one goes in at `at`, as they stand without each other.
+// `shift` is how many of the waiting records stood behind the new one while all were there.
+pub struct Exchange {
+    pub out: usize,
+    pub at: usize,
+    pub shift: usize,
+}
+
+// The drop by which, of n waiting records and the new one at `place`, the one at `victim` goes.
+pub fn exchange_of(n: usize, place: usize, victim: usize) -> Exchange
+    ensures { λ r. ⌜
+        (r .out ≡ placeWithout victim place)
+        × (r .at ≡ placeWithout place victim)
+        × (r .shift ≡ shiftAt n place)
+        ⌝ }
+{
+    let out = place_without(victim, place);
+    let at = place_without(place, victim);
+    let shift = waiting::shift_at(n, place);
+    Exchange { out, at, shift }
 }
 
 // The new record, with the next request number.
@@ -151,15 +189,16 @@ fn head_after_submit(head: Head, waiting: u64) -> Head
     }
 }
 
-// The reply where all are kept: the new number, and its place.
-fn kept(head: Head, place: usize) -> Reply
-    ensures { λ r. ⌜ r ≡ keptWith head place ⌝ }
+// The reply where all are kept: the new number, its place, and how many stand behind it.
+fn kept(head: Head, place: usize, shift: usize) -> Reply
+    ensures { λ r. ⌜ r ≡ keptWith head place shift ⌝ }
 {
     let waiting = reply::saturating_next(head.waiting);
     let after = head_after_submit(head, waiting);
     let answer = Answer::Kept {
         number: after.last,
         place: place as u64,
+        shift: shift as u64,
     };
     Reply {
         head: after,
@@ -167,15 +206,16 @@ fn kept(head: Head, place: usize) -> Reply
     }
 }
 
-// The reply where one is dropped: the new number, and which one went out.
-fn dropped(head: Head, gone: Request) -> Reply
-    ensures { λ r. ⌜ r ≡ droppedWith head gone ⌝ }
+// The reply where one is dropped: the new number, which one went out, and how many stood behind the new one before it did.
+fn dropped(head: Head, insertion: Insertion) -> Reply
+    ensures { λ r. ⌜ r ≡ droppedWith head insertion ⌝ }
 {
     let after = head_after_submit(head, head.waiting);
     let answer = Answer::Dropped {
         number: after.last,
-        victim: gone.number,
-        client: gone.client,
+        victim: insertion.gone.number,
+        client: insertion.gone.client,
+        shift: insertion.shift as u64,
     };
     Reply {
         head: after,
@@ -184,15 +224,15 @@ fn dropped(head: Head, gone: Request) -> Reply
 }
 
 // The reply of a submit, by what it decided.
-pub fn reply(head: Head, decision: Decision, gone: Request) -> Reply
-    ensures { λ r. ⌜ r ≡ submitReply head gone decision ⌝ }
+pub fn reply(head: Head, decision: Decision, insertion: Insertion) -> Reply
+    ensures { λ r. ⌜ r ≡ submitReply head insertion decision ⌝ }
 {
     match decision {
         Decision::Refuse { number } => reply::refused(head, number),
-        Decision::Keep { place } => kept(head, place),
+        Decision::Keep { place } => kept(head, place, insertion.shift),
         Decision::Drop {
             place: _,
             victim: _,
-        } => dropped(head, gone),
+        } => dropped(head, insertion),
     }
 }

@@ -13,11 +13,11 @@ ghost use Rattle.spec.specs.Chart.{segmentsOf};
 ghost use Rattle.spec.specs.Calls.Readings.{field, valuesOf};
 ghost use Rattle.spec.specs.Lines.Frames.{lineFeed, lineOf, answerLine, segmentLines, answerLines, chartLines};
 ghost use Rattle.table.specs.Widths.{largest64};
-ghost use Rattle.spec.specs.declared.types.Answer.the-variants.{Reported};
+ghost use Rattle.spec.specs.declared.types.Answer.the-variants.{Kept, Dropped, Reported};
 ghost use Rattle.frame.specs.LineLengths.{lineLength, segmentLength, countLength, longestLine, mostBytes, CanDraw};
 
-// The characters of the longest line, a drop's or a served read's, with its line feed: a kind byte, two numbers of 8 bytes and a client.
-pub const LONGEST_LINE: usize = 2 * (1 + 8 + 8 + 2) + 1;
+// The characters of the longest line, a drop's, with its line feed: a kind byte, two numbers of 8 bytes, a client and a shift.
+pub const LONGEST_LINE: usize = 2 * (1 + 8 + 8 + 2 + 2) + 1;
 
 // The characters of the longest reply: a line for each segment, a kind byte and two ends, and their count's.
 pub const MOST_BYTES: usize = MOST_RECORDS * (2 * (1 + 8 + 8) + 1) + (2 * (1 + 2) + 1);
@@ -50,15 +50,15 @@ fn put_value(out: &mut [u8], at: usize, kind: u64, width: usize, value: u64) -> 
     put_feed(out, end)
 }
 
-// A line of two values, the first of 8 bytes.
-fn put_pair(out: &mut [u8], at: usize, kind: u64, first: u64, width: usize, second: u64) -> usize
-    requires { ⌜ (at + lineLength (field 8 first ∷ field width second ∷ []) ≤ length (now out)) × (width ≤ 8) ⌝ }
-    ensures { λ r. ⌜ (r ≡ at + lineLength (field 8 first ∷ field width second ∷ []))
-        × (take r (now (out .exit)) ≡ take at (now (out .entry)) ++ lineOf kind (field 8 first ∷ field width second ∷ [])) ⌝ }
+// A line of two values of 8 bytes.
+fn put_pair(out: &mut [u8], at: usize, kind: u64, first: u64, second: u64) -> usize
+    requires { ⌜ at + lineLength (field 8 first ∷ field 8 second ∷ []) ≤ length (now out) ⌝ }
+    ensures { λ r. ⌜ (r ≡ at + lineLength (field 8 first ∷ field 8 second ∷ []))
+        × (take r (now (out .exit)) ≡ take at (now (out .entry)) ++ lineOf kind (field 8 first ∷ field 8 second ∷ [])) ⌝ }
 {
     let mut end = digits::put_field(out, at, 1, kind);
     end = digits::put_field(out, end, 8, first);
-    end = digits::put_field(out, end, width, second);
+    end = digits::put_field(out, end, 8, second);
     put_feed(out, end)
 }
 
@@ -73,6 +73,41 @@ fn put_triple(out: &mut [u8], at: usize, kind: u64, first: u64, second: u64, cli
     end = digits::put_field(out, end, 8, first);
     end = digits::put_field(out, end, 8, second);
     end = digits::put_field(out, end, 2, client);
+    put_feed(out, end)
+}
+
+// A kept request's line.
+fn put_kept(out: &mut [u8], at: usize, number: u64, place: u64, shift: u64) -> usize
+    requires { ⌜ at + lineLength (valuesOf (Kept number place shift)) ≤ length (now out) ⌝ }
+    ensures { λ r. ⌜ (r ≡ at + lineLength (valuesOf (Kept number place shift)))
+        × (take r (now (out .exit)) ≡ take at (now (out .entry)) ++ answerLine (Kept number place shift)) ⌝ }
+{
+    let mut end = digits::put_field(out, at, 1, 0x82);
+    end = digits::put_field(out, end, 8, number);
+    end = digits::put_field(out, end, 2, place);
+    end = digits::put_field(out, end, 2, shift);
+    put_feed(out, end)
+}
+
+// A drop's line.
+fn put_dropped(
+    out: &mut [u8],
+    at: usize,
+    number: u64,
+    victim: u64,
+    client: u64,
+    shift: u64,
+) -> usize
+    requires { ⌜ at + lineLength (valuesOf (Dropped number victim client shift)) ≤ length (now out) ⌝ }
+    ensures { λ r. ⌜ (r ≡ at + lineLength (valuesOf (Dropped number victim client shift)))
+        × (take r (now (out .exit))
+        ≡ take at (now (out .entry)) ++ answerLine (Dropped number victim client shift)) ⌝ }
+{
+    let mut end = digits::put_field(out, at, 1, 0x83);
+    end = digits::put_field(out, end, 8, number);
+    end = digits::put_field(out, end, 8, victim);
+    end = digits::put_field(out, end, 2, client);
+    end = digits::put_field(out, end, 2, shift);
     put_feed(out, end)
 }
 
@@ -108,12 +143,17 @@ pub fn put_answer(out: &mut [u8], at: usize, answer: Answer) -> usize
 {
     match answer {
         Answer::Opened => put_kind(out, at, 0x81),
-        Answer::Kept { number, place } => put_pair(out, at, 0x82, number, 2, place),
+        Answer::Kept {
+            number,
+            place,
+            shift,
+        } => put_kept(out, at, number, place, shift),
         Answer::Dropped {
             number,
             victim,
             client,
-        } => put_triple(out, at, 0x83, number, victim, client),
+            shift,
+        } => put_dropped(out, at, number, victim, client, shift),
         Answer::Served {
             slot,
             number,
@@ -150,7 +190,7 @@ fn put_segments(setup: Setup, out: &mut [u8], at: usize, starts: &[u64], n: usiz
     let mut i = 0;
     while i < n {
         let run = segments::segment_at(setup, starts, n, i);
-        end = put_pair(out, end, 0x87, run.left, 8, run.right);
+        end = put_pair(out, end, 0x87, run.left, run.right);
         count += 1;
         i = run.next;
     }

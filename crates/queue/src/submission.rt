@@ -1,5 +1,6 @@
 // Submit: what it decides, from the searches in the waiting records, what it does to the waiting table, and the call itself.
 use decide::submit::Decision;
+use decide::submit::Insertion;
 use occupancy::overfull;
 use sound::check;
 use spec::bounds::MOST_CLIENTS;
@@ -13,7 +14,9 @@ ghost use Rattle.spec.specs.Setup.{firstMatch};
 ghost use Rattle.spec.specs.Calls.Submit.{submitRefusals};
 ghost use Rattle.spec.specs.Calls.{submit};
 ghost use Rattle.queue.specs.Gives.{Gives};
-ghost use Rattle.queue.specs.Placement.{withoutVictim, victimAt, tableAfter, goneAfter};
+ghost use Rattle.table.specs.Records.{shiftAt};
+ghost use Rattle.decide.specs.Submit.{insertionOf};
+ghost use Rattle.queue.specs.Placement.{withoutVictim, victimAt, tableAfter, insertionBy};
 ghost use Rattle.queue.specs.Decision.{submitChoice, submitDecision};
 
 // What a submit does that is not refused. Where a deadline is overfull, the waiting records up to the last candidate are marked,
@@ -62,39 +65,46 @@ fn submit_decision(
     accepted_decision(waiting, clients, head, client, deadline)
 }
 
-// A drop: `new` goes in at `place`, and the record that then stands at `victim` goes out and is handed back, as one change.
-fn drop_at(waiting: &mut [Request], place: usize, victim: usize, new: Request) -> Request
+// A drop: `new` goes in at `place`, and the record that then stands at `victim` goes out, as one change. Handed back are that record and
+// how many of the n waiting ones stood behind `new`.
+fn drop_at(
+    waiting: &mut [Request],
+    n: usize,
+    place: usize,
+    victim: usize,
+    new: Request,
+) -> Insertion
     ensures { λ r. ⌜
-        (r ≡ victimAt place victim new (now (waiting .entry)))
+        (r ≡ insertionOf (victimAt place victim new (now (waiting .entry))) (shiftAt n place))
         × (now (waiting .exit) ≡ withoutVictim place victim new (now (waiting .entry)))
         ⌝ }
 {
+    let exchange = decide::submit::exchange_of(n, place, victim);
     if victim == place {
-        return new;
+        return decide::submit::insertion_of(new, exchange.shift);
     }
-    let out = decide::submit::place_without(victim, place);
-    let at = decide::submit::place_without(place, victim);
-    waiting::replace(waiting, out, at, new)
+    let gone = waiting::replace(waiting, exchange.out, exchange.at, new);
+    decide::submit::insertion_of(gone, exchange.shift)
 }
 
-// What a submit does to the waiting table: `new` is put in, or put in for another, or nothing changes. The record that went out is
-// handed back, or `new` where none did.
-fn put_in(waiting: &mut [Request], decision: Decision, head: Head, new: Request) -> Request
+// What a submit does to the waiting table: `new` is put in, or put in for another, or nothing changes. Handed back are the record that
+// went out, `new` where none did, and how many waiting records stood behind `new`.
+fn put_in(waiting: &mut [Request], decision: Decision, head: Head, new: Request) -> Insertion
     ensures { λ r. ⌜
-        (r ≡ goneAfter new decision (now (waiting .entry)))
+        (r ≡ insertionBy head new decision (now (waiting .entry)))
         × (now (waiting .exit) ≡ tableAfter head new decision (now (waiting .entry)))
         ⌝ }
 {
     match decision {
         Decision::Refuse { number: _ } => {
-            return new;
+            return decide::submit::insertion_of(new, 0);
         }
         Decision::Keep { place } => {
-            waiting::insert(waiting, head.waiting as usize, place, new);
-            return new;
+            let shift = waiting::insert(waiting, head.waiting as usize, place, new);
+            return decide::submit::insertion_of(new, shift);
         }
         Decision::Drop { place, victim } => {
-            return drop_at(waiting, place, victim, new);
+            return drop_at(waiting, head.waiting as usize, place, victim, new);
         }
     }
 }
@@ -113,7 +123,7 @@ pub fn submit(
 {
     let decision = submit_decision(waiting, clients, head, client, deadline);
     let new = decide::submit::new_request(head, client, deadline);
-    let gone = put_in(waiting, decision, head, new);
-    decide::submit::count(clients, decision, client, gone);
-    decide::submit::reply(head, decision, gone)
+    let insertion = put_in(waiting, decision, head, new);
+    decide::submit::count(clients, decision, client, insertion.gone);
+    decide::submit::reply(head, decision, insertion)
 }

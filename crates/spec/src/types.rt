@@ -1,4 +1,4 @@
-// The types of the queue, document 01, "Tables and bounds" and "Calls", and the setup before the first open.
+// The types of the queue, document 01, "Tables and bounds" and "Calls", and document 02, 2.1; and the setup before the first open.
 
 // "A record has a deadline, a request number and a client." Laid out as C does, for programs in other languages.
 #[repr(C)]
@@ -41,11 +41,13 @@ pub enum Answer {
     Kept {
         number: u64,
         place: u64,
+        shift: u64,
     },
     Dropped {
         number: u64,
         victim: u64,
         client: u64,
+        shift: u64,
     },
     Served {
         slot: u64,

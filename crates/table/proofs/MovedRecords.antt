@@ -17,7 +17,7 @@ use Rattle.spec.specs.declared.types.Request.{Request}
 use Rattle.spec.specs.Tables.{zeroRequest}
 use Rattle.spec.specs.Order.{insertAt, removeAt}
 use Rattle.spec.proofs.Laws.Every.{length-remove}
-use Rattle.table.specs.Records.{Slid, areIn, replaced, takenOut, inserted, removed, removedOut}
+use Rattle.table.specs.Records.{Slid, areIn, replaced, takenOut, shiftAt, inserted, removed, removedOut}
 
 -- a test denied twice holds
 pub not-not : (b : Bool) → T (not (not b)) → T b
@@ -300,3 +300,7 @@ module _ {A B : Type 0} (f : A → B) (n : ℕ) (ys : List A) where
 
   pub getD-column : (i : ℕ) (d : A) → i < n → getD (map f (take n ys)) i (f d) ≡ f (getD ys i d)
   getD-column i d h = List·getD-map f (take n ys) i d ∙ ap f (getD-take n ys i d h)
+
+-- ---- the shift of a place is the number of records behind it, of n that are in the table
+pub shift-records : (n at : ℕ) (ys : List Request) → n ≤ length ys → shiftAt n at ≡ length (drop at (take n ys))
+shift-records n at ys h = omega (arith, length-drop at (take n ys), length-take-le n ys h)

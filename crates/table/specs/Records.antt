@@ -1,5 +1,5 @@
 -- What is done to the waiting table as a list of records. Assumes nothing.
-use Prim.Native.Nat.{ℕ, suc}
+use Prim.Native.Nat.{ℕ, suc, _-_}
 use mathlib.Core.Path.{_≡_}
 use mathlib.Core.Bool.{Bool, cond, _&&_}
 use mathlib.Core.List.{List, _∷_, _++_}
@@ -26,6 +26,11 @@ takenOut out at r ys = cond (areIn out at ys) (getD ys out zeroRequest) r
 -- whether r can be put in at a place: it is among them or behind the last, and behind them is a record that can be lost
 abbrev pub canInsert : ℕ → ℕ → List Request → Bool
 canInsert n at ys = leb at n && ltb n (length ys)
+
+-- how many of the first n stand behind a record that is put in at `at`: those from there on. It is no count of what is moved, for where
+-- r goes in for another, other records move
+abbrev pub shiftAt : ℕ → ℕ → ℕ
+shiftAt n at = n - at
 
 -- the table with r put in at `at` among the first n, and the record behind them lost
 unfoldable pub inserted : ℕ → ℕ → Request → List Request → List Request

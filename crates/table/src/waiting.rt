@@ -7,7 +7,7 @@ ghost use mathlib.Core.Bool.{true, false, cond};
 ghost use mathlib.Core.List.{_++_};
 ghost use lib.ListN.{length, getD, set, drop, replicate};
 ghost use Rattle.spec.specs.Tables.{zeroRequest};
-ghost use Rattle.table.specs.Records.{Slid, replaced, takenOut, inserted, removed, removedOut};
+ghost use Rattle.table.specs.Records.{Slid, replaced, takenOut, shiftAt, inserted, removed, removedOut};
 
 // One record.
 pub fn get(t: &[Request], i: usize) -> Request
@@ -125,15 +125,28 @@ pub fn replace(t: &mut [Request], out: usize, at: usize, r: Request) -> Request
     gone
 }
 
-// Of n waiting records at the table's front, r is put in at `at`; those from there on move by one, over the record behind them.
-// Nothing changes where `at` is further back than that record, or no record is behind them.
-pub fn insert(t: &mut [Request], n: usize, at: usize, r: Request)
-    ensures { λ _. ⌜ now (t .exit) ≡ inserted n at r (now (t .entry)) ⌝ }
+// Of n waiting records, how many stand behind one that is put in at `at`.
+pub fn shift_at(n: usize, at: usize) -> usize
+    ensures { λ k. ⌜ k ≡ shiftAt n at ⌝ }
 {
     if n < at {
-        return;
+        return 0;
+    }
+    n - at
+}
+
+// Of n waiting records at the table's front, r is put in at `at`; those from there on move by one, over the record behind them. Nothing
+// changes where `at` is further back than that record, or no record is behind them. Handed back is how many of the n stood from `at` on,
+// also where nothing changes.
+pub fn insert(t: &mut [Request], n: usize, at: usize, r: Request) -> usize
+    ensures { λ k. ⌜ (k ≡ shiftAt n at) × (now (t .exit) ≡ inserted n at r (now (t .entry))) ⌝ }
+{
+    let shift = shift_at(n, at);
+    if n < at {
+        return shift;
     }
     replace(t, n, at, r);
+    shift
 }
 
 // Of n waiting records at the table's front, the one at `at` is taken out and handed back; those behind it move by one, and a zero

@@ -11,7 +11,7 @@ use Rattle.spec.specs.Calls.{Call, outcomeOf}
 
 -- the version that archive and header share: it rises with each change of a signature, a layout or a number of theirs
 abbrev pub version : ℕ
-version = 2
+version = 3
 
 -- "The head, passed and handed back: clients, period, clock, last request number, waiting count.": the head whose numbers an
 -- array holds, its setup's first

@@ -13,7 +13,7 @@ ghost use Rattle.spec.specs.Calls.Chart.{chartOutput};
 ghost use Rattle.spec.specs.Calls.{opening, submit, tick, report, chart};
 ghost use Rattle.welsbell.specs.Numbers.{version, headOf, Exported};
 
-const VERSION: u64 = 2;
+const VERSION: u64 = 3;
 
 // The archive's version: a header of another version does not fit it.
 #[no_mangle]

@@ -81,12 +81,17 @@ fn values_of(answer: Answer) -> Values
 {
     match answer {
         Answer::Opened => Values::new(0x81, [0; MOST_VALUES], 0),
-        Answer::Kept { number, place } => Values::new(0x82, [number, place, 0, 0, 0], 2),
+        Answer::Kept {
+            number,
+            place,
+            shift,
+        } => Values::new(0x82, [number, place, shift, 0, 0], 3),
         Answer::Dropped {
             number,
             victim,
             client,
-        } => Values::new(0x83, [number, victim, client, 0, 0], 3),
+            shift,
+        } => Values::new(0x83, [number, victim, client, shift, 0], 4),
         Answer::Served {
             slot,
             number,

@@ -1,5 +1,5 @@
 //! A station that embeds the queue, with tables of 8 waiting records and 2 clients. It makes the calls of document 01's session,
-//! goes on until nothing waits, and says each answer in words. embed.c and embed.py, in examples/embed/, do the same.
+//! goes on until nothing waits and then for three reads more, and says each answer in words. embed.c and embed.py, in examples/embed/, do the same.
 use std::process::exit;
 use welsbell::{version, Answer, Queue, Setup, Tables, VERSION};
 
@@ -48,4 +48,7 @@ fn main() {
     tick(&mut queue);
     tick(&mut queue);
     submit(&mut queue, 2, 9);
+    submit(&mut queue, 0, 9);
+    submit(&mut queue, 0, 4);
+    submit(&mut queue, 1, 4);
 }

@@ -17,11 +17,12 @@
 //! let mut tables = Tables::<8, 2>::new();
 //! let mut queue = tables.queue();
 //! assert_eq!(queue.open(Setup { clients: 2, period: 100 }), Answer::Opened);
-//! // two reads that have to end with slot 0: one is too many
-//! assert_eq!(queue.submit(0, 1), Answer::Kept { number: 1, place: 0 });
-//! assert_eq!(queue.submit(1, 1), Answer::Dropped { number: 2, victim: 2, client: 1 });
-//! assert_eq!(queue.tick(), Answer::Served { slot: 0, number: 1, client: 0 });
-//! assert_eq!(queue.tick(), Answer::Idle { slot: 1 });
+//! assert_eq!(queue.submit(0, 2), Answer::Kept { number: 1, place: 0, shift: 0 });
+//! // two reads that have to end with slot 0: one is too many, and the first read stands behind each
+//! assert_eq!(queue.submit(0, 1), Answer::Kept { number: 2, place: 0, shift: 1 });
+//! assert_eq!(queue.submit(1, 1), Answer::Dropped { number: 3, victim: 3, client: 1, shift: 1 });
+//! assert_eq!(queue.tick(), Answer::Served { slot: 0, number: 2, client: 0 });
+//! assert_eq!(queue.tick(), Answer::Served { slot: 1, number: 1, client: 0 });
 //! // the clock is now 2
 //! let answer = queue.submit(0, 2);
 //! assert_eq!(answer, Answer::Refused(Refusal::Deadline));
@@ -34,7 +35,7 @@ use core::fmt::{self, Display, Formatter};
 use core::ptr::{from_mut, from_ref};
 
 /// The version that this crate is written for. An archive of another version does not fit: see [`version`].
-pub const VERSION: u64 = 2;
+pub const VERSION: u64 = 3;
 
 /// The version of the archive that was linked, to be compared with [`VERSION`] before the first call.
 pub fn version() -> u64 {
@@ -181,12 +182,16 @@ pub enum Answer {
     Kept {
         number: u64,
         place: u64,
+        /// How many waiting records stood behind it in chart order when it was put in.
+        shift: u64,
     },
     /// The new request got this number, and the victim, a request of this client, is dropped. It may be the new one.
     Dropped {
         number: u64,
         victim: u64,
         client: u64,
+        /// How many waiting records stood behind the new one in chart order when it was put in, before the victim was taken out.
+        shift: u64,
     },
     /// The request with this number was served in this slot.
     Served {
@@ -218,11 +223,16 @@ impl Answer {
     fn new(kind: u64, [a, b, c, d, e]: raw::Values) -> Answer {
         match kind {
             raw::OPENED => Answer::Opened,
-            raw::KEPT => Answer::Kept { number: a, place: b },
+            raw::KEPT => Answer::Kept {
+                number: a,
+                place: b,
+                shift: c,
+            },
             raw::DROPPED => Answer::Dropped {
                 number: a,
                 victim: b,
                 client: c,
+                shift: d,
             },
             raw::SERVED => Answer::Served {
                 slot: a,
@@ -248,11 +258,18 @@ impl Display for Answer {
     fn fmt(&self, f: &mut Formatter) -> fmt::Result {
         match *self {
             Answer::Opened => write!(f, "opened"),
-            Answer::Kept { number, place } => write!(f, "number {number} is kept, at place {place}"),
-            Answer::Dropped { number, victim, client } => {
+            Answer::Kept { number, place, shift } => {
+                write!(f, "number {number} is kept, at place {place}, shift {shift}")
+            }
+            Answer::Dropped {
+                number,
+                victim,
+                client,
+                shift,
+            } => {
                 write!(
                     f,
-                    "number {number} is one too many, number {victim} of client {client} is dropped"
+                    "number {number}, shift {shift}, is one too many, number {victim} of client {client} is dropped"
                 )
             }
             Answer::Served { slot, number, client } => {

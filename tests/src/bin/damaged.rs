@@ -1,4 +1,4 @@
-// Holds the exported calls to the model of document 01 on random tables. Each clause of "sound" is broken by itself and
+// Holds the exported calls to the slow model on random tables. Each clause of "sound" is broken by itself and
 // together with each other one, in several ways and at random places; lengths are wrong; and sound tables lie at the bounds.
 // Every call is made on every table, with good and with bad arguments. The argument, if any, is a seed.
 use std::env::args;
@@ -9,6 +9,7 @@ use tests::model::{Call, KINDS, REFUSED};
 use tests::program::{end, fail, seed};
 use tests::random::tables::{call, sound};
 use tests::random::Random;
+use tests::shifts::MOST_SHIFT;
 use tests::tables::{Head, Tables, MOST_AHEAD, MOST_PERIOD, MOST_RECORDS};
 
 // So many small tables for each way to break a clause, for each pair of clauses, and for each clause with each wrong length.
@@ -221,7 +222,7 @@ impl Test {
         }
         let lengths: u64 = self.lengths.iter().sum();
         println!("wrong lengths: {lengths} calls refused");
-        println!("{}", self.held.tally);
+        println!("{}\n{}", self.held.tally, self.held.shifts);
         println!("{} tables, {} calls: all as the model says", self.tables, self.held.made);
     }
 
@@ -232,6 +233,7 @@ impl Test {
         let never = never.map(|((name, _), _)| format!("never refused for this alone: {name}"));
         let mut missing = self.held.tally.missing(&KINDS, &REFUSALS);
         missing.extend(never);
+        missing.extend(self.held.shifts.missing(MOST_SHIFT));
         if self.lengths.contains(&0) {
             missing.push("a wrong length was never refused".into());
         }

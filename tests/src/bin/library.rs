@@ -1,5 +1,5 @@
-// Holds the exported calls to document 01, case by case. After each call the answer, its values, the head, every record of both
-// tables and the output are held to what the case expects, which is written out or comes by simple arithmetic.
+// Holds the exported calls to documents 01 and 02, case by case. After each call the answer, its values, the head, every record of
+// both tables and the output are held to what the case expects, which is written out or comes by simple arithmetic.
 use std::fmt::Debug;
 use std::process::exit;
 use std::thread;
@@ -115,13 +115,15 @@ impl Library {
         self.gives(&[OPENED], head(clients, period, 0, 0, 0), &[], &counts);
     }
 
-    fn kept(&self, number: u64, place: u64, rows: &[Row], counts: &[Counts]) {
-        self.gives(&[KEPT, number, place], self.submitted(number, rows), rows, counts);
+    fn kept(&self, number: u64, place: u64, shift: u64, rows: &[Row], counts: &[Counts]) {
+        // each record that waited stood before the new one or behind it
+        self.same("place and shift", &[self.before.head.waiting], &[place + shift]);
+        self.gives(&[KEPT, number, place, shift], self.submitted(number, rows), rows, counts);
     }
 
-    fn dropped(&self, number: u64, victim: u64, client: u64, rows: &[Row], counts: &[Counts]) {
+    fn dropped(&self, number: u64, victim: u64, client: u64, shift: u64, rows: &[Row], counts: &[Counts]) {
         let head = self.submitted(number, rows);
-        self.gives(&[DROPPED, number, victim, client], head, rows, counts);
+        self.gives(&[DROPPED, number, victim, client, shift], head, rows, counts);
     }
 
     fn served(&self, slot: u64, number: u64, client: u64, rows: &[Row], counts: &[Counts]) {
@@ -195,10 +197,10 @@ impl Library {
 fn session(l: &mut Library) {
     l.lend(tables(8, head(9, 9, 9, 9, 9), &[(9, 9, 9); 8], &[(9, 9, 9); 2]));
     l.open(2, 100).opened(2, 100);
-    l.submit(0, 1).kept(1, 0, &[(1, 1, 0)], &[(1, 0, 0), FRESH]);
+    l.submit(0, 1).kept(1, 0, 0, &[(1, 1, 0)], &[(1, 0, 0), FRESH]);
     let rows = [(1, 1, 0), (2, 2, 1)];
-    l.submit(1, 2).kept(2, 1, &rows, &[(1, 0, 0), (1, 0, 0)]);
-    l.submit(1, 1).dropped(3, 3, 1, &rows, &[(1, 0, 0), (2, 0, 1)]);
+    l.submit(1, 2).kept(2, 1, 0, &rows, &[(1, 0, 0), (1, 0, 0)]);
+    l.submit(1, 1).dropped(3, 3, 1, 1, &rows, &[(1, 0, 0), (2, 0, 1)]);
     l.chart(8).charted(&[0, 1]);
     l.tick().served(0, 1, 0, &rows[1..], &[(1, 1, 0), (2, 0, 1)]);
     l.report(1).reported([1, 2, 0, 1, 1]);
@@ -216,22 +218,22 @@ fn deadlines(l: &mut Library) {
     for deadline in [0, MOST_AHEAD + 1, 1 << 32, u64::MAX] {
         l.submit(0, deadline).refused(7);
     }
-    l.submit(0, 1).kept(1, 0, &[(1, 1, 0)], &[(1, 0, 0)]);
+    l.submit(0, 1).kept(1, 0, 0, &[(1, 1, 0)], &[(1, 0, 0)]);
     l.lend(opened(4, 1));
-    l.submit(0, MOST_AHEAD).kept(1, 0, &[(MOST_AHEAD, 1, 0)], &[(1, 0, 0)]);
+    l.submit(0, MOST_AHEAD).kept(1, 0, 0, &[(MOST_AHEAD, 1, 0)], &[(1, 0, 0)]);
     l.lend(tables(4, head(1, 9, 5, 0, 0), &[], &[FRESH]));
     l.submit(0, 5).refused(7);
     l.submit(0, 65_541).refused(7);
-    l.submit(0, 6).kept(1, 0, &[(6, 1, 0)], &[(1, 0, 0)]);
-    l.submit(0, 65_540).kept(2, 1, &[(6, 1, 0), (65_540, 2, 0)], &[(2, 0, 0)]);
+    l.submit(0, 6).kept(1, 0, 0, &[(6, 1, 0)], &[(1, 0, 0)]);
+    l.submit(0, 65_540).kept(2, 1, 0, &[(6, 1, 0), (65_540, 2, 0)], &[(2, 0, 0)]);
 }
 
 fn third_at_two(l: &mut Library) {
     let rows = [(2, 1, 0), (2, 2, 0)];
     l.lend(opened(4, 2));
-    l.submit(0, 2).kept(1, 0, &rows[..1], &[(1, 0, 0), FRESH]);
-    l.submit(0, 2).kept(2, 1, &rows, &[(2, 0, 0), FRESH]);
-    l.submit(1, 2).dropped(3, 3, 1, &rows, &[(2, 0, 0), (1, 0, 1)]);
+    l.submit(0, 2).kept(1, 0, 0, &rows[..1], &[(1, 0, 0), FRESH]);
+    l.submit(0, 2).kept(2, 1, 0, &rows, &[(2, 0, 0), FRESH]);
+    l.submit(1, 2).dropped(3, 3, 1, 0, &rows, &[(2, 0, 0), (1, 0, 1)]);
 }
 
 // Client 0 waits for deadline 1, and client 1 submits deadline 1 too; its counts are those before.
@@ -239,9 +241,9 @@ fn one_slot_for_two(l: &mut Library, waits: Counts, submits: Counts, is_first_lo
     l.lend(tables(4, head(2, 100, 0, 7, 1), &[(1, 7, 0)], &[waits, submits]));
     let (w, s) = (waits, (submits.0 + 1, submits.1, submits.2));
     if is_first_lost {
-        l.submit(1, 1).dropped(8, 7, 0, &[(1, 8, 1)], &[(w.0, w.1, w.2 + 1), s]);
+        l.submit(1, 1).dropped(8, 7, 0, 0, &[(1, 8, 1)], &[(w.0, w.1, w.2 + 1), s]);
     } else {
-        l.submit(1, 1).dropped(8, 8, 1, &[(1, 7, 0)], &[w, (s.0, s.1, s.2 + 1)]);
+        l.submit(1, 1).dropped(8, 8, 1, 0, &[(1, 7, 0)], &[w, (s.0, s.1, s.2 + 1)]);
     }
 }
 
@@ -278,11 +280,11 @@ fn charts(l: &mut Library) {
     for n in 1..=4 {
         let (deadline, number, _) = rows[n - 1];
         l.submit(0, deadline)
-            .kept(number, number - 1, &rows[..n], &[(n as u32, 0, 0)]);
+            .kept(number, number - 1, 0, &rows[..n], &[(n as u32, 0, 0)]);
     }
     l.chart(4).charted(&[2, 4, 8, 9]);
     let rows = [(3, 1, 0), (4, 5, 0), (5, 2, 0), (10, 3, 0), (10, 4, 0)];
-    l.submit(0, 4).kept(5, 1, &rows, &[(5, 0, 0)]);
+    l.submit(0, 4).kept(5, 1, 3, &rows, &[(5, 0, 0)]);
     for just_enough_or_more in [5, 6, 3_000] {
         l.chart(just_enough_or_more).charted(&[2, 3, 4, 8, 9]);
     }
@@ -295,12 +297,12 @@ fn charts(l: &mut Library) {
 
 fn one_record(l: &mut Library) {
     l.lend(opened(1, 1));
-    l.submit(0, 5).kept(1, 0, &[(5, 1, 0)], &[(1, 0, 0)]);
+    l.submit(0, 5).kept(1, 0, 0, &[(5, 1, 0)], &[(1, 0, 0)]);
     l.submit(0, 5).refused(10);
     l.submit(0, 1).refused(10);
     l.chart(1).charted(&[4]);
     l.tick().served(0, 1, 0, &[], &[(1, 1, 0)]);
-    l.submit(0, 2).kept(2, 0, &[(2, 2, 0)], &[(2, 1, 0)]);
+    l.submit(0, 2).kept(2, 0, 0, &[(2, 2, 0)], &[(2, 1, 0)]);
     l.tick().served(1, 2, 0, &[], &[(2, 2, 0)]);
     l.tick().idle(2, &[(2, 2, 0)]);
 }
@@ -311,7 +313,7 @@ fn full_from_the_front(l: &mut Library) {
     l.lend(opened(MOST_RECORDS, 1));
     for n in 1..=2_048 {
         let waiting = &rows[2_048 - n as usize..];
-        l.submit(0, 2_049 - n).kept(n, 0, waiting, &[(n as u32, 0, 0)]);
+        l.submit(0, 2_049 - n).kept(n, 0, n - 1, waiting, &[(n as u32, 0, 0)]);
     }
     for deadline in [1, 1_024, 2_048, 2_049, 65_535] {
         l.submit(0, deadline).refused(10);
@@ -322,9 +324,9 @@ fn full_from_the_front(l: &mut Library) {
     l.report(0).reported([0, 2_048, 0, 0, 2_048]);
     l.tick().served(0, 2_048, 0, &rows[1..], &[(2_048, 1, 0)]);
     // a record is free again, but no slot up to 2,048
-    l.submit(0, 2).dropped(2_049, 2_049, 0, &rows[1..], &[(2_049, 1, 1)]);
+    l.submit(0, 2).dropped(2_049, 2_049, 0, 2_046, &rows[1..], &[(2_049, 1, 1)]);
     let rows = [&rows[1..], &[(2_049, 2_050, 0)]].concat();
-    l.submit(0, 2_049).kept(2_050, 2_047, &rows, &[(2_050, 1, 1)]);
+    l.submit(0, 2_049).kept(2_050, 2_047, 0, &rows, &[(2_050, 1, 1)]);
     for (slot, n) in (1..).zip(1..=2_048) {
         let (_, number, client) = rows[n - 1];
         l.tick().served(slot, number, client, &rows[n..], &[(2_050, 1 + n as u32, 1)]);
@@ -345,7 +347,7 @@ fn full_of_many_clients(l: &mut Library) {
     for n in 1..=2_048 {
         let (deadline, number, client) = rows[n - 1];
         let counts: Vec<Counts> = of_first(n).map(|submitted| (submitted, 0, 0)).collect();
-        l.submit(client, deadline).kept(number, number - 1, &rows[..n], &counts);
+        l.submit(client, deadline).kept(number, number - 1, 0, &rows[..n], &counts);
     }
     for client in 0..256 {
         l.submit(client, 2_049).refused(10);
@@ -366,9 +368,9 @@ fn clock_at_its_end(l: &mut Library) {
     l.submit(0, END).refused(7);
     l.submit(0, END + 65_536).refused(7);
     let rows = [(END + 1, 2, 0), (END + 65_535, 1, 0)];
-    l.submit(0, END + 65_535).kept(1, 0, &rows[1..], &[(1, 0, 0)]);
-    l.submit(0, END + 1).kept(2, 0, &rows, &[(2, 0, 0)]);
-    l.submit(0, END + 1).dropped(3, 3, 0, &rows, &[(3, 0, 1)]);
+    l.submit(0, END + 65_535).kept(1, 0, 0, &rows[1..], &[(1, 0, 0)]);
+    l.submit(0, END + 1).kept(2, 0, 1, &rows, &[(2, 0, 0)]);
+    l.submit(0, END + 1).dropped(3, 3, 0, 1, &rows, &[(3, 0, 1)]);
     l.tick().refused(11);
     l.chart(2).charted(&[END, END + 65_534]);
     l.report(0).reported([0, 3, 0, 1, 2]);
@@ -388,7 +390,7 @@ fn last_number(l: &mut Library) {
     l.submit(0, 9).refused(9);
     let rows = [(9, END - 1, 0), (9, END, 0)];
     l.lend(tables(4, head(1, 100, 0, END - 1, 1), &rows[..1], &[(1, 0, 0)]));
-    l.submit(0, 9).kept(END, 1, &rows, &[(2, 0, 0)]);
+    l.submit(0, 9).kept(END, 1, 0, &rows, &[(2, 0, 0)]);
     l.submit(0, 9).refused(9);
     l.tick().served(0, END - 1, 0, &rows[1..], &[(2, 1, 0)]);
 }
@@ -397,14 +399,14 @@ fn count_bound(l: &mut Library) {
     let (most, full) = (MOST_COUNTED, (MOST_COUNTED, MOST_COUNTED, 0));
     l.lend(tables(4, head(2, 100, 0, 7, 0), &[], &[full, (most - 1, 0, most - 1)]));
     l.submit(0, 9).refused(8);
-    l.submit(1, 9).kept(8, 0, &[(9, 8, 1)], &[full, (most, 0, most - 1)]);
+    l.submit(1, 9).kept(8, 0, 0, &[(9, 8, 1)], &[full, (most, 0, most - 1)]);
     l.submit(1, 9).refused(8);
     l.report(1).reported([1, 268_435_455, 0, 268_435_454, 1]);
     l.tick().served(0, 8, 1, &[], &[full, (most, 1, most - 1)]);
     // the last that can be submitted is dropped: 0 of many against 3 of 4
     let rows = [(1, 9, 0)];
     l.lend(tables(2, head(2, 100, 0, 9, 1), &rows, &[(4, 0, 3), (most - 1, most - 1, 0)]));
-    l.submit(1, 1).dropped(10, 10, 1, &rows, &[(4, 0, 3), (most, most - 1, 1)]);
+    l.submit(1, 1).dropped(10, 10, 1, 0, &rows, &[(4, 0, 3), (most, most - 1, 1)]);
 }
 
 fn period_starts(l: &mut Library) {
@@ -415,7 +417,7 @@ fn period_starts(l: &mut Library) {
     l.tick().served(99, 4, 0, &rows[2..], &[FRESH, (2, 0, 0), FRESH]);
     l.tick().served(100, 6, 1, &rows[3..], &[FRESH, (2, 1, 0), FRESH]);
     let rows = [(102, 8, 2), (105, 7, 1)];
-    l.submit(2, 102).kept(8, 0, &rows, &[FRESH, (2, 1, 0), (1, 0, 0)]);
+    l.submit(2, 102).kept(8, 0, 1, &rows, &[FRESH, (2, 1, 0), (1, 0, 0)]);
     // with none waiting: before a multiple of the period, to it and on from it; then the longest period
     let counts = [(7, 3, 4)];
     for (clock, after) in [(148, counts), (149, [FRESH]), (150, counts)] {
@@ -439,16 +441,19 @@ fn period_of_one(l: &mut Library) {
 
 fn places(l: &mut Library) {
     let rows = [(10, 4, 1), (20, 1, 0), (20, 3, 1), (30, 2, 0)];
-    for (deadline, place) in [(5, 0), (9, 0), (10, 1), (19, 1), (20, 3), (21, 3), (29, 3), (30, 4), (31, 4)] {
+    let earlier = [(5, 0, 4), (9, 0, 4), (10, 1, 3), (19, 1, 3)];
+    let later = [(20, 3, 1), (21, 3, 1), (29, 3, 1), (30, 4, 0), (31, 4, 0)];
+    for (deadline, place, shift) in earlier.into_iter().chain(later) {
         l.lend(tables(6, head(2, 100, 2, 4, 4), &rows, &[(2, 0, 0), (2, 0, 0)]));
         let mut after = rows.to_vec();
         after.insert(place, (deadline, 5, 0));
-        l.submit(0, deadline).kept(5, place as u64, &after, &[(3, 0, 0), (2, 0, 0)]);
+        l.submit(0, deadline)
+            .kept(5, place as u64, shift, &after, &[(3, 0, 0), (2, 0, 0)]);
     }
 }
 
 // Makes one of the rows client 0's, which then has the smallest ratio; the others are client 1's. Client 1 submits: the new
-// request comes to its place, and client 0's goes.
+// request comes to its place, and client 0's goes. The shift counts client 0's too, where it stood behind.
 fn one_goes(l: &mut Library, rows: &[Row], lost: usize, place: usize, deadline: u64) {
     let (n, mut rows) = (rows.len(), rows.to_vec());
     let (count, submitted) = (n as u64, n as u32);
@@ -458,8 +463,9 @@ fn one_goes(l: &mut Library, rows: &[Row], lost: usize, place: usize, deadline: 
     let victim = rows[lost].1;
     rows.insert(place, (deadline, count + 1, 1));
     rows.retain(|row| row.1 != victim);
+    let shift = count - place as u64;
     l.submit(1, deadline)
-        .dropped(count + 1, victim, 0, &rows, &[(4, 3, 1), (submitted + 1, 0, 1)]);
+        .dropped(count + 1, victim, 0, shift, &rows, &[(4, 3, 1), (submitted + 1, 0, 1)]);
 }
 
 fn victim_before_the_new(l: &mut Library) {
@@ -490,11 +496,16 @@ fn victims_in_a_large_table(l: &mut Library) {
 
 fn victim_is_the_new(l: &mut Library) {
     // overfull at 4, the new request at the front, between and at the end of the candidates; then overfull at 1
-    for (deadline, first) in [(1, 2), (2, 2), (4, 2), (1, 1)] {
+    for (deadline, first, shift) in [(1, 2, 5), (2, 2, 4), (4, 2, 1), (1, 1, 4)] {
         let rows = [(first, 1, 0), (4, 2, 0), (4, 3, 0), (4, 4, 0), (8, 5, 0)];
         l.lend(tables(6, head(2, 100, 0, 5, 5), &rows, &[(9, 1, 3), (2, 2, 0)]));
-        l.submit(1, deadline).dropped(6, 6, 1, &rows, &[(9, 1, 3), (3, 2, 1)]);
+        l.submit(1, deadline).dropped(6, 6, 1, shift, &rows, &[(9, 1, 3), (3, 2, 1)]);
     }
+    // as many behind it as can be
+    let rows: Vec<Row> = (1..=2_047).map(|m| (2_047, m, 0)).collect();
+    l.lend(tables(2_048, head(2, 100, 0, 2_047, 2_047), &rows, &[(2_048, 0, 1), FRESH]));
+    l.submit(1, 7)
+        .dropped(2_048, 2_048, 1, 2_047, &rows, &[(2_048, 0, 1), (1, 0, 1)]);
 }
 
 fn equal_ratios(l: &mut Library) {
@@ -502,14 +513,14 @@ fn equal_ratios(l: &mut Library) {
     let rows = [(2, 1, 0), (3, 2, 0), (3, 3, 0), (9, 4, 0)];
     l.lend(tables(8, head(1, 100, 0, 4, 4), &rows, &[(6, 1, 1)]));
     let after = [(1, 5, 0), rows[0], rows[1], rows[3]];
-    l.submit(0, 1).dropped(5, 3, 0, &after, &[(7, 1, 2)]);
+    l.submit(0, 1).dropped(5, 3, 0, 4, &after, &[(7, 1, 2)]);
     // 1 of 4, 2 of 8 and 3 of 12: the last of the three; the fourth client has 1 of 3
     let rows = [(4, 1, 0), (4, 2, 1), (4, 3, 2), (4, 4, 3)];
     let counts = [(4, 2, 1), (8, 5, 2), (12, 8, 3), (2, 0, 1)];
     l.lend(tables(5, head(4, 100, 0, 4, 4), &rows, &counts));
     let after = [(3, 5, 3), rows[0], rows[1], rows[3]];
     let counts = [(4, 2, 1), (8, 5, 2), (12, 8, 4), (3, 0, 1)];
-    l.submit(3, 3).dropped(5, 3, 2, &after, &counts);
+    l.submit(3, 3).dropped(5, 3, 2, 4, &after, &counts);
 }
 
 fn later_ones_are_no_candidates(l: &mut Library) {
@@ -518,7 +529,7 @@ fn later_ones_are_no_candidates(l: &mut Library) {
     l.lend(tables(8, head(3, 100, 0, 5, 5), &rows, &[(2, 0, 1), (4, 0, 3), (3, 0, 0)]));
     l.chart(5).charted(&[0, 1, 2, 3, 4]);
     let after = [(1, 6, 1), rows[1], rows[2], rows[3], rows[4]];
-    l.submit(1, 1).dropped(6, 1, 0, &after, &[(2, 0, 2), (5, 0, 3), (3, 0, 0)]);
+    l.submit(1, 1).dropped(6, 1, 0, 5, &after, &[(2, 0, 2), (5, 0, 3), (3, 0, 0)]);
 }
 
 fn opens(l: &mut Library) {
@@ -552,7 +563,7 @@ fn good_tables_are_sound(l: &mut Library) {
     l.report(1).reported([1, 5, 3, 0, 2]);
     l.chart(4).charted(&[10, 11, 19, 24]);
     let rows = [GOOD[0], GOOD[1], (19, 10, 0), GOOD[2], GOOD[3]];
-    l.submit(0, 19).kept(10, 2, &rows, &[(6, 2, 1), (5, 3, 0)]);
+    l.submit(0, 19).kept(10, 2, 2, &rows, &[(6, 2, 1), (5, 3, 0)]);
     l.tick().served(10, 4, 0, &rows[1..], &[(6, 3, 1), (5, 3, 0)]);
 }
 
@@ -836,5 +847,5 @@ fn main() {
     }
     // each edit is a case of its own
     let cases = CASES.len() - 2 + DAMAGES.len() + LENGTHS.len();
-    println!("{cases} cases, {} calls: all as document 01 says", l.calls);
+    println!("{cases} cases, {} calls: all as the documents say", l.calls);
 }

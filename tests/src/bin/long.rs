@@ -1,6 +1,6 @@
-// Makes more than ten million exported calls in one process and holds them to the model of document 01, with the clock, the
-// request numbers and the counts moved near their ends through the lent tables. On large tables, where the model is slow, one
-// call of many is held to it. The argument, if any, is a seed.
+// Makes more than ten million exported calls in one process and holds them to the slow model, with the clock, the request numbers
+// and the counts moved near their ends through the lent tables. On large tables, where the model is slow, one call of many is held
+// to it. The argument, if any, is a seed.
 use std::env::args;
 use tests::held::Held;
 use tests::model::{Call, KINDS};
@@ -16,6 +16,9 @@ const CALLS: u64 = 10_000_000;
 const BEFORE_MOVING: u64 = 1_000;
 
 const REFUSALS: [u64; 7] = [6, 7, 8, 9, 10, 11, 12];
+
+// On large tables a shift of so many has to come among the calls that are held to the model.
+const LARGE_SHIFT: u64 = 1_000;
 
 // Calls from an open on.
 struct Phase {
@@ -131,6 +134,7 @@ fn run(phase: &Phase, held: &mut Held, random: &mut Random) -> Result<(), String
 // What had to occur and did not, or the other way about.
 fn missing(held: &Held) -> Vec<String> {
     let mut missing = held.tally.missing(&KINDS, &REFUSALS);
+    missing.extend(held.shifts.missing(LARGE_SHIFT));
     if held.made < CALLS {
         missing.push(format!("fewer than {CALLS} calls"));
     }
@@ -149,7 +153,7 @@ fn main() {
         let ran = run(phase, &mut held, &mut random);
         ran.unwrap_or_else(|difference| fail(format!("{}: {difference}", phase.name)));
     }
-    println!("{}", held.tally);
+    println!("{}\n{}", held.tally, held.shifts);
     println!("{} calls, {} of them held to the model: all as it says", held.made, held.held);
     end(missing(&held));
 }

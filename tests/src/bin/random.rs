@@ -1,13 +1,14 @@
-// Holds the session program to the model of document 01 on random sessions, byte by byte, and to demand 3 on the lists of calls
-// in them. The arguments are the program's path, then, if wanted, a seed, and the name of a fault that the model is to have:
-// the comparison has to find it.
+// Holds the session program to the slow model on random sessions, byte by byte, and to demand 3 on the lists of calls in them; and
+// shows of each fault that the model can have that the comparison finds it. The arguments are the program's path, then, if wanted, a
+// seed, and the name of a fault that the model is to have all the time.
 use std::env::args;
 use std::process::Command;
 use tests::demand_3::Lists;
-use tests::model::session::{read, session, widths_out, Answered, SEGMENT};
-use tests::model::{Fault, KINDS};
+use tests::model::session::{call_and_answer, read, session, widths_out, Answered, SEGMENT};
+use tests::model::{Fault, FAULTS, KINDS};
 use tests::program::{end, fail, run, seed};
 use tests::random::{self, Random};
+use tests::shifts::{Waiting, MOST_SHIFT};
 use tests::tally::Tally;
 
 const SESSIONS: u64 = 3_000;
@@ -78,10 +79,23 @@ struct Test {
     fault: Fault,
     answers: usize,
     tally: Tally,
+    waiting: Waiting,
     lists: Lists,
 }
 
 impl Test {
+    fn new(program: &str, seed: u64, fault: Fault) -> Test {
+        Test {
+            program: program.into(),
+            seed,
+            fault,
+            answers: 0,
+            tally: Tally::default(),
+            waiting: Waiting::default(),
+            lists: Lists::default(),
+        }
+    }
+
     fn session(&mut self, number: u64) -> Result<(), String> {
         let input = random::session::session(Random::of_part(self.seed, number), number.is_multiple_of(LARGE_ONE_OF));
         let pieces = pieces(&input, &mut Random::of_part(self.seed, SESSIONS + number));
@@ -92,20 +106,29 @@ impl Test {
             return Err(format!("{}, {}", ended.status, shown(&ended.stderr)));
         }
         for (i, (answered, printed)) in answered.iter().zip(answers).enumerate() {
-            let lines = printed.split(|&byte| byte == b'\n');
-            lines
-                .filter_map(|line| read(line, widths_out))
-                .for_each(|answer| self.tally.count(&answer));
-            let followed = self.lists.follow(answered.line, printed);
+            let followed = self.follow(answered.line, printed);
             followed.map_err(|e| format!("line {}: {}\n{e}", i + 1, shown(answered.line)))?;
         }
         self.answers += answered.len();
         self.lists.end()
     }
 
+    fn follow(&mut self, line: &[u8], printed: &[u8]) -> Result<(), String> {
+        let lines = printed.split(|&byte| byte == b'\n');
+        lines
+            .filter_map(|line| read(line, widths_out))
+            .for_each(|answer| self.tally.count(&answer));
+        let Some((call, answer)) = call_and_answer(line, printed) else {
+            return Ok(());
+        };
+        self.waiting.take(&call, &answer)?;
+        self.lists.follow(&call, &answer)
+    }
+
     // What has to have occurred and has not.
     fn missing(&self) -> Vec<String> {
         let mut missing = self.tally.missing(&[&KINDS[..], &[SEGMENT]].concat(), &REFUSALS);
+        missing.extend(self.waiting.shifts.missing(MOST_SHIFT));
         if self.answers < ANSWERS {
             missing.push(format!("fewer than {ANSWERS} answers"));
         }
@@ -119,30 +142,39 @@ impl Test {
     }
 
     fn print(&self) {
-        println!("{}", self.tally);
+        println!("{}\n{}", self.tally, self.waiting.shifts);
         println!("{SESSIONS} sessions, {} answers: all as the model says", self.answers);
         println!("{}", self.lists);
     }
+}
+
+// The faults that no session with a small table shows. Where all sessions are as the model says without one, what differs with it is
+// the fault.
+fn unfound(program: &str, seed: u64) -> Vec<String> {
+    let is_found = |fault: Fault| {
+        let mut test = Test::new(program, seed, fault);
+        (1..LARGE_ONE_OF).any(|number| test.session(number).is_err())
+    };
+    let unfound = FAULTS.iter().filter(|(_, fault)| !is_found(*fault));
+    unfound.map(|(name, _)| format!("not found: {name}")).collect()
 }
 
 fn main() {
     let arguments: Vec<String> = args().collect();
     let fault = arguments.get(3).map_or(Some(Fault::None), |name| Fault::named(name));
     let (Some(program), Some(fault)) = (arguments.get(1), fault) else {
-        fail("random PROGRAM [SEED [wrong-tie | lost-shift | forgetful-period]]");
+        fail(format!(
+            "random PROGRAM [SEED [{}]]",
+            FAULTS.map(|(name, _)| name).join(" | ")
+        ));
     };
-    let mut test = Test {
-        program: program.clone(),
-        seed: seed(arguments.get(2)),
-        fault,
-        answers: 0,
-        tally: Tally::default(),
-        lists: Lists::default(),
-    };
+    let mut test = Test::new(program, seed(arguments.get(2)), fault);
     for number in 0..SESSIONS {
         let held = test.session(number);
         held.unwrap_or_else(|difference| fail(format!("seed {}, session {number}, {difference}", test.seed)));
     }
     test.print();
     end(test.missing());
+    end(unfound(program, test.seed));
+    println!("{} faults planted in the model, one at a time: all found", FAULTS.len());
 }

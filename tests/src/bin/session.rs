@@ -1,5 +1,5 @@
-// Holds the session program, whose path is the argument, to "Session lines" of document 01. What it writes is held byte by byte
-// to what each session expects, which is written out or comes by simple arithmetic.
+// Holds the session program, whose path is the argument, to "Session lines" of document 01, with the shifts of document 02. What it
+// writes is held byte by byte to what each session expects, which is written out or comes by simple arithmetic.
 //
 // Refusals 1 to 4, 6, 7 and 10 are shown. Five cannot be: a session's tables are always sound (5) and its chart has room for
 // every waiting record (12); a client has submitted its most (8) only after 2 to the 28th calls, and the last number is given
@@ -75,12 +75,12 @@ impl Session {
         self.answer("81");
     }
 
-    fn kept(&mut self, number: u64, place: u64) {
-        self.answer(format!("82{number:016X}{place:04X}"));
+    fn kept(&mut self, number: u64, place: u64, shift: u64) {
+        self.answer(format!("82{number:016X}{place:04X}{shift:04X}"));
     }
 
-    fn dropped(&mut self, number: u64, victim: u64, client: u16) {
-        self.answer(format!("83{number:016X}{victim:016X}{client:04X}"));
+    fn dropped(&mut self, number: u64, victim: u64, client: u16, shift: u64) {
+        self.answer(format!("83{number:016X}{victim:016X}{client:04X}{shift:04X}"));
     }
 
     fn served(&mut self, slot: u64, number: u64, client: u16) {
@@ -118,11 +118,12 @@ const DOCUMENT_IN: &str = "\
 040001
 ";
 
+// "Frames 82 and 83 end with it, in 2 bytes, in document 01's session too."
 const DOCUMENT_OUT: &str = "\
 81
-8200000000000000010000
-8200000000000000020001
-83000000000000000300000000000000030001
+82000000000000000100000000
+82000000000000000200010000
+830000000000000003000000000000000300010001
 8700000000000000000000000000000002
 880001
 84000000000000000000000000000000010000
@@ -185,7 +186,7 @@ fn kinds_and_lengths(s: &mut Session) {
 // Frames that would be accepted, a digit or a byte longer or shorter; then the session is as it was.
 fn wrong_lengths(s: &mut Session) {
     s.open(2, 100, 4).opened();
-    s.submit(1, 3).kept(1, 0);
+    s.submit(1, 3).kept(1, 0, 0);
     let frames = [
         frames::open(1, 9, 1),
         frames::submit(0, 5),
@@ -264,7 +265,7 @@ fn other_characters(s: &mut Session) {
     }
     // the deadline 10 in lower case, then in upper case
     s.line("020000000000000000000a").refused(1);
-    s.line("020000000000000000000A").kept(1, 0);
+    s.line("020000000000000000000A").kept(1, 0, 0);
     s.tick().served(0, 1, 0);
 }
 
@@ -322,9 +323,9 @@ fn behind(characters: usize, fill: fn(&mut Session, usize)) -> Session {
     let open = frames::open(1, 100, 4);
     s.line(&open).opened();
     fill(&mut s, characters - open.len() - 1);
-    s.submit(0, 5).kept(1, 0);
+    s.submit(0, 5).kept(1, 0, 0);
     s.line(ticks_in_one(23)).refused(1);
-    s.submit(0, 9).kept(2, 1);
+    s.submit(0, 9).kept(2, 1, 0);
     s.line(ticks_in_one(24)).refused(1);
     s.tick().served(0, 1, 0);
     s.line(ticks_in_one(60)).refused(1);
@@ -369,8 +370,8 @@ fn refused_opens(s: &mut Session) {
 
 fn refused_opens_between(s: &mut Session) {
     s.open(3, 100, 4).opened();
-    s.submit(1, 5).kept(1, 0);
-    s.submit(2, 5).kept(2, 1);
+    s.submit(1, 5).kept(1, 0, 0);
+    s.submit(2, 5).kept(2, 1, 0);
     refused_opens(s);
     s.tick().served(0, 1, 1);
     refused_opens(s);
@@ -380,9 +381,9 @@ fn refused_opens_between(s: &mut Session) {
     s.report(3).refused(6);
     refused_opens(s);
     s.submit(0, 1).refused(7);
-    s.submit(0, 2).kept(3, 0);
-    s.submit(0, 3).kept(4, 1);
-    s.submit(0, 4).kept(5, 2);
+    s.submit(0, 2).kept(3, 0, 1);
+    s.submit(0, 3).kept(4, 1, 1);
+    s.submit(0, 4).kept(5, 2, 1);
     s.submit(0, 4).refused(10);
     s.tick().served(1, 3, 0);
 }
@@ -398,7 +399,7 @@ fn nothing_is_left(s: &mut Session, clients: u16) {
 // Number m has deadline m, and is the client's whose turn it is.
 fn fill(s: &mut Session, clients: u16, records: u16) {
     for n in 0..records {
-        s.submit(n % clients, n as u64 + 1).kept(n as u64 + 1, n as u64);
+        s.submit(n % clients, n as u64 + 1).kept(n as u64 + 1, n as u64, 0);
     }
     s.submit(0, 1).refused(10);
     s.chart().drawn(&[(0, records as u64)]);
@@ -427,7 +428,7 @@ fn opens_again(s: &mut Session) {
         if records > 1 {
             // the only slot up to deadline 2 is taken
             let number = records as u64 + 1;
-            s.submit(0, 2).dropped(number, number, 0);
+            s.submit(0, 2).dropped(number, number, 0, records as u64 - 2);
         }
     }
     s.open(1, 50, 1).opened();
@@ -445,7 +446,7 @@ fn first_match_of_submit_and_report(s: &mut Session) {
     for deadline in [0, 65_536, 1 << 16 | 1, 1 << 32, 1 << 48 | 1, 1 << 63, u64::MAX] {
         s.submit(1, deadline).refused(7);
     }
-    s.submit(1, 3).kept(1, 0);
+    s.submit(1, 3).kept(1, 0, 0);
     // the table is full
     s.submit(2, 0).refused(6);
     s.submit(0, 0).refused(7);
@@ -455,7 +456,7 @@ fn first_match_of_submit_and_report(s: &mut Session) {
     s.tick().served(0, 1, 1);
     s.submit(0, 1).refused(7);
     s.submit(0, 65_537).refused(7);
-    s.submit(0, 65_536).kept(2, 0);
+    s.submit(0, 65_536).kept(2, 0, 0);
 }
 
 fn worked_reads(s: &mut Session) {
@@ -463,29 +464,29 @@ fn worked_reads(s: &mut Session) {
     s.tick().idle(0);
     s.open(1, 100, 4).opened();
     s.submit(0, 0).refused(7);
-    s.submit(0, 1).kept(1, 0);
+    s.submit(0, 1).kept(1, 0, 0);
     s.open(1, 100, 4).opened();
-    s.submit(0, 65_535).kept(1, 0);
+    s.submit(0, 65_535).kept(1, 0, 0);
     s.submit(0, 65_536).refused(7);
     s.open(2, 100, 4).opened();
-    s.submit(0, 2).kept(1, 0);
-    s.submit(0, 2).kept(2, 1);
-    s.submit(1, 2).dropped(3, 3, 1);
+    s.submit(0, 2).kept(1, 0, 0);
+    s.submit(0, 2).kept(2, 1, 0);
+    s.submit(1, 2).dropped(3, 3, 1, 0);
     s.open(1, 100, 1).opened();
-    s.submit(0, 9).kept(1, 0);
+    s.submit(0, 9).kept(1, 0, 0);
     s.submit(0, 9).refused(10);
     s.tick().served(0, 1, 0);
-    s.submit(0, 9).kept(2, 0);
+    s.submit(0, 9).kept(2, 0, 0);
 }
 
 fn charts(s: &mut Session) {
     s.open(1, 100, 5).opened();
     s.chart().drawn(&[]);
     for (place, deadline) in [3, 5, 10, 10].into_iter().enumerate() {
-        s.submit(0, deadline).kept(place as u64 + 1, place as u64);
+        s.submit(0, deadline).kept(place as u64 + 1, place as u64, 0);
     }
     s.chart().drawn(&[(2, 3), (4, 5), (8, 10)]);
-    s.submit(0, 4).kept(5, 1);
+    s.submit(0, 4).kept(5, 1, 3);
     s.chart().drawn(&[(2, 5), (8, 10)]);
     for (slot, number) in (0..).zip([1, 5, 2]) {
         s.tick().served(slot, number, 0);
@@ -496,16 +497,16 @@ fn charts(s: &mut Session) {
 // 1 of 4 against 1 of 2: the first client loses.
 fn smaller_ratio(s: &mut Session) {
     s.open(2, 100, 8).opened();
-    s.submit(0, 1).kept(1, 0);
-    s.submit(0, 1).dropped(2, 2, 0);
-    s.submit(1, 1).dropped(3, 3, 1);
+    s.submit(0, 1).kept(1, 0, 0);
+    s.submit(0, 1).dropped(2, 2, 0, 0);
+    s.submit(1, 1).dropped(3, 3, 1, 0);
     s.tick().served(0, 1, 0);
-    s.submit(0, 2).kept(4, 0);
+    s.submit(0, 2).kept(4, 0, 0);
     s.tick().served(1, 4, 0);
-    s.submit(0, 3).kept(5, 0);
+    s.submit(0, 3).kept(5, 0, 0);
     s.report(0).reported(0, [4, 2, 1, 1]);
     s.report(1).reported(1, [1, 0, 1, 0]);
-    s.submit(1, 3).dropped(6, 5, 0);
+    s.submit(1, 3).dropped(6, 5, 0, 0);
     s.report(0).reported(0, [4, 2, 2, 0]);
     s.report(1).reported(1, [2, 0, 1, 1]);
     s.tick().served(2, 6, 1);
@@ -514,21 +515,21 @@ fn smaller_ratio(s: &mut Session) {
 // 1 of 3 is 2 of 6: the last in chart order.
 fn equal_ratios(s: &mut Session) {
     s.open(2, 100, 8).opened();
-    s.submit(0, 1).kept(1, 0);
-    s.submit(0, 1).dropped(2, 2, 0);
+    s.submit(0, 1).kept(1, 0, 0);
+    s.submit(0, 1).dropped(2, 2, 0, 0);
     s.tick().served(0, 1, 0);
-    s.submit(1, 2).kept(3, 0);
-    s.submit(1, 2).dropped(4, 4, 1);
-    s.submit(1, 2).dropped(5, 5, 1);
+    s.submit(1, 2).kept(3, 0, 0);
+    s.submit(1, 2).dropped(4, 4, 1, 0);
+    s.submit(1, 2).dropped(5, 5, 1, 0);
     s.tick().served(1, 3, 1);
-    s.submit(1, 3).kept(6, 0);
+    s.submit(1, 3).kept(6, 0, 0);
     s.tick().served(2, 6, 1);
-    s.submit(1, 4).kept(7, 0);
+    s.submit(1, 4).kept(7, 0, 0);
     s.tick().served(3, 7, 1);
-    s.submit(0, 5).kept(8, 0);
+    s.submit(0, 5).kept(8, 0, 0);
     s.report(0).reported(0, [3, 1, 1, 1]);
     s.report(1).reported(1, [5, 3, 2, 0]);
-    s.submit(1, 5).dropped(9, 9, 1);
+    s.submit(1, 5).dropped(9, 9, 1, 0);
     s.report(1).reported(1, [6, 3, 3, 0]);
     s.tick().served(4, 8, 0);
 }
@@ -536,16 +537,16 @@ fn equal_ratios(s: &mut Session) {
 // The record that is lost stands before the new one, behind it, or is none of the later ones in its segment.
 fn victims(s: &mut Session) {
     s.open(3, 100, 8).opened();
-    s.submit(0, 2).kept(1, 0);
-    s.submit(1, 2).kept(2, 1);
-    s.submit(2, 3).kept(3, 2);
+    s.submit(0, 2).kept(1, 0, 0);
+    s.submit(1, 2).kept(2, 1, 0);
+    s.submit(2, 3).kept(3, 2, 0);
     s.chart().drawn(&[(0, 3)]);
     // all at 0: the last of those up to deadline 2
-    s.submit(0, 1).dropped(4, 2, 1);
-    s.submit(1, 2).dropped(5, 1, 0);
-    s.submit(2, 2).dropped(6, 6, 2);
+    s.submit(0, 1).dropped(4, 2, 1, 3);
+    s.submit(1, 2).dropped(5, 1, 0, 1);
+    s.submit(2, 2).dropped(6, 6, 2, 1);
     // clients 1 and 2 are at 1 of 2, and client 0 with the new one at 1 of 3
-    s.submit(0, 3).dropped(7, 7, 0);
+    s.submit(0, 3).dropped(7, 7, 0, 0);
     s.report(0).reported(0, [3, 0, 2, 1]);
     s.report(1).reported(1, [2, 0, 1, 1]);
     s.report(2).reported(2, [2, 0, 1, 1]);
@@ -557,10 +558,10 @@ fn victims(s: &mut Session) {
 
 fn period_starts(s: &mut Session) {
     s.open(2, 3, 8).opened();
-    s.submit(0, 1).kept(1, 0);
-    s.submit(0, 1).dropped(2, 2, 0);
+    s.submit(0, 1).kept(1, 0, 0);
+    s.submit(0, 1).dropped(2, 2, 0, 0);
     for number in 3..=5 {
-        s.submit(1, 9).kept(number, number - 2);
+        s.submit(1, 9).kept(number, number - 2, 0);
     }
     s.tick().served(0, 1, 0);
     s.tick().served(1, 3, 1);
@@ -571,7 +572,7 @@ fn period_starts(s: &mut Session) {
     s.report(0).reported(0, [0; 4]);
     s.report(1).reported(1, [1, 0, 0, 1]);
     s.tick().served(3, 5, 1);
-    s.submit(0, 5).kept(6, 0);
+    s.submit(0, 5).kept(6, 0, 0);
     s.report(0).reported(0, [1, 0, 0, 1]);
     s.report(1).reported(1, [1, 1, 0, 0]);
     s.tick().served(4, 6, 0);
@@ -582,9 +583,9 @@ fn period_starts(s: &mut Session) {
 
 fn period_of_one(s: &mut Session) {
     s.open(1, 1, 3).opened();
-    s.submit(0, 4).kept(1, 0);
-    s.submit(0, 4).kept(2, 1);
-    s.submit(0, 4).kept(3, 2);
+    s.submit(0, 4).kept(1, 0, 0);
+    s.submit(0, 4).kept(2, 1, 0);
+    s.submit(0, 4).kept(3, 2, 0);
     for slot in 0..3 {
         s.tick().served(slot, slot + 1, 0);
         let waiting = 2 - slot as u32;
@@ -601,11 +602,11 @@ fn many_ticks(s: &mut Session) {
     for deadline in [0, 1, 65_535, 70_000, 70_000 + 65_536] {
         s.submit(0, deadline).refused(7);
     }
-    s.submit(0, 70_000 + 65_535).kept(1, 0);
+    s.submit(0, 70_000 + 65_535).kept(1, 0, 0);
     s.chart().drawn(&[(135_534, 135_535)]);
     s.tick().served(70_000, 1, 0);
     for (number, slot) in (2..).zip(70_001..72_000) {
-        s.submit(0, slot + 1).kept(number, 0);
+        s.submit(0, slot + 1).kept(number, 0, 0);
         s.tick().served(slot, number, 0);
     }
     s.report(0).reported(0, [2_000, 2_000, 0, 0]);
@@ -632,7 +633,7 @@ fn full_of_many_clients(s: &mut Session) {
 fn segment_each(s: &mut Session) {
     s.open(1, 100, 2_048).opened();
     for number in 1..=2_048 {
-        s.submit(0, 31 * (2_049 - number)).kept(number, 0);
+        s.submit(0, 31 * (2_049 - number)).kept(number, 0, number - 1);
     }
     let segments: Vec<(u64, u64)> = (1..=2_048).map(|n| (31 * n - 1, 31 * n)).collect();
     for _ in 0..20 {
@@ -647,14 +648,14 @@ fn segment_each(s: &mut Session) {
 fn one_segment(s: &mut Session) {
     s.open(2, 10_000, 2_048).opened();
     for n in 0..2_048 {
-        s.submit(0, 2_048).kept(n + 1, n);
+        s.submit(0, 2_048).kept(n + 1, n, 0);
     }
     s.submit(1, 2_048).refused(10);
     s.chart().drawn(&[(0, 2_048)]);
     s.tick().served(0, 1, 0);
-    s.submit(1, 2_048).dropped(2_049, 2_049, 1);
+    s.submit(1, 2_048).dropped(2_049, 2_049, 1, 0);
     // client 0 has dropped none: its last one goes
-    s.submit(1, 2).dropped(2_050, 2_048, 0);
+    s.submit(1, 2).dropped(2_050, 2_048, 0, 2_047);
     s.chart().drawn(&[(1, 2_048)]);
     s.tick().served(1, 2_050, 1);
     s.tick().served(2, 2, 0);
@@ -1069,7 +1070,7 @@ fn main() {
     program.try_unreadable_inputs();
     program.try_nonblocking_input();
     println!(
-        "{} sessions, run {} times: all as document 01 says",
+        "{} sessions, run {} times: all as the documents say",
         program.sessions, program.runs
     );
 }

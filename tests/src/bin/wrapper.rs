@@ -1,5 +1,5 @@
-//! The Rust wrapper held to document 01: its version, each answer with its values by name and its words, each refusal with its number
-//! and its words. In no answer are two values the same, so that none can stand for another.
+//! The Rust wrapper held to the documents: its version, each answer with its values by name and its words, each refusal with its number
+//! and its words. In no answer but a first read's are two values the same, so that none can stand for another.
 use std::fmt::Debug;
 use std::process::exit;
 use tests::tables::setup;
@@ -26,39 +26,52 @@ impl Held {
     }
 }
 
-// Client 7 has missed more than clients 2 and 6, so that its read is kept and the last of theirs is dropped.
+fn kept(number: u64, place: u64, shift: u64) -> Answer {
+    Answer::Kept { number, place, shift }
+}
+
+// Client 7 has missed more than clients 2 and 6, so that its read is kept and the last of theirs is dropped; two reads of client 5 wait
+// behind them all.
+fn submits(held: &mut Held, t: &mut Tables<8, 8>) {
+    let words = |number, place, shift| format!("number {number} is kept, at place {place}, shift {shift}");
+    held.answer(&words(21, 0, 0), kept(21, 0, 0), t.queue().submit(5, 30));
+    held.answer(&words(22, 1, 0), kept(22, 1, 0), t.queue().submit(5, 31));
+    held.answer(&words(23, 0, 2), kept(23, 0, 2), t.queue().submit(2, 7));
+    held.answer(&words(24, 1, 2), kept(24, 1, 2), t.queue().submit(6, 7));
+    // the victim stood behind the new one too
+    held.answer(
+        "number 25, shift 4, is one too many, number 24 of client 6 is dropped",
+        Answer::Dropped {
+            number: 25,
+            victim: 24,
+            client: 6,
+            shift: 4,
+        },
+        t.queue().submit(7, 6),
+    );
+}
+
 fn answers(held: &mut Held) {
     let mut t = Tables::<8, 8>::new();
     held.answer("opened", Answer::Opened, t.queue().open(setup(8, 1_000)));
-    t.head.clock = 4;
+    (t.head.clock, t.head.last) = (4, 20);
     t.clients[7] = Client {
         submitted: 10,
         served: 7,
         dropped: 3,
     };
     held.answer("nothing waits in slot 4", Answer::Idle { slot: 4 }, t.queue().tick());
-    let kept = |number, place| Answer::Kept { number, place };
-    held.answer("number 1 is kept, at place 0", kept(1, 0), t.queue().submit(2, 7));
-    held.answer("number 2 is kept, at place 1", kept(2, 1), t.queue().submit(6, 7));
+    submits(held, &mut t);
     held.answer(
-        "number 3 is one too many, number 2 of client 6 is dropped",
-        Answer::Dropped {
-            number: 3,
-            victim: 2,
-            client: 6,
-        },
-        t.queue().submit(7, 6),
-    );
-    held.answer(
-        "number 3 of client 7 is served in slot 5",
+        "number 25 of client 7 is served in slot 5",
         Answer::Served {
             slot: 5,
-            number: 3,
+            number: 25,
             client: 7,
         },
         t.queue().tick(),
     );
-    held.answer("number 4 is kept, at place 1", kept(4, 1), t.queue().submit(7, 9));
+    held.same("a read between", kept(26, 1, 2), t.queue().submit(7, 9));
     held.answer(
         "client 7: 12 submitted, 8 served, 3 dropped, 1 waiting",
         Answer::Reported {
@@ -70,9 +83,9 @@ fn answers(held: &mut Held) {
         },
         t.queue().report(7),
     );
-    let mut starts = [99; 3];
-    held.answer("2 waiting", Answer::Charted { count: 2 }, t.queue().chart(&mut starts));
-    held.same("start slots", [6, 8, 99], starts);
+    let mut starts = [99; 5];
+    held.answer("4 waiting", Answer::Charted { count: 4 }, t.queue().chart(&mut starts));
+    held.same("start slots", [6, 8, 29, 30, 99], starts);
 }
 
 // Tables that are opened, and a call on them that is refused.
@@ -178,5 +191,5 @@ fn main() {
         eprintln!("{} of {} facts of the Rust wrapper are not so", held.failed, held.facts);
         exit(1);
     }
-    println!("{} facts of the Rust wrapper: all as document 01 says", held.facts);
+    println!("{} facts of the Rust wrapper: all as the documents say", held.facts);
 }

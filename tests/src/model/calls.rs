@@ -1,6 +1,7 @@
 //! "Calls".
 use super::chart::{can_all_finish, starts, victim};
 use super::refusals::refusal;
+use super::shift::{behind, faulty};
 use super::tables::{stands_before, Counts, Head, Queue, Request, Setup};
 use super::Fault;
 
@@ -16,7 +17,7 @@ pub enum Call {
 
 // An answer's kind and its values: "81 opened; 82 kept, number, place; 83 dropped, new number, victim, victim's client; 84
 // served, slot, number, client; 85 idle, slot; 86 report, client, submitted, served, dropped, waiting; ... FF refusal, number".
-// A chart's answer has the number of the frame that ends it, 88.
+// "Frames 82 and 83 end with" the shift. A chart's answer has the number of the frame that ends it, 88.
 pub type Answer = Vec<u64>;
 
 pub const OPENED: u64 = 0x81;
@@ -72,18 +73,21 @@ impl Queue {
             client,
         };
         let mut requests = self.waiting().to_vec();
+        // "Submit also answers how many waiting records stood behind the new one in chart order when it was put in."
+        let shift = behind(&new, &requests);
         let place = requests.iter().filter(|request| stands_before(request, &new)).count();
-        if self.fault == Fault::LostShift && place < requests.len() {
+        if self.fault == Fault::LostRecord && place < requests.len() {
             requests[place] = new;
         } else {
             requests.insert(place, new);
         }
         // "If every request can still finish, the answer is kept, with number and place (from 0)."
-        let answer = if can_all_finish(self.head.clock, requests.iter()) {
+        let mut answer = if can_all_finish(self.head.clock, requests.iter()) {
             vec![KEPT, number, place as u64]
         } else {
             self.drop_one(number, &mut requests)
         };
+        answer.push(faulty(self, &new, &requests).unwrap_or(shift));
         self.hold(&requests);
         answer
     }

@@ -23,7 +23,7 @@ impl List {
         match (call, answer) {
             (_, [REFUSED, _]) => self.refused += 1,
             (Call::Submit { deadline, .. }, [KEPT, number, ..]) => self.submitted(*number, *deadline),
-            (Call::Submit { deadline, .. }, [DROPPED, number, victim, _]) => {
+            (Call::Submit { deadline, .. }, [DROPPED, number, victim, ..]) => {
                 self.submitted(*number, *deadline);
                 self.victims.insert(*victim);
             }

@@ -25,12 +25,12 @@ pub fn widths_in(kind: u64) -> Option<&'static [usize]> {
 // "Kinds out: 81 opened; 82 kept, number (8), place (2); 83 dropped, new number (8), victim (8), victim's client (2); 84
 // served, slot (8), number (8), client (2); 85 idle, slot (8); 86 report, client (2), submitted (4), served (4), dropped (4),
 // waiting (2); 87 segment, left (8), right (8), one line each from the left, then 88, segment count (2); FF refusal, number
-// (1)."
+// (1)." Document 02: "Frames 82 and 83 end with" the shift, "in 2 bytes".
 pub fn widths_out(kind: u64) -> Option<&'static [usize]> {
     match kind {
         OPENED => Some(&[]),
-        KEPT => Some(&[8, 2]),
-        DROPPED => Some(&[8, 8, 2]),
+        KEPT => Some(&[8, 2, 2]),
+        DROPPED => Some(&[8, 8, 2, 2]),
         SERVED => Some(&[8, 8, 2]),
         IDLE => Some(&[8]),
         REPORT => Some(&[2, 4, 4, 4, 2]),
@@ -94,6 +94,12 @@ pub fn call_of(frame: &[u64]) -> Option<Call> {
         [0x05] => Some(Call::Chart { entries: *RECORDS.end() }),
         _ => None,
     }
+}
+
+// The call that a line asks for, with the last line that was printed for it as its answer. What is no frame is no call.
+pub fn call_and_answer(line: &[u8], printed: &[u8]) -> Option<(Call, Answer)> {
+    let last = printed.split(|&byte| byte == b'\n').rev().nth(1)?;
+    Some((call_of(&read(line, widths_in)?)?, read(last, widths_out)?))
 }
 
 // "Before an accepted open the two tables have no records"

@@ -13,19 +13,21 @@ use Rattle.spec.specs.Tables.{zeroRequest, State, waiting, behind, holding, nex
 use Rattle.spec.specs.Setup.{firstMatch}
 use Rattle.spec.specs.Order.{placeOf, insertAt, putInOrder, removeAt}
 use Rattle.spec.specs.Calls.Outcomes.{Outcome}
-use Rattle.spec.specs.Calls.Submit.{submitRefusals, newRequest, kept, droppedAt, victimPlace, requestAt}
+use Rattle.spec.specs.Calls.Submit.{submitRefusals, newRequest, newShift, kept, droppedAt, victimPlace, requestAt}
 use Rattle.spec.specs.Calls.{outcomeOf, submit}
 use Rattle.spec.proofs.Laws.Every.{length-insert, length-remove, remove-insert, getD-insert}
 use Rattle.spec.proofs.Laws.Order.{place-most, length-put}
 use Rattle.spec.proofs.Laws.Accepted.{Ready, SubmitReady, submit-ready, tick-ready, waiting-length, table-held}
 use Rattle.spec.proofs.Calls.Victim.{victim-place}
+use Rattle.spec.proofs.Calls.Fair.{new-place-and-shift}
 use Rattle.table.specs.Widths.{largest64}
-use Rattle.table.specs.Records.{replaced, takenOut, inserted, removed, removedOut}
+use Rattle.table.specs.Records.{replaced, takenOut, shiftAt, inserted, removed, removedOut}
 use Rattle.table.proofs.MovedRecords.{are-in, first-out, second-out, insert-front, remove-front}
 use Rattle.decide.specs.declared.submit.Decision.{Decision}
-use Rattle.decide.specs.declared.submit.Decision.the-variants.{Drop}
+use Rattle.decide.specs.declared.submit.Decision.the-variants.{Refuse, Keep, Drop}
+use Rattle.decide.specs.declared.submit.Insertion.{Insertion}
 use Rattle.decide.specs.Submit.{placeWithout}
-use Rattle.queue.specs.Placement.{withoutVictim, victimAt, tableAfter, goneAfter}
+use Rattle.queue.specs.Placement.{withoutVictim, victimAt, tableAfter, insertionBy}
 use Rattle.queue.specs.Decision.{submitDecision}
 use Rattle.queue.proofs.Laws.Decision.{Carried, refuses, keeps, drops, submit-carried}
 
@@ -105,8 +107,8 @@ module _ (place victim : ℕ) (r : Request) (ys : List Request) where
           rw (first-out out place ys (omega arith), second-out place victim (r ∷ ys) (omega (arith, e))) (refl, refl)
 
   -- a waiting record goes: one put in for another, at the places where both stand without the other
-  pub drops-other : victim ≢ place → Replaces (placeWithout victim place) (placeWithout place victim)
-  drops-other d = go (order (suc victim) place)
+  pub drops-other : {out at : ℕ} → out ≡ placeWithout victim place → at ≡ placeWithout place victim → victim ≢ place → Replaces out at
+  drops-other e a d = rw (e, a) (go (order (suc victim) place))
     where
       go : Order (suc victim) place → Replaces (placeWithout victim place) (placeWithout place victim)
       go (le h) =
@@ -196,6 +198,17 @@ module _ (client deadline : ℕ) (s : State) (ready : SubmitReady client deadlin
       (ap (λ (l : List Request). getD l victim zeroRequest) with-new
       ∙ List·getD-append (insertAt place new (waiting s)) (replicate (records - length (waiting s)) zeroRequest) zeroRequest victim victim-in)
 
+  -- as many stand behind the place as the definition counts
+  shift-same : shiftAt (s .head .waiting) place ≡ newShift client deadline s
+  shift-same = omega (arith, new-place-and-shift client deadline s ready)
+
+-- what an accepted submit's answer says of its insertion: the shift, and the victim where there is one
+abbrev pub InsertionFor : ℕ → ℕ → State → Decision → Insertion → Type 0
+InsertionFor client deadline s (Refuse number) p = Unit {0}
+InsertionFor client deadline s (Keep place) p = p .shift ≡ newShift client deadline s
+InsertionFor client deadline s (Drop place victim) p =
+    (p .gone ≡ requestAt victim client deadline s) × (p .shift ≡ newShift client deadline s)
+
 -- ---- the number of an accepted submit's record fits
 pub new-fits : (client deadline : ℕ) (s : State) → firstMatch (submitRefusals client deadline s) ≡ 0
     → s .head .last < largest64
@@ -215,15 +228,14 @@ module _
       go (keeps z) = rw (new z) (kept-table client deadline s (submit-ready client deadline s z))
       go (drops z) = rw (new z) (dropped-table client deadline s (submit-ready client deadline s z))
 
-  pub submit-gone : (place victim : ℕ) → submitDecision client deadline s ≡ Drop place victim
-      → goneAfter r (submitDecision client deadline s) (s .waitingTable) ≡ requestAt victim client deadline s
-  submit-gone place victim = go (submit-carried client deadline s)
+  pub submit-inserted : InsertionFor client deadline s (submitDecision client deadline s)
+      (insertionBy (s .head) r (submitDecision client deadline s) (s .waitingTable))
+  submit-inserted = go (submit-carried client deadline s)
     where
       go : {d : Decision} {o : Outcome} → Carried client deadline s d o
-          → d ≡ Drop place victim → goneAfter r d (s .waitingTable) ≡ requestAt victim client deadline s
-      go (refuses n) e = absurd (let z : _≡_ {A = ℕ} 0 1 = cc in omega arith)
-      go (keeps z) e = absurd (let z : _≡_ {A = ℕ} 0 1 = cc in omega arith)
-      go (drops z) e =
-          let v : victimPlace client deadline s ≡ victim = cc in
-          rw (new z) (dropped-gone client deadline s (submit-ready client deadline s z))
-          ∙ ap (λ (k : ℕ). requestAt k client deadline s) v
+          → InsertionFor client deadline s d (insertionBy (s .head) r d (s .waitingTable))
+      go (refuses n) = tt
+      go (keeps z) = shift-same client deadline s (submit-ready client deadline s z)
+      go (drops z) =
+          let ready = submit-ready client deadline s z in
+          rw (new z) (dropped-gone client deadline s ready, shift-same client deadline s ready)

@@ -1,6 +1,6 @@
 -- What the parts of a submit come to together. Assumes nothing.
 use Prim.Native.Nat.{ℕ, suc, _<_}
-use mathlib.Core.Path.{_≡_, refl, sym, ap, _∙_}
+use mathlib.Core.Path.{_≡_, refl, sym, ap, subst, _∙_}
 use mathlib.Core.Bool.{Bool, true, false, cond}
 use mathlib.Core.List.{List}
 use native.Mathlib.Omega.{arith}
@@ -15,7 +15,7 @@ use Rattle.spec.specs.Setup.{firstMatch}
 use Rattle.spec.specs.Order.{placeOf, removeAt}
 use Rattle.spec.specs.Sound.{waitingOf}
 use Rattle.spec.specs.Calls.Outcomes.{Outcome, refusing}
-use Rattle.spec.specs.Calls.Submit.{submitRefusals, newRequest, countedIn, withNew, kept, droppedAt, victimPlace, requestAt}
+use Rattle.spec.specs.Calls.Submit.{submitRefusals, newRequest, newShift, countedIn, withNew, kept, droppedAt, victimPlace, requestAt}
 use Rattle.spec.specs.Calls.Report.{reportRefusals, reportAccepted}
 use Rattle.spec.specs.Calls.Chart.{chartRefusals, chartAccepted}
 use Rattle.spec.specs.Calls.{chart, outcomeOf, report, submit}
@@ -30,14 +30,14 @@ use Rattle.table.specs.Widths.{largest64, saturatingNext}
 use Rattle.table.specs.Clients.{changedAt, oneMoreUnlessFull, waitingCount}
 use Rattle.table.proofs.ChangedCounts.{more-numbers}
 use Rattle.decide.specs.declared.submit.Decision.{Decision}
-use Rattle.decide.specs.declared.submit.Decision.the-variants.{Drop}
-use Rattle.decide.specs.Submit.{numberedRequest, submitNumbers, headAfterSubmit, keptWith, droppedWith, submitReply}
-use Rattle.queue.specs.Placement.{tableAfter, goneAfter}
+use Rattle.decide.specs.declared.submit.Insertion.{Insertion}
+use Rattle.decide.specs.Submit.{numberedRequest, insertionOf, submitNumbers, headAfterSubmit, keptWith, droppedWith, submitReply}
+use Rattle.queue.specs.Placement.{tableAfter, insertionBy}
 use Rattle.queue.specs.Decision.{submitDecision}
 use Rattle.queue.specs.Gives.{Reply, Gives}
 use Rattle.queue.proofs.Laws.Replies.{whole, bounded, next-fits, ReplyMatches, answers, given as given-by}
 use Rattle.queue.proofs.Laws.Decision.{Carried, refuses, keeps, drops, submit-carried}
-use Rattle.queue.proofs.Laws.Placement.{submit-table, submit-gone, new-fits}
+use Rattle.queue.proofs.Laws.Placement.{InsertionFor, submit-table, submit-inserted, new-fits}
 
 -- ---- a submit
 -- the head with the next number
@@ -82,13 +82,14 @@ module _ (client deadline : ℕ) (s : State) (ready : SubmitReady client deadlin
       ∙ more-numbers count.Submitted client (clientTable s) (bounded (tidy s (ready .ready)) client (ready .exists) .0)
 
   kept-answers : ReplyMatches (kept client deadline s)
-      (keptWith (s .head) (placeOf (newRequest client deadline s) (waiting s)))
+      (keptWith (s .head) (placeOf (newRequest client deadline s) (waiting s)) (newShift client deadline s))
       (changedAt (oneMoreUnlessFull count.Submitted) client (s .clientNumbers))
   unfolding kept nextState
   kept-answers = answers (rw given) (head-after all (s .head) _ given one-more) counted
 
   dropped-answers : (k : ℕ) → k < length all
-      → ReplyMatches (droppedAt k client deadline s) (droppedWith (s .head) (requestAt k client deadline s))
+      → ReplyMatches (droppedAt k client deadline s)
+      (droppedWith (s .head) (insertionOf (requestAt k client deadline s) (newShift client deadline s)))
       (changedAt (oneMoreUnlessFull count.Dropped) (requestAt k client deadline s .client) (changedAt (oneMoreUnlessFull count.Submitted) client (s .clientNumbers)))
   unfolding droppedAt nextState
   dropped-answers k h =
@@ -105,46 +106,42 @@ module _ (client deadline : ℕ) (s : State) (ready : SubmitReady client deadlin
       exists : whose < s .head .setup .clients
       exists = all-at (ClientExists (s .head .setup .clients)) all k zeroRequest h (together .owned)
 
--- by the decision, where `gone` is the victim: what is handed back, and what becomes of the client table
-submit-answers : (client deadline : ℕ) (s : State) {gone : Request} {decision : Decision} {r : Reply} {xs : List ℕ}
-    → decision ≡ submitDecision client deadline s
-    → ((place victim : ℕ) → decision ≡ Drop place victim → gone ≡ requestAt victim client deadline s)
-    → (r ≡ submitReply (s .head) gone decision) × (xs ≡ submitNumbers client gone decision (s .clientNumbers))
+-- by the decision and the insertion: what is handed back, and what becomes of the client table
+submit-answers : (client deadline : ℕ) (s : State) (insertion : Insertion) {decision : Decision} {r : Reply} {xs : List ℕ}
+    → decision ≡ submitDecision client deadline s → InsertionFor client deadline s (submitDecision client deadline s) insertion
+    → (r ≡ submitReply (s .head) insertion decision) × (xs ≡ submitNumbers client (insertion .gone) decision (s .clientNumbers))
     → ReplyMatches (outcomeOf (submit client deadline) s) r xs
-submit-answers client deadline s {gone} e g (a, b) =
-    rw (a, b, e) (go (submit-carried client deadline s) (λ p v h. g p v (e ∙ h)))
+submit-answers client deadline s insertion e g (a, b) = rw (a, b, e) (go (submit-carried client deadline s) g)
   where
-    go : {d : Decision} {o : Outcome} → Carried client deadline s d o
-        → ((place victim : ℕ) → d ≡ Drop place victim → gone ≡ requestAt victim client deadline s)
-        → ReplyMatches o (submitReply (s .head) gone d) (submitNumbers client gone d (s .clientNumbers))
+    go : {d : Decision} {o : Outcome} → Carried client deadline s d o → InsertionFor client deadline s d insertion
+        → ReplyMatches o (submitReply (s .head) insertion d) (submitNumbers client (insertion .gone) d (s .clientNumbers))
     go (refuses n) h = answers refl refl refl
-    go (keeps z) h = kept-answers client deadline s (submit-ready client deadline s z)
+    go (keeps z) h = rw h (kept-answers client deadline s (submit-ready client deadline s z))
     go (drops z) h =
         let r = submit-ready client deadline s z in
-        rw (h _ _ refl)
+        rw (h .0, h .1)
         (dropped-answers client deadline s r (victimPlace client deadline s) (victim-place client deadline s r .0))
 
 module _ (head : Head) (ws : List Request) (xs : List ℕ) where
   abbrev s : State
   s = stateOf head ws xs
 
-  pub submitted-gives : (client deadline : ℕ) (decision : Decision) (new gone : Request) (ws′ : List Request)
+  pub submitted-gives : (client deadline : ℕ) (decision : Decision) (new : Request) (insertion : Insertion) (ws′ : List Request)
       (r : Reply) (xs′ : List ℕ)
       → decision ≡ submitDecision client deadline s
       → new ≡ numberedRequest head client deadline
-      → (gone ≡ goneAfter new decision ws) × (ws′ ≡ tableAfter head new decision ws)
-      → xs′ ≡ submitNumbers client gone decision xs
-      → r ≡ submitReply head gone decision
+      → (insertion ≡ insertionBy head new decision ws) × (ws′ ≡ tableAfter head new decision ws)
+      → xs′ ≡ submitNumbers client (insertion .gone) decision xs
+      → r ≡ submitReply head insertion decision
       → Gives (submit client deadline) s r (stateOf (r .head) ws′ xs′)
   unfolding outcomeOf
-  submitted-gives client deadline decision new gone ws′ r xs′ decides news moved a b =
+  submitted-gives client deadline decision new insertion ws′ r xs′ decides news moved a b =
       given-by (submit client deadline) s
       (moved .1 ∙ ap (λ (d : Decision). tableAfter head new d ws) decides ∙ submit-table client deadline s new made)
-      (submit-answers client deadline s decides
-      (λ place victim drops.
-      moved .0
-      ∙ ap (λ (d : Decision). goneAfter new d ws) decides
-      ∙ submit-gone client deadline s new made place victim (sym decides ∙ drops)) (b, a))
+      (submit-answers client deadline s insertion decides
+      (subst (InsertionFor client deadline s (submitDecision client deadline s))
+      (sym (moved .0 ∙ ap (λ (d : Decision). insertionBy head new d ws) decides))
+      (submit-inserted client deadline s new made)) (b, a))
     where
       made : firstMatch (submitRefusals client deadline s) ≡ 0 → new ≡ newRequest client deadline s
       made z =

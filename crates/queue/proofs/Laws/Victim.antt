@@ -24,9 +24,9 @@ use Rattle.spec.specs.Calls.Submit.{newRequest, countedIn, withNew, victimPlace
 use Rattle.spec.proofs.Laws.Order.{InOrder, all-put}
 use Rattle.spec.proofs.Laws.Feasible.{due-yes, due-no, dueBy-put, dueBy-none, dueBy-mono, Verdict, fine, over}
 use Rattle.spec.proofs.Laws.Feasible.{verdict, feasible-facts, feasible-test}
-use Rattle.spec.proofs.Calls.Fair.{candidate-finish, finish-candidate, helps-exactly, new-ordered}
+use Rattle.spec.proofs.Calls.Fair.{candidate-finish, finish-candidate, helps-exactly, new-largest, new-ordered}
 use Rattle.spec.proofs.Calls.Victim.{victim-least, victim-last, victim-place, counted-some}
-use Rattle.spec.proofs.Laws.Sound.{Given, Ahead, ClientExists}
+use Rattle.spec.proofs.Laws.Sound.{Ahead, ClientExists}
 use Rattle.spec.proofs.Laws.Accepted.{SubmitReady, submit-ready}
 use Rattle.spec.proofs.Laws.Every.{value, is-true, is-false, same-test, all-at}
 use Rattle.spec.proofs.Laws.Places.{Roomy, feasible-roomy}
@@ -87,10 +87,7 @@ module _ (client deadline : ℕ) (s : State) (r : SubmitReady client deadline s)
 
   place : placeOf (newRequest client deadline s) ws ≡ at
   place =
-      place-due (newRequest client deadline s) ws
-      (all-imp (Given (s .head .last)) (λ (w : Request). w .number < suc (s .head .last)) ws (λ w g. omega arith)
-      (r .ready .sound .given))
-      (r .ready .sound .ordered)
+      place-due (newRequest client deadline s) ws (new-largest client deadline s r) (r .ready .sound .ordered)
 
   -- a field of all requests, with the new one's
   column : (f : Request → ℕ) → map f all ≡ putAt at (f (newRequest client deadline s)) (map f ws)

@@ -1,5 +1,5 @@
--- The worked reads that document 01 marks P, as one table that is checked by one theorem; and period starts early and late, as
--- another. Assumes nothing.
+-- The worked reads that document 01 marks P, with what document 02 adds to their answers and reads of its own, as one table that is
+-- checked by one theorem; and period starts early and late, as another. Assumes nothing.
 use Prim.Native.Nat.{ℕ, _+_, _-_}
 use mathlib.Core.Path.{_≡_, refl}
 use mathlib.Core.List.{List, [], _∷_, map, reverse}
@@ -51,23 +51,23 @@ cases =
     answering (fresh 1 8) (tick ∷ []) (Idle 0 ∷ [])
     -- "deadline 0 meets 7; 1 is kept."
     ∷ answering (fresh 1 8) (submit 0 0 ∷ []) (Refused 7 ∷ [])
-    ∷ answering (fresh 1 8) (submit 0 1 ∷ []) (Kept 1 0 ∷ [])
+    ∷ answering (fresh 1 8) (submit 0 1 ∷ []) (Kept 1 0 0 ∷ [])
     -- "65,535 is kept; 65,536 meets 7."
-    ∷ answering (fresh 1 8) (submit 0 65535 ∷ []) (Kept 1 0 ∷ [])
+    ∷ answering (fresh 1 8) (submit 0 65535 ∷ []) (Kept 1 0 0 ∷ [])
     ∷ answering (fresh 1 8) (submit 0 65536 ∷ []) (Refused 7 ∷ [])
     -- "the third submit above."
-    ∷ answering (fresh 2 8) (submit 0 1 ∷ submit 1 2 ∷ submit 1 1 ∷ []) (Kept 1 0 ∷ Kept 2 1 ∷ Dropped 3 3 1 ∷ [])
+    ∷ answering (fresh 2 8) (submit 0 1 ∷ submit 1 2 ∷ submit 1 1 ∷ []) (Kept 1 0 0 ∷ Kept 2 1 0 ∷ Dropped 3 3 1 1 ∷ [])
     -- "deadlines 2, 2, 2 from clients 0, 0, 1: the third is dropped."
-    ∷ answering (fresh 2 8) (submit 0 2 ∷ submit 0 2 ∷ submit 1 2 ∷ []) (Kept 1 0 ∷ Kept 2 1 ∷ Dropped 3 3 1 ∷ [])
+    ∷ answering (fresh 2 8) (submit 0 2 ∷ submit 0 2 ∷ submit 1 2 ∷ []) (Kept 1 0 0 ∷ Kept 2 1 0 ∷ Dropped 3 3 1 0 ∷ [])
     -- "candidates of clients at 1 of 4 and 1 of 2: the first client loses.", whichever of the two sends the new request
-    ∷ answering (rivals 0 5 (counts 4 2 1) (counts 1 0 1)) (submit 1 1 ∷ []) (Dropped 6 5 0 ∷ [])
-    ∷ answering (rivals 1 5 (counts 3 2 1) (counts 2 0 1)) (submit 0 1 ∷ []) (Dropped 6 6 0 ∷ [])
+    ∷ answering (rivals 0 5 (counts 4 2 1) (counts 1 0 1)) (submit 1 1 ∷ []) (Dropped 6 5 0 0 ∷ [])
+    ∷ answering (rivals 1 5 (counts 3 2 1) (counts 2 0 1)) (submit 0 1 ∷ []) (Dropped 6 6 0 0 ∷ [])
     -- "compared as fractions without rounding", at the counts' bound
     ∷ answering (rivals 1 5 (counts 268435453 178956968 89478485) (counts 268435455 178956969 89478485)) (submit 0 1 ∷ [])
-    (Dropped 6 5 1 ∷ [])
+    (Dropped 6 5 1 0 ∷ [])
     -- "1 of 3 against 2 of 6 is a tie.": the last in chart order is dropped, whichever client it is of
-    ∷ answering (rivals 0 8 (counts 3 1 1) (counts 5 3 2)) (submit 1 1 ∷ []) (Dropped 9 9 1 ∷ [])
-    ∷ answering (rivals 1 8 (counts 2 1 1) (counts 6 3 2)) (submit 0 1 ∷ []) (Dropped 9 9 0 ∷ [])
+    ∷ answering (rivals 0 8 (counts 3 1 1) (counts 5 3 2)) (submit 1 1 ∷ []) (Dropped 9 9 1 0 ∷ [])
+    ∷ answering (rivals 1 8 (counts 2 1 1) (counts 6 3 2)) (submit 0 1 ∷ []) (Dropped 9 9 0 0 ∷ [])
     -- "deadlines 3, 5, 10, 10 start at 2, 4, 8, 9; segments [2,3], [4,5], [8,10]."
     ∷ drawing (fresh 1 8) (submit 0 3 ∷ submit 0 5 ∷ submit 0 10 ∷ submit 0 10 ∷ [])
     (2 ∷ 4 ∷ 8 ∷ 9 ∷ []) (segment 2 3 ∷ segment 4 5 ∷ segment 8 10 ∷ [])
@@ -75,9 +75,20 @@ cases =
     ∷ drawing (fresh 1 8) (submit 0 3 ∷ submit 0 5 ∷ submit 0 10 ∷ submit 0 10 ∷ submit 0 4 ∷ [])
     (2 ∷ 3 ∷ 4 ∷ 8 ∷ 9 ∷ []) (segment 2 5 ∷ segment 8 10 ∷ [])
     -- "puts the record in chart order": between two that wait
-    ∷ answering (fresh 1 8) (submit 0 3 ∷ submit 0 10 ∷ submit 0 4 ∷ []) (Kept 1 0 ∷ Kept 2 1 ∷ Kept 3 1 ∷ [])
+    ∷ answering (fresh 1 8) (submit 0 3 ∷ submit 0 10 ∷ submit 0 4 ∷ []) (Kept 1 0 0 ∷ Kept 2 1 0 ∷ Kept 3 1 1 ∷ [])
     -- "a one-record table with one waiting meets 10; after a tick it accepts."
-    ∷ answering (fresh 1 1) (submit 0 5 ∷ submit 0 5 ∷ tick ∷ submit 0 5 ∷ []) (Kept 1 0 ∷ Refused 10 ∷ Served 0 1 0 ∷ Kept 2 0 ∷ [])
+    ∷ answering (fresh 1 1) (submit 0 5 ∷ submit 0 5 ∷ tick ∷ submit 0 5 ∷ []) (Kept 1 0 0 ∷ Refused 10 ∷ Served 0 1 0 ∷ Kept 2 0 0 ∷ [])
+    -- document 02, 2.1: "how many waiting records stood behind the new one in chart order": all, some or none; equals stand before it
+    ∷ answering (fresh 1 8) (submit 0 8 ∷ submit 0 9 ∷ submit 0 7 ∷ submit 0 8 ∷ submit 0 9 ∷ [])
+    (Kept 1 0 0 ∷ Kept 2 1 0 ∷ Kept 3 0 2 ∷ Kept 4 2 1 ∷ Kept 5 4 0 ∷ [])
+    -- document 02, 2.1: "when it was put in": the victim is counted where it stood behind the new one
+    ∷ answering (fresh 1 8) (submit 0 2 ∷ submit 0 3 ∷ submit 0 3 ∷ submit 0 2 ∷ [])
+    (Kept 1 0 0 ∷ Kept 2 1 0 ∷ Kept 3 2 0 ∷ Dropped 4 3 0 2 ∷ [])
+    -- here the fifth submit drops one that stood before the new one, and the sixth the new one itself
+    ∷ answering (fresh 2 8) (submit 1 1 ∷ submit 1 1 ∷ submit 0 2 ∷ submit 0 5 ∷ submit 1 2 ∷ submit 1 1 ∷ [])
+    (Kept 1 0 0 ∷ Dropped 2 2 1 0 ∷ Kept 3 1 0 ∷ Kept 4 2 0 ∷ Dropped 5 3 0 1 ∷ Dropped 6 6 1 2 ∷ [])
+    -- the last free record of a table, put in before all others: no shift is larger
+    ∷ answering (fresh 1 3) (submit 0 3 ∷ submit 0 2 ∷ submit 0 1 ∷ submit 0 1 ∷ []) (Kept 1 0 0 ∷ Kept 2 0 1 ∷ Kept 3 0 2 ∷ Refused 10 ∷ [])
     ∷ []
 
 -- a case with what the definitions give

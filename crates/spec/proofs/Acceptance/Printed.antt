@@ -74,10 +74,10 @@ expected =
           answered (report 1) (Reported 1 2 0 1 1)
           ∷ answered tick (Served 0 1 0)
           ∷ answered (chart blank) (Charted 1)
-          ∷ answered (submit 1 1) (Dropped 3 3 1)
+          ∷ answered (submit 1 1) (Dropped 3 3 1 1)
           ∷ answered (opening (setting 2 100)) (Refused 4)
-          ∷ answered (submit 1 2) (Kept 2 1)
-          ∷ answered (submit 0 1) (Kept 1 0)
+          ∷ answered (submit 1 2) (Kept 2 1 0)
+          ∷ answered (submit 0 1) (Kept 1 0 0)
           ∷ [];
       served = 1 ∷ [];
       waits = 2 ∷ [];

@@ -65,7 +65,7 @@ rows =
     ∷ row (submit 0 281474976710661) (state clockEnd numberEnd 1 full (oneClient 268435454 268435453 0)) (9 ∷ 10 ∷ []) (Refused 9)
     ∷ row (submit 0 281474976710661) (state clockEnd 281474976710654 1 full (oneClient 268435454 268435453 0)) (10 ∷ []) (Refused 10)
     ∷ row (submit 0 281474976710661) (state clockEnd 281474976710654 1 (holding 2 full) (oneClient 268435454 268435453 0)) []
-    (Kept numberEnd 1)
+    (Kept numberEnd 1 0)
     ∷ row tick (state clockEnd numberEnd 2 full (oneClient 2 0 0)) (4 ∷ 5 ∷ 11 ∷ []) (Refused 4)
     ∷ row tick (state clockEnd numberEnd 1 full (oneClient 2 0 0)) (5 ∷ 11 ∷ []) (Refused 5)
     ∷ row tick (state clockEnd numberEnd 1 full (oneClient 1 0 0)) (11 ∷ []) (Refused 11)

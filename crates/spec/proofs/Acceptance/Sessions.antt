@@ -46,7 +46,8 @@ dialogue lines rest answers = record { lines = lines; rest = rest; answers = ans
 
 abbrev dialogues : List Dialogue
 dialogues =
-    -- "Input, then what the session program prints"
+    -- "Input, then what the session program prints"; document 02, 2.1: "Frames 82 and 83 end with it, in 2 bytes, in document
+    -- 01's session too."
     dialogue
     (
     "010002000000640008"
@@ -61,9 +62,9 @@ dialogues =
     ""
     (
     "81"
-    ∷ "8200000000000000010000"
-    ∷ "8200000000000000020001"
-    ∷ "83000000000000000300000000000000030001"
+    ∷ "82000000000000000100000000"
+    ∷ "82000000000000000200010000"
+    ∷ "830000000000000003000000000000000300010001"
     ∷ "8700000000000000000000000000000002"
     ∷ "880001"
     ∷ "84000000000000000000000000000000010000"
@@ -102,7 +103,7 @@ dialogues =
     ∷ "FF01"
     ∷ "FF06"
     ∷ "FF07"
-    ∷ "8200000000000000010000"
+    ∷ "82000000000000000100000000"
     ∷ "84000000000000000000000000000000010000"
     ∷ "8600000000000100000001000000000000"
     ∷ []
@@ -134,15 +135,15 @@ dialogues =
     ""
     (
     "81"
-    ∷ "8200000000000000010000"
-    ∷ "8200000000000000020000"
+    ∷ "82000000000000000100000000"
+    ∷ "82000000000000000200000001"
     ∷ "FF03"
     ∷ "8700000000000000040000000000000005"
     ∷ "8700000000000000080000000000000009"
     ∷ "880002"
     ∷ "81"
     ∷ "880000"
-    ∷ "8200000000000000010000"
+    ∷ "82000000000000000100000000"
     ∷ []
     )
     ∷ []
@@ -202,8 +203,8 @@ pub record LineOut : Type 0 where
 abbrev linesOut : List LineOut
 linesOut =
     record { answer = Opened; text = "81" }
-    ∷ record { answer = Kept 0x0123456789AB 0x07FE; text = "8200000123456789AB07FE" }
-    ∷ record { answer = Dropped 0xFEDCBA987654 0x0123456789AB 0x00FD; text = "830000FEDCBA98765400000123456789AB00FD" }
+    ∷ record { answer = Kept 0x0123456789AB 0x07FE 0x05FD; text = "8200000123456789AB07FE05FD" }
+    ∷ record { answer = Dropped 0xFEDCBA987654 0x0123456789AB 0x00FD 0x07FE; text = "830000FEDCBA98765400000123456789AB00FD07FE" }
     ∷ record { answer = Served 0xFEDCBA987654 0x0123456789AB 0x00FD; text = "840000FEDCBA98765400000123456789AB00FD" }
     ∷ record { answer = Idle 0xFEDCBA987654; text = "850000FEDCBA987654" }
     ∷ record { answer = Reported 0x00FD 0x0FEDCBA9 0x08765432 0x01234567 0x07FE; text = "8600FD0FEDCBA9087654320123456707FE" }

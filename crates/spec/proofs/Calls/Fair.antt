@@ -1,6 +1,6 @@
 -- An accepted submit and an accepted tick, said by plans and not by overfull deadlines: what demand 2 rests on. Document 01, "Calls"
 -- and "Chart and victim". Assumes nothing.
-use Prim.Native.Nat.{ℕ, suc, _≤_, _<_}
+use Prim.Native.Nat.{ℕ, suc, _+_, _≤_, _<_}
 use mathlib.Core.Path.{_≡_, sym, ap, _∙_, subst}
 use mathlib.Core.Logic.{_↔_}
 use mathlib.Core.Bool.{true}
@@ -9,7 +9,7 @@ use native.Mathlib.Omega.{arith}
 use lib.ListN.{length, getD, length-map}
 use Rattle.slots.specs.Plan.{Slot, since, Plan, size, CanAllFinish}
 use Rattle.slots.proofs.Laws.Tests.{le, gt, order}
-use Rattle.slots.proofs.Laws.Sums.{all-imp, total}
+use Rattle.slots.proofs.Laws.Sums.{All, all-imp, total}
 use Rattle.slots.proofs.Laws.Sorted.{dueBy as dueOf, upto, upto-deadlines}
 use Rattle.slots.proofs.Queue.{Entry}
 use Rattle.slots.proofs.Reached.Seat.{slotted}
@@ -19,18 +19,18 @@ use Rattle.slots.proofs.Largest.{placing-room, room-placing}
 use Rattle.spec.specs.declared.types.Head.{Head}
 use Rattle.spec.specs.declared.types.Request.{Request}
 use Rattle.spec.specs.Tables.{zeroRequest, State, waiting, deadlinesOf}
-use Rattle.spec.specs.Order.{removeAt}
+use Rattle.spec.specs.Order.{placeOf, removeAt}
 use Rattle.spec.specs.Chart.{capacityOf, roomTo, dueBy, hasNoOverfull, isCandidate}
-use Rattle.spec.specs.Calls.Submit.{newRequest, withNew, kept, droppedAt, victimPlace, submitAccepted}
+use Rattle.spec.specs.Calls.Submit.{newRequest, newShift, withNew, kept, droppedAt, victimPlace, submitAccepted}
 use Rattle.spec.proofs.Demands.Words.{CanFinish}
 use Rattle.spec.proofs.Laws.Room.{room-capacity}
 use Rattle.spec.proofs.Laws.Every.{is-true, is-false, value, cond-true, cond-false}
-use Rattle.spec.proofs.Laws.Order.{InOrder, order-remove, order-put}
+use Rattle.spec.proofs.Laws.Order.{InOrder, order-remove, order-put, place-and-shift}
 use Rattle.spec.proofs.Laws.Feasible.{FeasibleAt, due-yes, due-no, due-most, dueBy-put, dueBy-remove, Feasible}
 use Rattle.spec.proofs.Laws.Feasible.{feasible-facts, feasible-test}
 use Rattle.spec.proofs.Laws.Entries.{entryOf, upto-entries, sorted-entries}
 use Rattle.spec.proofs.Laws.Sound.{Given}
-use Rattle.spec.proofs.Laws.Accepted.{SubmitReady}
+use Rattle.spec.proofs.Laws.Accepted.{SubmitReady, waiting-length}
 use Rattle.spec.proofs.Calls.Victim.{victim-place}
 
 -- ---- all can finish just where there is room for all that are due by any D
@@ -96,13 +96,24 @@ module _ (client deadline : ℕ) (s : State) (r : SubmitReady client deadline s)
   abbrev all : List Request
   all = withNew client deadline s
 
+  -- the new request has a larger number than those that wait
+  pub new-largest : All (λ (w : Request). w .number < suc (s .head .last)) (waiting s)
+  new-largest =
+      all-imp (Given (s .head .last)) (λ (w : Request). w .number < suc (s .head .last)) (waiting s)
+      (λ w g. omega arith) (r .ready .sound .given)
+
   -- the waiting requests and the new one stand in order
   pub new-ordered : InOrder all
-  new-ordered =
-      order-put (newRequest client deadline s) (waiting s)
-      (all-imp (Given (s .head .last)) (λ (w : Request). w .number < suc (s .head .last)) (waiting s)
-      (λ w g. omega arith) (r .ready .sound .given))
-      (r .ready .sound .ordered)
+  new-ordered = order-put (newRequest client deadline s) (waiting s) new-largest (r .ready .sound .ordered)
+
+  -- those that wait stand before the new one or behind it
+  pub new-place-and-shift : placeOf (newRequest client deadline s) (waiting s) + newShift client deadline s ≡ s .head .waiting
+  new-place-and-shift =
+      omega (
+        arith,
+        place-and-shift (newRequest client deadline s) (waiting s) new-largest (r .ready .sound .ordered),
+        waiting-length s (r .ready .shape),
+      )
 
   pub finish-kept : CanFinish head all → submitAccepted client deadline s ≡ kept client deadline s
   unfolding submitAccepted

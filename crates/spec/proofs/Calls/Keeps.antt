@@ -30,7 +30,7 @@ use Rattle.spec.proofs.Laws.Clients.{stays, changed, length-change}
 use Rattle.spec.proofs.Laws.Room.{capacity-one, room-back, room-step, room-split, room-next}
 use Rattle.spec.proofs.Laws.Every.{all-two, Value, is-true, is-false, value, length-mapFrom, getD-mapFrom, all-remove}
 use Rattle.spec.proofs.Laws.Every.{length-remove}
-use Rattle.spec.proofs.Laws.Order.{InOrder, Before, before-deadline, order-put, order-remove, all-put, length-put}
+use Rattle.spec.proofs.Laws.Order.{InOrder, Before, before-deadline, order-remove, all-put, length-put}
 use Rattle.spec.proofs.Laws.Feasible.{FeasibleAt, Feasible, feasible-facts, due-yes, dueBy-cons, dueBy-none, dueBy-self}
 use Rattle.spec.proofs.Laws.Sound.{Shaped, Ahead, Given, ClientExists, Balanced}
 use Rattle.spec.proofs.Laws.Accepted.{Decided, accepts, refuses, Ready, OpenReady, open-ready, SubmitReady, submit-ready}
@@ -39,6 +39,7 @@ use Rattle.spec.proofs.Laws.Accepted.{next-behind, next-length}
 use Rattle.spec.proofs.Laws.Layout.{length-numbers, records-numbers}
 use Rattle.spec.proofs.Calls.CallKinds.{CallKind, is-open, is-submit, is-tick, reads-only, call-kind, read-ready}
 use Rattle.spec.proofs.Calls.Victim.{victim-place}
+use Rattle.spec.proofs.Calls.Fair.{new-ordered}
 use Rattle.spec.proofs.Calls.Refused.{outcome-decided, accepted-none, accepted-same}
 
 -- ---- the clauses of sound tables on requests and counts, without the one on overfull deadlines; clients have one record each
@@ -154,9 +155,7 @@ tidy-put client deadline s r =
     let last = s .head .last in
     let t = tidy s (r .ready) in
     record {
-      ordered =
-          order-put new (waiting s)
-          (all-imp (Given last) (λ (w : Request). w .number < suc last) (waiting s) (λ w h. omega arith) (t .given)) (t .ordered);
+      ordered = new-ordered client deadline s r;
       ahead = all-put (Ahead (s .head .clock)) new (waiting s) (r .late, r .near) (t .ahead);
       given =
           all-put (Given (suc last)) new (waiting s) (omega arith, omega arith)

@@ -9,18 +9,18 @@ use Rattle.slots.proofs.Laws.Sums.{All, all-imp}
 use Rattle.spec.specs.declared.types.Setup.{Setup}
 use Rattle.spec.specs.declared.types.Request.{Request}
 use Rattle.spec.specs.declared.types.Answer.{Answer}
-use Rattle.spec.specs.Tables.{mostAhead, zeroRequest, State, waiting}
+use Rattle.spec.specs.Tables.{mostAhead, mostRecords, zeroRequest, State, waiting}
 use Rattle.spec.specs.Setup.{firstMatch}
 use Rattle.spec.specs.Chart.{startsOf, Segment, doTouch, joinLeft, segmentsOf, hasNoOverfull}
 use Rattle.spec.specs.Calls.Readings.{field, valuesOf}
 use Rattle.spec.specs.Calls.Outcomes.{Outcome}
 use Rattle.spec.specs.Calls.Open.{openAccepted}
-use Rattle.spec.specs.Calls.Submit.{newRequest, withNew, kept, droppedAt, victimPlace, submitAccepted}
+use Rattle.spec.specs.Calls.Submit.{newRequest, newShift, withNew, kept, droppedAt, victimPlace, submitAccepted}
 use Rattle.spec.specs.Calls.Tick.{tickAccepted}
 use Rattle.spec.specs.Calls.{Call, outcomeOf, acceptedOf, refusalsOf}
 use Rattle.spec.proofs.Demands.Words.{Finish, FitsField}
 use Rattle.spec.proofs.Laws.Every.{all-at}
-use Rattle.spec.proofs.Laws.Order.{place-most}
+use Rattle.spec.proofs.Laws.Order.{place-most, shift-most}
 use Rattle.spec.proofs.Laws.Sound.{Ahead}
 use Rattle.spec.proofs.Laws.Accepted.{Decided, accepts, refuses, Ready, SubmitReady, submit-ready, tick-ready}
 use Rattle.spec.proofs.Laws.Accepted.{waiting-length}
@@ -35,6 +35,18 @@ AllFit answers = All (λ (a : Answer). All FitsField (valuesOf a)) answers
 
 -- ---- submit
 module _ (client deadline : ℕ) (s : State) (r : SubmitReady client deadline s) where
+  -- no more than 2,047 stand behind the new request, for there is a record free for it
+  shift-fits : newShift client deadline s < mostRecords
+  shift-fits =
+      omega (
+        arith,
+        shift-most (newRequest client deadline s) (waiting s),
+        waiting-length s (r .ready .shape),
+        r .free,
+        r .ready .shape .waits,
+        r .ready .shape .most-records,
+      )
+
   kept-fits : AllFit (kept client deadline s .answers)
   unfolding kept
   kept-fits =
@@ -43,6 +55,7 @@ module _ (client deadline : ℕ) (s : State) (r : SubmitReady client deadline s)
         r .ready .sound .headed .last,
         r .numbered,
         place-most (newRequest client deadline s) (waiting s),
+        shift-fits,
         waiting-length s (r .ready .shape),
         r .ready .shape .waits,
         r .ready .shape .most-records,
@@ -57,6 +70,7 @@ module _ (client deadline : ℕ) (s : State) (r : SubmitReady client deadline s)
         r .ready .sound .headed .last,
         r .numbered,
         r .ready .sound .headed .setup .most-clients,
+        shift-fits,
         all-at (λ (w : Request). (1 ≤ w .number) × (w .number ≤ suc (s .head .last))) (withNew client deadline s) k zeroRequest h
             (t .given),
         all-at (λ (w : Request). w .client < s .head .setup .clients) (withNew client deadline s) k zeroRequest h (t .owned),

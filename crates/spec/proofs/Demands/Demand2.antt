@@ -2,7 +2,7 @@
 -- exactly when not all can finish; the victim's client has the smallest miss ratio of all whose removal helps." Said by plans
 -- (`CanAllFinish` of crate slots), not by overfull deadlines. Statements, each under its sentence; the proofs stand in Calls/.
 -- Assumes nothing.
-use Prim.Native.Nat.{ℕ, suc, _≤_, _<_}
+use Prim.Native.Nat.{ℕ, suc, _+_, _≤_, _<_}
 use mathlib.Core.Path.{_≡_, refl, ap, _∙_}
 use mathlib.Core.Logic.{_↔_}
 use mathlib.Core.Bool.{true, false}
@@ -18,7 +18,7 @@ use Rattle.spec.specs.Order.{isInOrder, placeOf, removeAt}
 use Rattle.spec.specs.Chart.{isOverfull, Search, nothing, found, firstOverfull, hasSmallerRatio, countsAt}
 use Rattle.spec.specs.Calls.Readings.{isRefused}
 use Rattle.spec.specs.Calls.Outcomes.{Outcome}
-use Rattle.spec.specs.Calls.Submit.{kept, droppedAt, requestAt, newRequest, countedIn, withNew, victimPlace}
+use Rattle.spec.specs.Calls.Submit.{kept, droppedAt, requestAt, newRequest, newShift, countedIn, withNew, victimPlace}
 use Rattle.spec.specs.Calls.Submit.{submitAccepted}
 use Rattle.spec.specs.Calls.Tick.{tickAccepted}
 use Rattle.spec.specs.Calls.{submit, tick, outcomeOf}
@@ -29,7 +29,7 @@ use Rattle.spec.proofs.Laws.Accepted.{kept-waiting, dropped-waiting, ti
 use Rattle.spec.proofs.Laws.Accepted.{tick-ready}
 use Rattle.spec.proofs.Calls.Refused.{accepted-none, accepted-same}
 use Rattle.spec.proofs.Calls.Victim.{victim-place, victim-least, victim-last, counted-some}
-use Rattle.spec.proofs.Calls.Fair.{finish-feasible, feasible-finish, finish-candidate, new-ordered, finish-kept}
+use Rattle.spec.proofs.Calls.Fair.{finish-feasible, feasible-finish, finish-candidate, new-ordered, new-place-and-shift, finish-kept}
 use Rattle.spec.proofs.Calls.Fair.{unfinished-dropped, victim-helps, helps-exactly}
 
 -- ---- submit. Among the waiting requests and the new one, in chart order, a request is named by its place j
@@ -45,17 +45,20 @@ OthersFinish j client deadline s = CanFinish (s .head) (removeAt j (withNew clie
 abbrev pub countsOf : ℕ → ℕ → ℕ → State → Counts
 countsOf j client deadline s = countsAt (countedIn client s) (withNew client deadline s) j
 
--- kept: all wait, and the answer names the new number and its place
+-- kept: all wait, and the answer names the new number, its place and its shift
 pub record Keeps (client deadline : ℕ) (s : State) (o : Outcome) : Type 0 where
-  pub answer : o .answers ≡ Kept (suc (s .head .last)) (placeOf (newRequest client deadline s) (waiting s)) ∷ []
+  pub answer :
+      o .answers
+      ≡ Kept (suc (s .head .last)) (placeOf (newRequest client deadline s) (waiting s)) (newShift client deadline s) ∷ []
   pub waits : waiting (o .after) ≡ withNew client deadline s
   pub whole : o ≡ kept client deadline s
 
--- dropped: all but the one at k wait, and the answer names it
+-- dropped: all but the one at k wait, and the answer names it, and the new one's shift as it was with that one there
 pub record Drops (k client deadline : ℕ) (s : State) (o : Outcome) : Type 0 where
   pub answer :
       o .answers
-      ≡ Dropped (suc (s .head .last)) (requestAt k client deadline s .number) (requestAt k client deadline s .client) ∷ []
+      ≡ Dropped (suc (s .head .last)) (requestAt k client deadline s .number) (requestAt k client deadline s .client) (newShift client deadline s)
+      ∷ []
   pub waits : waiting (o .after) ≡ removeAt k (withNew client deadline s)
   pub whole : o ≡ droppedAt k client deadline s
 
@@ -64,6 +67,9 @@ pub record FairSubmit (client deadline : ℕ) (s : State) : Type 0 where
   pub placed : requestAt (placeOf (newRequest client deadline s) (waiting s)) client deadline s ≡ newRequest client deadline s
   pub others : removeAt (placeOf (newRequest client deadline s) (waiting s)) (withNew client deadline s) ≡ waiting s
   pub ordered : isInOrder (withNew client deadline s) ≡ true
+  -- document 02, 2.1: "how many waiting records stood behind the new one in chart order when it was put in": all that waited before the
+  -- call and do not stand before it
+  pub shifted : placeOf (newRequest client deadline s) (waiting s) + newShift client deadline s ≡ s .head .waiting
   -- "If every request can still finish, the answer is kept, with number and place (from 0)."
   pub keeps : AllFinish client deadline s → Keeps client deadline s (outcomeOf (submit client deadline) s)
   -- "Otherwise one record is taken out, its client's dropped rises by 1, and the answer names the new number, the victim's number
@@ -121,6 +127,7 @@ fair-submit client deadline s e =
       placed = getD-put new zeroRequest (waiting s);
       others = remove-put new (waiting s);
       ordered = order-test (withNew client deadline s) (new-ordered client deadline s r);
+      shifted = new-place-and-shift client deadline s r;
       keeps = λ f. keeps-of client deadline s (outcomeOf (submit client deadline) s) (p .1 ∙ finish-kept client deadline s r f);
       drops =
           λ f. drops-of (victimPlace client deadline s) client deadline s (outcomeOf (submit client deadline) s)

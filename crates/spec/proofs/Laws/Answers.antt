@@ -71,9 +71,10 @@ other-readable a byte segment kind charts refuses reads =
 pub readable : (a : Answer) → Readable a
 unfolding answerWith
 readable Opened = other-readable _ (omega arith) refl refl refl refl (λ line r. refl)
-readable (Kept number place) = other-readable _ (omega arith) refl refl refl refl (λ line r i. Kept (r .0 i) (r .1 .0 i))
-readable (Dropped number victim client) =
-    other-readable _ (omega arith) refl refl refl refl (λ line r i. Dropped (r .0 i) (r .1 .0 i) (r .1 .1 .0 i))
+readable (Kept number place shift) =
+    other-readable _ (omega arith) refl refl refl refl (λ line r i. Kept (r .0 i) (r .1 .0 i) (r .1 .1 .0 i))
+readable (Dropped number victim client shift) =
+    other-readable _ (omega arith) refl refl refl refl (λ line r i. Dropped (r .0 i) (r .1 .0 i) (r .1 .1 .0 i) (r .1 .1 .1 .0 i))
 readable (Served slot number client) =
     other-readable _ (omega arith) refl refl refl refl (λ line r i. Served (r .0 i) (r .1 .0 i) (r .1 .1 .0 i))
 readable (Idle slot) = other-readable _ (omega arith) refl refl refl refl (λ line r i. Idle (r .0 i))

@@ -10,8 +10,8 @@ use Rattle.slots.proofs.Laws.Tests.{Test, holds, fails, test, Same, same-yes, s
 use Rattle.slots.proofs.Laws.Sums.{All, all-imp, total}
 use Rattle.spec.specs.declared.types.Request.{Request}
 use Rattle.spec.specs.Every.{toNumber, countIf}
-use Rattle.spec.specs.Order.{comesBefore, isInOrder, placeOf, insertAt, putInOrder, removeAt}
-use Rattle.spec.proofs.Laws.Every.{count-total, total-remove, and-left, and-right, and-both, total-insert, all-insert}
+use Rattle.spec.specs.Order.{comesBefore, isInOrder, placeOf, shiftOf, insertAt, putInOrder, removeAt}
+use Rattle.spec.proofs.Laws.Every.{count-total, count-most, total-remove, and-left, and-right, and-both, total-insert, all-insert}
 use Rattle.spec.proofs.Laws.Every.{all-remove, length-insert, getD-insert, remove-insert}
 
 -- ---- one request before another
@@ -119,6 +119,9 @@ place-most r (w ∷ ws) = go (comesBefore w r) (place-most r ws)
     go true h = omega arith
     go false h = omega arith
 
+pub shift-most : (r : Request) (ws : List Request) → shiftOf r ws ≤ length ws
+shift-most r ws = count-most (comesBefore r) ws
+
 pub put-cons : (r w : Request) (ws : List Request)
     → putInOrder r (w ∷ ws) ≡ cond (comesBefore w r) (w ∷ putInOrder r ws) (r ∷ w ∷ ws)
 unfolding putInOrder placeOf
@@ -168,6 +171,47 @@ pub remove-put : (r : Request) (ws : List Request) → removeAt (placeOf r ws) (
 unfolding putInOrder
 remove-put r ws = remove-insert (placeOf r ws) r ws (place-most r ws)
 
+-- a request with a larger number that does not come behind the first of these in chart order comes before all of them
+before-all : (r w : Request) (ws : List Request) → w .number < r .number → All (Before w) ws → After w r → All (Before r) (w ∷ ws)
+before-all r w ws n a h = (first h, all-imp (Before w) (Before r) ws (λ v g. before-trans r w v (first h) g) a)
+  where
+    first : After w r → Before r w
+    first (later l) = earlier l
+    first (alike-later e l) = absurd (omega arith)
+
+-- one that comes before r is not counted
+shift-before : (r w : Request) (ws : List Request) → Before w r → shiftOf r (w ∷ ws) ≡ shiftOf r ws
+unfolding countIf
+shift-before r w ws h = go (comesBefore r w) (compared r w)
+  where
+    go : (x : Bool) → Compared r w x → toNumber x + countIf (comesBefore r) ws ≡ countIf (comesBefore r) ws
+    go true (before g) = absurd (not-both r w g (behind h))
+      where
+        behind : Before w r → After r w
+        behind (earlier l) = later l
+        behind (alike e n) = alike-later e (omega arith)
+    go false (after g) = omega arith
+
+-- where r comes before all of these, all are
+shift-all : (r : Request) (ws : List Request) → All (Before r) ws → shiftOf r ws ≡ length ws
+unfolding countIf
+shift-all r [] a = refl
+shift-all r (w ∷ ws) a =
+    let e : countIf (comesBefore r) ws ≡ length ws = shift-all r ws (a .1) in
+    rw (before-test r w (a .0)) (omega arith)
+
+-- of these in chart order a request with a larger number comes behind the first ones, as many as its place says, and before the others
+pub place-and-shift : (r : Request) (ws : List Request) → All (λ (w : Request). w .number < r .number) ws → InOrder ws
+    → placeOf r ws + shiftOf r ws ≡ length ws
+unfolding placeOf
+place-and-shift r [] a o = omega (arith, shift-most r [])
+place-and-shift r (w ∷ ws) a o = go (comesBefore w r) (compared w r) (place-and-shift r ws (a .1) (o .1))
+  where
+    go : (x : Bool) → Compared w r x → placeOf r ws + shiftOf r ws ≡ length ws
+        → cond x (suc (placeOf r ws)) 0 + shiftOf r (w ∷ ws) ≡ suc (length ws)
+    go true (before h) e = omega (arith, shift-before r w ws h)
+    go false (after h) e = omega (arith, shift-all r (w ∷ ws) (before-all r w ws (a .0) (o .0) h))
+
 -- a request with a number that none of the others has comes before or behind each of them
 pub order-put : (r : Request) (ws : List Request) → All (λ (w : Request). w .number < r .number) ws → InOrder ws
     → InOrder (putInOrder r ws)
@@ -179,8 +223,4 @@ order-put r (w ∷ ws) a o = rw (put-cons r w ws) (go (comesBefore w r) (compare
   where
     go : (x : Bool) → Compared w r x → InOrder (putInOrder r ws) → InOrder (cond x (w ∷ putInOrder r ws) (r ∷ w ∷ ws))
     go true (before h) q = (all-put (Before w) r ws h (o .0), q)
-    go false (after h) q = ((first h, all-imp (Before w) (Before r) ws (λ v g. before-trans r w v (first h) g) (o .0)), o)
-      where
-        first : After w r → Before r w
-        first (later g) = earlier g
-        first (alike-later e n) = absurd (omega (arith, a .0))
+    go false (after h) q = (before-all r w ws (a .0) (o .0) h, o)

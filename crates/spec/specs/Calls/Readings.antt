@@ -1,5 +1,5 @@
--- What an answer says: document 01, "Session lines" and "Lists and plans". `reading` goes by cases on answers, `shown` lists those that
--- a printed line shows, and whatever else is asked of an answer is read off the two. Assumes nothing.
+-- What an answer says: document 01, "Session lines" and "Lists and plans", and document 02, 2.1. `reading` goes by cases on answers,
+-- `shown` lists those that a printed line shows, and whatever else is asked of an answer is read off the two. Assumes nothing.
 use Prim.Native.Nat.{ℕ}
 use mathlib.Core.Bool.{Bool, true, false}
 use mathlib.Core.List.{List, [], _∷_}
@@ -65,12 +65,13 @@ says kind fields names = record { kind = kind; fields = fields; refuses = false;
 -- "Kinds out: 81 opened; 82 kept, number (8), place (2); 83 dropped, new number (8), victim (8), victim's client (2); 84 served, slot
 -- (8), number (8), client (2); 85 idle, slot (8); 86 report, client (2), submitted (4), served (4), dropped (4), waiting (2); ..; 88,
 -- segment count (2); FF refusal, number (1)." A chart's value is its count of start slots; where a session prints 88, it puts the
--- segment count there
+-- segment count there. Document 02, 2.1: "Frames 82 and 83 end with it, in 2 bytes": with the shift
 abbrev pub reading : Answer → Reading
 reading Opened = says 0x81 [] nobody
-reading (Kept number place) = says 0x82 (field 8 number ∷ field 2 place ∷ []) (newOne number)
-reading (Dropped number victim client) =
-    says 0x83 (field 8 number ∷ field 8 victim ∷ field 2 client ∷ []) (newAndVictim number victim client)
+reading (Kept number place shift) =
+    says 0x82 (field 8 number ∷ field 2 place ∷ field 2 shift ∷ []) (newOne number)
+reading (Dropped number victim client shift) =
+    says 0x83 (field 8 number ∷ field 8 victim ∷ field 2 client ∷ field 2 shift ∷ []) (newAndVictim number victim client)
 reading (Served slot number client) =
     says 0x84 (field 8 slot ∷ field 8 number ∷ field 2 client ∷ []) (servedOne slot number client)
 reading (Idle slot) = says 0x85 (field 8 slot ∷ []) nobody
@@ -86,8 +87,8 @@ reading (Refused number) =
 abbrev pub shown : List (List ℕ → Answer)
 shown =
     (λ values. Opened)
-    ∷ (λ values. Kept (getD values 0 0) (getD values 1 0))
-    ∷ (λ values. Dropped (getD values 0 0) (getD values 1 0) (getD values 2 0))
+    ∷ (λ values. Kept (getD values 0 0) (getD values 1 0) (getD values 2 0))
+    ∷ (λ values. Dropped (getD values 0 0) (getD values 1 0) (getD values 2 0) (getD values 3 0))
     ∷ (λ values. Served (getD values 0 0) (getD values 1 0) (getD values 2 0))
     ∷ (λ values. Idle (getD values 0 0))
     ∷ (λ values. Reported (getD values 0 0) (getD values 1 0) (getD values 2 0) (getD values 3 0) (getD values 4 0))

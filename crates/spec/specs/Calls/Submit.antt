@@ -1,4 +1,4 @@
--- Submit: document 01, "Calls". Assumes nothing.
+-- Submit: document 01, "Calls", and document 02, 2.1. Assumes nothing.
 use Prim.Native.Nat.{ℕ, suc}
 use mathlib.Core.Bool.{false, cond}
 use mathlib.Core.List.{List, [], _∷_}
@@ -8,7 +8,7 @@ use Rattle.spec.specs.declared.types.Counts.{Counts}
 use Rattle.spec.specs.declared.types.Answer.the-variants.{Kept, Dropped}
 use Rattle.spec.specs.Tables.{zeroSetup, zeroRequest, State, waiting, nextState, clientTable, change, oneMoreSubmitted}
 use Rattle.spec.specs.Tables.{oneMoreDropped}
-use Rattle.spec.specs.Order.{placeOf, putInOrder, removeAt}
+use Rattle.spec.specs.Order.{placeOf, shiftOf, putInOrder, removeAt}
 use Rattle.spec.specs.Chart.{hasNoOverfull, victimOf}
 use Rattle.spec.specs.Setup.{Refusal}
 use Rattle.spec.specs.Calls.Refusals.{refusal4, refusal5, refusal6, refusal7, refusal8, refusal9, refusal10}
@@ -38,10 +38,15 @@ countedIn client s = change oneMoreSubmitted client (clientTable s)
 abbrev pub withNew : ℕ → ℕ → State → List Request
 withNew client deadline s = putInOrder (newRequest client deadline s) (waiting s)
 
--- "If every request can still finish, the answer is kept, with number and place (from 0)."
+-- document 02, 2.1: "Submit also answers how many waiting records stood behind the new one in chart order when it was put in."
+abbrev pub newShift : ℕ → ℕ → State → ℕ
+newShift client deadline s = shiftOf (newRequest client deadline s) (waiting s)
+
+-- "If every request can still finish, the answer is kept, with number and place (from 0).", and with the shift
 unfoldable pub kept : ℕ → ℕ → State → Outcome
 kept client deadline s =
-    saying (Kept (suc (s .head .last)) (placeOf (newRequest client deadline s) (waiting s)))
+    saying
+    (Kept (suc (s .head .last)) (placeOf (newRequest client deadline s) (waiting s)) (newShift client deadline s))
     (nextState (s .head .clock) (suc (s .head .last)) (withNew client deadline s) (countedIn client s) s)
 
 -- the record at a place among the waiting requests and the new one
@@ -49,11 +54,12 @@ abbrev pub requestAt : ℕ → ℕ → ℕ → State → Request
 requestAt k client deadline s = getD (withNew client deadline s) k zeroRequest
 
 -- "Otherwise one record is taken out, its client's dropped rises by 1, and the answer names the new number, the victim's number
--- and the victim's client." The record at the place k is the victim
+-- and the victim's client.", and the shift, counted when the new one was put in. The record at the place k is the victim
 unfoldable pub droppedAt : ℕ → ℕ → ℕ → State → Outcome
 droppedAt k client deadline s =
     saying
-    (Dropped (suc (s .head .last)) (requestAt k client deadline s .number) (requestAt k client deadline s .client))
+    (Dropped (suc (s .head .last)) (requestAt k client deadline s .number) (requestAt k client deadline s .client)
+    (newShift client deadline s))
     (nextState (s .head .clock) (suc (s .head .last)) (removeAt k (withNew client deadline s))
     (change oneMoreDropped (requestAt k client deadline s .client) (countedIn client s)) s)
 

@@ -45,13 +45,20 @@ struct Request {
     deadline: u64,
     /// The clock at its submission.
     clock: u64,
+    shift: u64,
 }
 
 impl Request {
     fn title(&self, slot: u64) -> String {
-        let Request { number, client, deadline, clock } = self;
+        let Request { number, client, deadline, clock, .. } = self;
         format!("slot {slot}: number {number} of client {client}, submitted at clock {clock}, to end by {deadline}")
     }
+}
+
+/// A quotient to three places, rounded: what stands before the point and what behind it. By 0 it is 0.
+fn rounded(number: u64, by: u64) -> [u64; 2] {
+    let thousandths = (1_000 * number + by / 2) / by.max(1);
+    [thousandths / 1_000, thousandths % 1_000]
 }
 
 /// What a list of lines shows, from an accepted open on or before the first.
@@ -86,9 +93,9 @@ impl List {
             (&[_, clients, period, records], [OPENED]) => {
                 (self.line, self.clients, self.period, self.records) = (turn.number, clients, period, records);
             }
-            (&[_, client, deadline], &[KEPT, number, _]) => self.requests.push(Request { number, client, deadline, clock }),
-            (&[_, client, deadline], &[DROPPED, number, victim, _]) => {
-                self.requests.push(Request { number, client, deadline, clock });
+            (&[_, client, deadline], &[KEPT, number, _, shift]) => self.requests.push(Request { number, client, deadline, clock, shift }),
+            (&[_, client, deadline], &[DROPPED, number, victim, _, shift]) => {
+                self.requests.push(Request { number, client, deadline, clock, shift });
                 self.dropped.push((clock, victim));
             }
             (_, &[SERVED, slot, number, _]) => self.served.push((slot, number)),
@@ -210,7 +217,7 @@ impl List {
         match (self.line, self.refused.is_empty()) {
             (0, true) => vec![],
             (0, false) => vec![("No open", vec![]), self.refusals()],
-            _ => [self.setup(), self.rows(), self.extremes(), vec![self.refusals()]].concat(),
+            _ => [self.setup(), self.rows(), self.shifts(), self.extremes(), vec![self.refusals()]].concat(),
         }
     }
 
@@ -239,9 +246,15 @@ impl List {
     /// A client, its counts and its miss ratio; without a client, those of all.
     pub fn row(&self, client: Option<u64>) -> Vec<u64> {
         let counts @ [submitted, _, dropped, _] = self.counts(|request| client.is_none_or(|client| request.client == client));
-        // to three places, rounded
-        let thousandths = (1_000 * dropped + submitted / 2) / submitted.max(1);
-        [client.into_iter().collect(), counts.to_vec(), vec![thousandths / 1_000, thousandths % 1_000]].concat()
+        [client.into_iter().collect(), counts.to_vec(), rounded(dropped, submitted).to_vec()].concat()
+    }
+
+    /// The largest shift, and how large they are on average.
+    fn shifts(&self) -> Vec<(&'static str, Vec<u64>)> {
+        let shifts: Vec<u64> = self.requests.iter().map(|request| request.shift).collect();
+        let mean = rounded(shifts.iter().sum(), shifts.len() as u64);
+        let largest = shifts.iter().max().map(|largest| ("Largest shift", [&[*largest], &mean[..]].concat()));
+        largest.into_iter().collect()
     }
 
     fn extremes(&self) -> Vec<(&'static str, Vec<u64>)> {

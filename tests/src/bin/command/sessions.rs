@@ -4,7 +4,7 @@ use crate::list::{turns, List, Turn};
 use crate::reasons::{true_reason, REASONS};
 use std::collections::BTreeMap;
 use std::iter::once;
-use tests::model::calls::{CHART, DROPPED, REFUSED};
+use tests::model::calls::{CHART, DROPPED, KEPT, REFUSED};
 use tests::model::session::SEGMENT;
 use tests::model::tables::{AHEAD, CLIENTS, PERIODS, RECORDS};
 use tests::random::session::session;
@@ -22,7 +22,7 @@ const OPEN: u64 = 0x01;
 const SUBMIT: u64 = 0x02;
 
 /// What has to come up, besides each reason for a line that is no frame.
-const WANTED: [&str; 17] = [
+const WANTED: [&str; 19] = [
     "refusal 1",
     "refusal 2",
     "refusal 3",
@@ -30,7 +30,9 @@ const WANTED: [&str; 17] = [
     "refusal 6",
     "refusal 7",
     "refusal 10",
+    "read kept with others behind it",
     "read dropped itself",
+    "read dropped itself with others behind it",
     "read dropped for another",
     "drop in a period that began with reads waiting",
     "chart without a segment",
@@ -63,7 +65,7 @@ fn said(turn: &Turn, before: &[Turn]) -> Vec<u64> {
     match (&turn.frame[..], &answer[..]) {
         (_, [CHART | SEGMENT, ..]) => charted(&turn.answers),
         (frame, &[REFUSED, number]) => once(number).chain(refused(frame, number, before)).collect(),
-        (&[SUBMIT, client, _], &[DROPPED, number, victim, of]) => dropped([number, victim, of], client, &List::of(before)),
+        (&[SUBMIT, client, _], &[DROPPED, number, victim, of, shift]) => dropped([number, victim, of, shift], client, &List::of(before)),
         _ => answer[1..].to_vec(),
     }
 }
@@ -87,10 +89,10 @@ fn refused(frame: &[u64], number: u64, before: &[Turn]) -> Vec<u64> {
     }
 }
 
-/// The answer's numbers, of which a read that is dropped itself needs only its own, and then drops and submits of the victim's client
-/// and of the new read's, where that is another; "the new request already counted in submitted".
-fn dropped([number, victim, of]: [u64; 3], client: u64, before: &List) -> Vec<u64> {
-    let answer = if victim == number { vec![number] } else { vec![number, victim, of] };
+/// The answer's numbers, of which a read that is dropped itself needs only its own and the shift, and then drops and submits of the
+/// victim's client and of the new read's, where that is another; "the new request already counted in submitted".
+fn dropped([number, victim, of, shift]: [u64; 4], client: u64, before: &List) -> Vec<u64> {
+    let answer = if victim == number { vec![number, shift] } else { vec![number, shift, victim, of] };
     let missed = |client: u64, new: u64| {
         let [dropped, submitted] = before.missed(client);
         vec![client, dropped, submitted + new]
@@ -129,8 +131,10 @@ fn note(turn: &Turn, before: &[Turn], seen: &mut Seen) {
     let segments = turn.answers.iter().filter(|answer| answer[0] == SEGMENT).count();
     match turn.answers[0][..] {
         [REFUSED, number] => seen.note(&format!("refusal {number}"), true),
-        [DROPPED, number, victim, of] => {
+        [KEPT, _, _, shift] => seen.note("read kept with others behind it", shift > 0),
+        [DROPPED, number, victim, of, shift] => {
             seen.note("read dropped itself", victim == number);
+            seen.note("read dropped itself with others behind it", victim == number && shift > 0);
             seen.note("read dropped for another", victim != number);
             seen.note("drop in a period that began with reads waiting", List::of(before).has_carried(of));
         }

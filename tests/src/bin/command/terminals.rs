@@ -20,7 +20,7 @@ const DIALOGUE: [(&str, &[&str]); 8] = [
     ("\n", &[]),
     ("tick\n", &["refused, 4: no open was accepted yet"]),
     ("open clients 2 period 100 records 8\n", &["opened"]),
-    ("submit 1 by 1\n", &["kept: number 1, at place 0"]),
+    ("submit 1 by 1\n", &["kept: number 1, at place 0, shift 0"]),
     ("03\n", &["slot 0: number 1 of client 1 is served"]),
 ];
 

@@ -14,20 +14,20 @@ put-kind-requires c κs = search needs
 enum-known-answer : tie.Need-enum-known-answer
 enum-known-answer c = search needs
 
-put-pair-requires : tie.Need-put-pair-requires
-put-pair-requires c κs = search needs
+put-kept-requires : tie.Need-put-kept-requires
+put-kept-requires c κs = search needs
 
 enum-known-answer-2 : tie.Need-enum-known-answer-2
 enum-known-answer-2 c = search needs
 
-put-triple-requires : tie.Need-put-triple-requires
-put-triple-requires c κs = search needs
+put-dropped-requires : tie.Need-put-dropped-requires
+put-dropped-requires c κs = search needs
 
 enum-known-answer-3 : tie.Need-enum-known-answer-3
 enum-known-answer-3 c = search needs
 
-put-triple-requires-2 : tie.Need-put-triple-requires-2
-put-triple-requires-2 c κs = search needs
+put-triple-requires : tie.Need-put-triple-requires
+put-triple-requires c κs = search needs
 
 enum-known-answer-4 : tie.Need-enum-known-answer-4
 enum-known-answer-4 c = search needs
@@ -67,7 +67,7 @@ same-length-2 c = search needs
 returns-2 : tie.Need-returns-2
 returns-2 c =
     let told = c .before .before .before .before .before .answer .given .1 in
-    put-ends _ _ _ _ _ _ (search needs) (search needs) (search needs) (rw told (c .before .before .put-pair .ensures .1))
+    put-ends _ _ _ _ _ _ (search needs) (search needs) (search needs) (rw told (c .before .before .put-kept .ensures .1))
 
 same-length-3 : tie.Need-same-length-3
 same-length-3 c = search needs
@@ -75,7 +75,7 @@ same-length-3 c = search needs
 returns-3 : tie.Need-returns-3
 returns-3 c =
     let told = c .before .before .before .before .before .answer2 .given .1 in
-    put-ends _ _ _ _ _ _ (search needs) (search needs) (search needs) (rw told (c .before .before .put-triple .ensures .1))
+    put-ends _ _ _ _ _ _ (search needs) (search needs) (search needs) (rw told (c .before .before .put-dropped .ensures .1))
 
 same-length-4 : tie.Need-same-length-4
 same-length-4 c = search needs
@@ -83,7 +83,7 @@ same-length-4 c = search needs
 returns-4 : tie.Need-returns-4
 returns-4 c =
     let told = c .before .before .before .before .before .answer3 .given .1 in
-    put-ends _ _ _ _ _ _ (search needs) (search needs) (search needs) (rw told (c .before .before .put-triple2 .ensures .1))
+    put-ends _ _ _ _ _ _ (search needs) (search needs) (search needs) (rw told (c .before .before .put-triple .ensures .1))
 
 same-length-5 : tie.Need-same-length-5
 same-length-5 c = search needs
@@ -124,11 +124,11 @@ put-answer-spec =
     enum-told
     put-kind-requires
     enum-known-answer
-    put-pair-requires
+    put-kept-requires
     enum-known-answer-2
-    put-triple-requires
+    put-dropped-requires
     enum-known-answer-3
-    put-triple-requires-2
+    put-triple-requires
     enum-known-answer-4
     put-value-requires
     enum-known-answer-5

@@ -1,9 +1,9 @@
 -- `queue::submission::submit` meets its contract: a walk of five calls.
 -- Assumes nothing.
-use Rattle.walk.proofs.Prelude.{ℕ, refl, List, [], _∷_, URA, w64, SProp, Memory, Routine, Heap, Tables, Atoms, Fun, Given, _$_, !, u32, tripleOf, id⊢}
-use Rattle.walk.proofs.Prelude.{drop, number, lent, taken, so, Shape, Walk, proved, vars, relends, gives, mut-of, shr-of, made, of-number, of-nothing, given, calls-for}
+use Rattle.walk.proofs.Prelude.{ℕ, refl, List, [], _∷_, URA, w64, SProp, Memory, Routine, Heap, Tables, Atoms, Fun, Given, _$_, !, and-then, no-more, u32, tripleOf, id⊢}
+use Rattle.walk.proofs.Prelude.{drop, number, lent, taken, so, Shape, Walk, proved, var, vars, field-var, relends, gives, mut-of, shr-of, made, of-number, of-nothing, given, calls-for}
 use Rattle.queue.proofs.Laws.Submit.{submitted-gives}
-use Rattle.queue.proofs.Values.{ReplyT, a-reply, a-decision}
+use Rattle.queue.proofs.Values.{ReplyT, a-reply, a-decision, an-insertion, gone-is}
 use Rattle.spec.specs.declared.types.Request.{Request}
 use Rattle.table.proofs.Heads.{a-head, the-head}
 use Rattle.table.proofs.Requests.{RequestT, request, a-request}
@@ -42,15 +42,15 @@ module _ {M : Type 1} (𝓤 : URA M) (H : Heap 𝓤) (A : Atoms 𝓤) (W : Given
       -- let new = decide::submit::new_request(head, client, deadline);
       calls-for ! 𝓣 [] (the-head W head head-is ∷ number W client (client-is .1) ∷ number W deadline (deadline-is .1) ∷ []) a-request (λ c. known-new-request) (λ c h. h) (id⊢ 𝓤 _) refl (λ c. vars ! (refl, (refl, (refl, tt)))) (λ _. refl) (λ new last₂ news kept₂ new-is.
       relends ! waiting refl $
-      -- let gone = put_in(waiting, decision, head, new);
-      calls-for ! 𝓣 (0 ∷ []) (mut-of W waiting ws refl ∷ given W a-decision decision decision-is ∷ the-head W head head-is ∷ request W new new-is ∷ []) a-request (λ c. known-put-in) (λ c h. h) (id⊢ 𝓤 _) refl (λ c. vars ! (refl, (refl, (refl, (refl, tt))))) (λ _. refl) (λ gone last₃ moved kept₃ gone-is.
+      -- let insertion = put_in(waiting, decision, head, new);
+      calls-for ! 𝓣 (0 ∷ []) (mut-of W waiting ws refl ∷ given W a-decision decision decision-is ∷ the-head W head head-is ∷ request W new new-is ∷ []) an-insertion (λ c. known-put-in) (λ c h. h) (id⊢ 𝓤 _) refl (λ c. vars ! (refl, (refl, (refl, (refl, tt))))) (λ _. refl) (λ insertion last₃ moved kept₃ insertion-is.
       relends ! clients refl $
-      -- decide::submit::count(clients, decision, client, gone);
-      calls-for ! 𝓣 (1 ∷ []) (mut-of W clients xs refl ∷ given W a-decision decision decision-is ∷ number W client (client-is .1) ∷ request W gone gone-is ∷ []) of-nothing (λ c. known-count) (λ c h. h) (id⊢ 𝓤 _) refl (λ c. vars ! (refl, (refl, (refl, (refl, tt))))) (λ _. refl) (λ u₄ last₄ counted kept₄ _.
-      -- decide::submit::reply(head, decision, gone)
-      calls-for ! 𝓣 [] (the-head W head head-is ∷ given W a-decision decision decision-is ∷ request W gone gone-is ∷ []) a-reply (λ c. known-submit-reply) (λ c h. h) (id⊢ 𝓤 _) refl (λ c. vars ! (refl, (refl, (refl, tt)))) (λ _. refl) (λ r last₅ told kept₅ r-is. gives ! refl refl $
+      -- decide::submit::count(clients, decision, client, insertion.gone);
+      calls-for ! 𝓣 (1 ∷ []) (mut-of W clients xs refl ∷ given W a-decision decision decision-is ∷ number W client (client-is .1) ∷ request W (insertion .gone) (gone-is insertion insertion-is) ∷ []) of-nothing (λ c. known-count) (λ c h. h) (id⊢ 𝓤 _) refl (λ c. and-then ! (var ! refl) (and-then ! (var ! refl) (and-then ! (var ! refl) (and-then ! (field-var ! refl refl refl) (no-more !))))) (λ _. refl) (λ u₄ last₄ counted kept₄ _.
+      -- decide::submit::reply(head, decision, insertion)
+      calls-for ! 𝓣 [] (the-head W head head-is ∷ given W a-decision decision decision-is ∷ given W an-insertion insertion insertion-is ∷ []) a-reply (λ c. known-submit-reply) (λ c h. h) (id⊢ 𝓤 _) refl (λ c. vars ! (refl, (refl, (refl, tt)))) (λ _. refl) (λ r last₅ told kept₅ r-is. gives ! refl refl $
       leaves (a-reply .val r) r (last₃ .0, (last₄ .0, tt)) (kept₃ .0, (kept₄ .0, tt)) (made W a-reply r r-is)
-      (so 𝓤 (submitted-gives head ws xs client deadline decision new gone (last₃ .0) r (last₄ .0) decides news moved counted told)))))))
+      (so 𝓤 (submitted-gives head ws xs client deadline decision new insertion (last₃ .0) r (last₄ .0) decides news moved counted told)))))))
 
 pub submit-spec : {M : Type 1} → f.Statement.statement M
 unfolding f.Code.routine
