@@ -1,5 +1,5 @@
-/* Holds the C header to the archive: the version, layouts, kinds and values of answers, each bound at itself and one past, each
-   refusal's name by the calls that give it, lengths of the client table in numbers, and tables that are null. It is C99 and C++11
+/* Holds the C header to the archive: the version, layouts, kinds and values of answers, hours, each bound at itself and one past,
+   each refusal's name by the calls that give it, lengths of the client table in numbers, and tables that are null. It is C99 and C++11
    alike, and is run as both. */
 #include "welsbell.h"
 
@@ -49,17 +49,34 @@ static void lend(size_t records, size_t client_count)
     queue.clients_length = client_count;
 }
 
+/* One slot an hour. */
 static welsbell_setup setup_of(uint64_t client_count, uint64_t period)
 {
     welsbell_setup setup;
     setup.clients = client_count;
     setup.period = period;
+    setup.slots_per_hour = 1;
     return setup;
 }
 
 static welsbell_answer open_with(uint64_t client_count, uint64_t period)
 {
-    return welsbell_queue_open(&queue, setup_of(client_count, period));
+    return welsbell_queue_open(&queue, setup_of(client_count, period), welsbell_all_hours_open());
+}
+
+static welsbell_answer open_within(uint64_t slots_per_hour, welsbell_hours hours)
+{
+    welsbell_setup setup = setup_of(1, 1000000);
+    setup.slots_per_hour = slots_per_hour;
+    return welsbell_queue_open(&queue, setup, hours);
+}
+
+static welsbell_hours all_hours_closed(void)
+{
+    welsbell_hours hours = welsbell_all_hours_open();
+    for (size_t hour = 0; hour < WELSBELL_HOURS; hour++)
+        welsbell_mark_hour(&hours, hour, 0);
+    return hours;
 }
 
 /* The same, opened with a period that no case reaches. */
@@ -71,14 +88,18 @@ static void lend_opened(size_t records, size_t client_count)
 
 static void layouts(void)
 {
-    HOLD(sizeof(welsbell_setup) == 16);
+    HOLD(sizeof(welsbell_setup) == 24);
     HOLD(offsetof(welsbell_setup, clients) == 0);
     HOLD(offsetof(welsbell_setup, period) == 8);
-    HOLD(sizeof(welsbell_head) == 40);
+    HOLD(offsetof(welsbell_setup, slots_per_hour) == 16);
+    HOLD(sizeof(welsbell_head) == 48);
     HOLD(offsetof(welsbell_head, setup) == 0);
-    HOLD(offsetof(welsbell_head, clock) == 16);
-    HOLD(offsetof(welsbell_head, last) == 24);
-    HOLD(offsetof(welsbell_head, waiting) == 32);
+    HOLD(offsetof(welsbell_head, clock) == 24);
+    HOLD(offsetof(welsbell_head, last) == 32);
+    HOLD(offsetof(welsbell_head, waiting) == 40);
+    HOLD(sizeof(welsbell_hours) == 21);
+    HOLD(offsetof(welsbell_hours, marks) == 0);
+    HOLD(sizeof queue.hours.marks == 21);
     HOLD(sizeof(welsbell_request) == 24);
     HOLD(offsetof(welsbell_request, deadline) == 0);
     HOLD(offsetof(welsbell_request, number) == 8);
@@ -91,13 +112,21 @@ static void layouts(void)
 
     /* and as the archive writes them: all numbers differ */
     lend(8, 5);
-    HOLD(is_kind(open_with(5, 100), WELSBELL_OPENED));
+    welsbell_setup setup = setup_of(5, 100);
+    setup.slots_per_hour = 70;
+    welsbell_hours hours = welsbell_all_hours_open();
+    for (size_t i = 0; i < sizeof hours.marks; i++)
+        hours.marks[i] = (uint8_t)(0x80 + i);
+    HOLD(is_kind(welsbell_queue_open(&queue, setup, hours), WELSBELL_OPENED));
+    for (size_t i = 0; i < sizeof hours.marks; i++)
+        HOLD(queue.hours.marks[i] == 0x80 + i);
     for (int i = 0; i < 3; i++)
         HOLD(is_kind(welsbell_queue_tick(&queue), WELSBELL_IDLE));
     HOLD(is_kind(welsbell_queue_submit(&queue, 4, 50), WELSBELL_KEPT));
     HOLD(is_kind(welsbell_queue_submit(&queue, 3, 40), WELSBELL_KEPT));
     HOLD(queue.head.setup.clients == 5);
     HOLD(queue.head.setup.period == 100);
+    HOLD(queue.head.setup.slots_per_hour == 70);
     HOLD(queue.head.clock == 3);
     HOLD(queue.head.last == 2);
     HOLD(queue.head.waiting == 2);
@@ -154,6 +183,35 @@ static void answers(void)
     HOLD(refused(welsbell_queue_report(&queue, 8), WELSBELL_REFUSED_CLIENT));
 }
 
+/* Each hour by its name is where document 02 has it, "first hour in the highest bit", and the archive reads it there. */
+static void hours_of_the_week(void)
+{
+    welsbell_hours open = welsbell_all_hours_open();
+    for (size_t i = 0; i < sizeof open.marks; i++)
+        HOLD(open.marks[i] == 0xFF);
+    for (size_t hour = 0; hour < WELSBELL_HOURS; hour++) {
+        welsbell_hours one = all_hours_closed(), others = open;
+        welsbell_answer a;
+        welsbell_mark_hour(&one, hour, 1);
+        welsbell_mark_hour(&others, hour + WELSBELL_HOURS, 0);
+        for (size_t i = 0; i < sizeof one.marks; i++) {
+            HOLD(one.marks[i] == (i == hour / 8 ? 1 << (7 - hour % 8) : 0));
+            HOLD(others.marks[i] == 0xFF - one.marks[i]);
+        }
+        lend(1, 1);
+        HOLD(is_kind(open_within(1, one), WELSBELL_OPENED));
+        queue.head.clock = hour;
+        HOLD(is_kind(welsbell_queue_tick(&queue), WELSBELL_IDLE));
+        queue.head.clock = hour + 5;
+        a = welsbell_queue_tick(&queue);
+        HOLD(a.kind == WELSBELL_CLOSED && a.is.closed.slot == hour + 5);
+        HOLD(is_kind(open_within(1, others), WELSBELL_OPENED));
+        queue.head.clock = hour + 2 * WELSBELL_HOURS;
+        a = welsbell_queue_tick(&queue);
+        HOLD(a.kind == WELSBELL_CLOSED && a.is.closed.slot == hour + 2 * WELSBELL_HOURS);
+    }
+}
+
 /* Whether the first numbers, so many, are these, and the others stand as they were. */
 static int wrote(const welsbell_values *values, size_t count, uint64_t a, uint64_t b, uint64_t c, uint64_t d)
 {
@@ -170,27 +228,33 @@ static void values(void)
     static const welsbell_values unwritten = {{7, 7, 7, 7, 7}};
     uint64_t output[1];
     const welsbell_setup setup = setup_of(2, 100);
+    welsbell_hours marks = welsbell_all_hours_open();
+    welsbell_hours *const hours = &queue.hours;
     welsbell_values v = unwritten;
+    welsbell_mark_hour(&marks, 1, 0);
     lend(8, 2);
-    HOLD(welsbell_open(&queue.head, waiting, 8, clients, 6, &setup, &v) == WELSBELL_OPENED);
+    HOLD(welsbell_open(&queue.head, hours, waiting, 8, clients, 6, &setup, &marks, &v) == WELSBELL_OPENED);
     HOLD(wrote(&v, 0, 0, 0, 0, 0));
-    HOLD(welsbell_submit(&queue.head, waiting, 8, clients, 6, 1, 5, &v) == WELSBELL_KEPT);
+    HOLD(welsbell_submit(&queue.head, hours, waiting, 8, clients, 6, 1, 5, &v) == WELSBELL_KEPT);
     HOLD(wrote(&v, 3, 1, 0, 0, 0));
     v = unwritten;
-    HOLD(welsbell_submit(&queue.head, waiting, 8, clients, 6, 0, 1, &v) == WELSBELL_KEPT);
+    HOLD(welsbell_submit(&queue.head, hours, waiting, 8, clients, 6, 0, 1, &v) == WELSBELL_KEPT);
     HOLD(wrote(&v, 3, 2, 0, 1, 0));
     v = unwritten;
-    HOLD(welsbell_submit(&queue.head, waiting, 8, clients, 6, 0, 1, &v) == WELSBELL_DROPPED);
+    HOLD(welsbell_submit(&queue.head, hours, waiting, 8, clients, 6, 0, 1, &v) == WELSBELL_DROPPED);
     HOLD(wrote(&v, 4, 3, 3, 0, 1));
     v = unwritten;
-    HOLD(welsbell_report(&queue.head, waiting, 8, clients, 6, 2, &v) == WELSBELL_REFUSED);
+    HOLD(welsbell_report(&queue.head, hours, waiting, 8, clients, 6, 2, &v) == WELSBELL_REFUSED);
     HOLD(wrote(&v, 1, WELSBELL_REFUSED_CLIENT, 0, 0, 0));
     v = unwritten;
-    HOLD(welsbell_chart(&queue.head, waiting, 8, clients, 6, output, 0, &v) == WELSBELL_REFUSED);
+    HOLD(welsbell_chart(&queue.head, hours, waiting, 8, clients, 6, output, 0, &v) == WELSBELL_REFUSED);
     HOLD(wrote(&v, 1, WELSBELL_REFUSED_OUTPUT, 0, 0, 0));
     v = unwritten;
-    HOLD(welsbell_tick(&queue.head, waiting, 8, clients, 6, &v) == WELSBELL_SERVED);
+    HOLD(welsbell_tick(&queue.head, hours, waiting, 8, clients, 6, &v) == WELSBELL_SERVED);
     HOLD(wrote(&v, 3, 0, 2, 0, 0));
+    v = unwritten;
+    HOLD(welsbell_tick(&queue.head, hours, waiting, 8, clients, 6, &v) == WELSBELL_CLOSED);
+    HOLD(wrote(&v, 1, 1, 0, 0, 0));
     /* in a welsbell_answer they are 0 */
     HOLD(welsbell_queue_tick(&queue).is.numbers[4] == 0);
 }
@@ -219,6 +283,12 @@ static void bounds_of_open(void)
     HOLD(queue.head.setup.period == WELSBELL_MOST_PERIOD);
     HOLD(refused(open_with(1, WELSBELL_MOST_PERIOD + 1), WELSBELL_REFUSED_PERIOD));
     HOLD(refused(open_with(1, 0), WELSBELL_REFUSED_PERIOD));
+
+    HOLD(is_kind(open_within(WELSBELL_MOST_PER_HOUR, welsbell_all_hours_open()), WELSBELL_OPENED));
+    HOLD(queue.head.setup.slots_per_hour == WELSBELL_MOST_PER_HOUR);
+    HOLD(refused(open_within(WELSBELL_MOST_PER_HOUR + 1, welsbell_all_hours_open()), WELSBELL_REFUSED_PER_HOUR));
+    HOLD(refused(open_within(0, all_hours_closed()), WELSBELL_REFUSED_PER_HOUR));
+    HOLD(refused(open_within(1, all_hours_closed()), WELSBELL_REFUSED_ALL_CLOSED));
 }
 
 /* The bounds of what an open queue is asked and holds, each at itself and one past. */
@@ -230,6 +300,18 @@ static void bounds_of_others(void)
     HOLD(is_kind(welsbell_queue_submit(&queue, 0, 11), WELSBELL_KEPT));
     HOLD(is_kind(welsbell_queue_submit(&queue, 0, 10 + WELSBELL_MOST_AHEAD), WELSBELL_KEPT));
     HOLD(refused(welsbell_queue_submit(&queue, 0, 10 + WELSBELL_MOST_AHEAD + 1), WELSBELL_REFUSED_DEADLINE));
+
+    lend_opened(4, 1);
+    queue.head.setup.slots_per_hour = WELSBELL_MOST_PER_HOUR;
+    HOLD(is_kind(welsbell_queue_report(&queue, 0), WELSBELL_REPORTED));
+    welsbell_mark_hour(&queue.hours, 0, 0);
+    HOLD(refused(welsbell_queue_submit(&queue, 0, WELSBELL_MOST_AHEAD), WELSBELL_REFUSED_NO_OPEN_SLOT));
+    HOLD(refused(welsbell_queue_submit(&queue, 0, WELSBELL_MOST_AHEAD + 1), WELSBELL_REFUSED_DEADLINE));
+    queue.head.setup.slots_per_hour = WELSBELL_MOST_PER_HOUR + 1;
+    HOLD(refused(welsbell_queue_report(&queue, 0), WELSBELL_REFUSED_UNSOUND));
+    queue.head.setup.slots_per_hour = 1;
+    queue.hours = all_hours_closed();
+    HOLD(refused(welsbell_queue_report(&queue, 0), WELSBELL_REFUSED_UNSOUND));
 
     lend_opened(4, 1);
     clients[0].submitted = clients[0].served = WELSBELL_MOST_COUNTED - 1;
@@ -301,21 +383,23 @@ static void wrong_numbers(size_t numbers)
 {
     uint64_t starts[4];
     const welsbell_setup setup = setup_of(2, 100);
+    const welsbell_hours marks = welsbell_all_hours_open();
+    welsbell_hours *const hours = &queue.hours;
     welsbell_answer a = welsbell_queue_report(&queue, 0);
     HOLD(!refused(a, WELSBELL_REFUSED_LENGTHS));
-    a.kind = welsbell_open(&queue.head, waiting, 4, clients, numbers, &setup, &a.is);
+    a.kind = welsbell_open(&queue.head, hours, waiting, 4, clients, numbers, &setup, &marks, &a.is);
     HOLD(refused(a, WELSBELL_REFUSED_LENGTHS));
     a.is.refused.number = 0;
-    a.kind = welsbell_submit(&queue.head, waiting, 4, clients, numbers, 0, 9, &a.is);
+    a.kind = welsbell_submit(&queue.head, hours, waiting, 4, clients, numbers, 0, 9, &a.is);
     HOLD(refused(a, WELSBELL_REFUSED_LENGTHS));
     a.is.refused.number = 0;
-    a.kind = welsbell_tick(&queue.head, waiting, 4, clients, numbers, &a.is);
+    a.kind = welsbell_tick(&queue.head, hours, waiting, 4, clients, numbers, &a.is);
     HOLD(refused(a, WELSBELL_REFUSED_LENGTHS));
     a.is.refused.number = 0;
-    a.kind = welsbell_report(&queue.head, waiting, 4, clients, numbers, 0, &a.is);
+    a.kind = welsbell_report(&queue.head, hours, waiting, 4, clients, numbers, 0, &a.is);
     HOLD(refused(a, WELSBELL_REFUSED_LENGTHS));
     a.is.refused.number = 0;
-    a.kind = welsbell_chart(&queue.head, waiting, 4, clients, numbers, starts, 4, &a.is);
+    a.kind = welsbell_chart(&queue.head, hours, waiting, 4, clients, numbers, starts, 4, &a.is);
     HOLD(refused(a, WELSBELL_REFUSED_LENGTHS));
 }
 
@@ -324,6 +408,7 @@ static void numbers_of_clients(void)
 {
     const size_t most = 3 * WELSBELL_MOST_CLIENTS;
     const welsbell_setup setup = setup_of(WELSBELL_MOST_CLIENTS, 100);
+    const welsbell_hours marks = welsbell_all_hours_open();
     welsbell_answer a = {0, {{0, 0, 0, 0, 0}}};
     lend_opened(4, 2);
     for (size_t numbers = 0; numbers <= 9; numbers++)
@@ -336,7 +421,7 @@ static void numbers_of_clients(void)
 
     lend(4, WELSBELL_MOST_CLIENTS);
     for (size_t numbers = most - 1; numbers <= most + 2; numbers++) {
-        a.kind = welsbell_open(&queue.head, waiting, 4, clients, numbers, &setup, &a.is);
+        a.kind = welsbell_open(&queue.head, &queue.hours, waiting, 4, clients, numbers, &setup, &marks, &a.is);
         HOLD(numbers == most ? is_kind(a, WELSBELL_OPENED) : refused(a, WELSBELL_REFUSED_LENGTHS));
     }
 }
@@ -366,6 +451,7 @@ int main(void)
     HOLD(welsbell_version() == WELSBELL_VERSION);
     layouts();
     answers();
+    hours_of_the_week();
     values();
     bounds_of_open();
     bounds_of_others();

@@ -2,7 +2,8 @@
    of its own, and the deepest byte whose paint is gone tells how far down it came; the few frames from that stack's top to the call are
    counted too.
    A loader may bind what the archive takes from the C library (memcpy, memmove and memset) only when it is first called, and needs stack
-   for that. So that it does this on the painted stack, nothing else here uses these three, and submit, which goes deepest, comes first.
+   for that. So that it does this on the painted stack, nothing else here uses these three, and submit with closed hours, which goes
+   deepest, comes first.
    Every call is made twice: its line tells of the second time, and the last line of both. */
 #define _XOPEN_SOURCE 700
 #include "welsbell.h"
@@ -26,10 +27,12 @@ static welsbell_queue queue;
 static welsbell_answer answer;
 
 /* So many waiting records, the clients by turns, the first with this deadline and each other so many slots after the one before. A
-   period starts with every slot. */
+   period starts with every slot. An hour is one slot, and every hour is open. */
 static void fill(size_t count, uint64_t first_deadline, uint64_t step)
 {
     static const welsbell_client nothing;
+    queue.hours = welsbell_all_hours_open();
+    queue.head.setup.slots_per_hour = 1;
     queue.waiting = waiting;
     queue.waiting_length = RECORDS;
     queue.clients = clients;
@@ -70,6 +73,38 @@ static void fill_none(void)
     fill(0, 0, 0);
 }
 
+/* The slots of odd numbers are closed. */
+static void close_every_second(void)
+{
+    for (size_t hour = 1; hour < WELSBELL_HOURS; hour += 2)
+        welsbell_mark_hour(&queue.hours, hour, 0);
+}
+
+static void fill_open_slots(void)
+{
+    fill(RECORDS, 2, 2);
+    close_every_second();
+}
+
+static void fill_open_slots_but_0(void)
+{
+    fill(RECORDS - 1, 4, 2);
+    close_every_second();
+}
+
+static void fill_open_slots_with_one_deadline(void)
+{
+    fill(RECORDS - 1, 2 * (RECORDS - 1), 0);
+    close_every_second();
+}
+
+static void fill_behind_a_closed_slot(void)
+{
+    fill(RECORDS - 1, 4, 2);
+    close_every_second();
+    queue.head.clock = 1;
+}
+
 /* What is wrong stands last, so that all before it is looked at. */
 static void fill_unsound(void)
 {
@@ -87,7 +122,8 @@ static void open_for(uint64_t count)
     welsbell_setup setup;
     setup.clients = count;
     setup.period = 1;
-    answer = welsbell_queue_open(&queue, setup);
+    setup.slots_per_hour = 1;
+    answer = welsbell_queue_open(&queue, setup, welsbell_all_hours_open());
 }
 
 static void open_for_all(void)
@@ -113,6 +149,16 @@ static void submit_last(void)
 static void submit_one_more(void)
 {
     answer = welsbell_queue_submit(&queue, CLIENTS - 1, RECORDS - 1);
+}
+
+static void submit_one_more_open(void)
+{
+    answer = welsbell_queue_submit(&queue, CLIENTS - 1, 2 * (RECORDS - 1));
+}
+
+static void submit_before_an_open_slot(void)
+{
+    answer = welsbell_queue_submit(&queue, CLIENTS - 1, 2);
 }
 
 static void tick(void)
@@ -147,17 +193,24 @@ static const struct {
     void (*call)(void);
     uint64_t kind;
 } cases[] = {
+    {"submit with closed hours, kept at the front", fill_open_slots_but_0, submit_first, WELSBELL_KEPT},
+    {"submit with closed hours, kept at the end", fill_open_slots_but_0, submit_last, WELSBELL_KEPT},
+    {"submit with closed hours, dropped with every record a candidate", fill_open_slots_with_one_deadline, submit_one_more_open,
+     WELSBELL_DROPPED},
     {"submit, kept at the front", fill_all_but_slot_0, submit_first, WELSBELL_KEPT},
     {"submit, kept at the end", fill_all_but_slot_0, submit_last, WELSBELL_KEPT},
     {"submit, dropped with every record a candidate", fill_with_one_deadline, submit_one_more, WELSBELL_DROPPED},
     {"submit, refused with a full table", fill_all, submit_last, WELSBELL_REFUSED},
     {"submit, refused with tables that are not sound", fill_unsound, submit_last, WELSBELL_REFUSED},
+    {"submit, refused for want of an open slot", fill_behind_a_closed_slot, submit_before_an_open_slot, WELSBELL_REFUSED},
     {"tick, served and a period starts", fill_all, tick, WELSBELL_SERVED},
     {"tick, idle and a period starts", fill_none, tick, WELSBELL_IDLE},
+    {"tick, closed and a period starts", fill_behind_a_closed_slot, tick, WELSBELL_CLOSED},
     {"tick, refused", fill_unsound, tick, WELSBELL_REFUSED},
     {"report", fill_all, report, WELSBELL_REPORTED},
     {"report, refused", fill_all, report_of_nobody, WELSBELL_REFUSED},
     {"chart", fill_all, chart, WELSBELL_CHARTED},
+    {"chart with closed hours", fill_open_slots, chart, WELSBELL_CHARTED},
     {"chart, refused", fill_all, chart_too_short, WELSBELL_REFUSED},
     {"open", fill_all, open_for_all, WELSBELL_OPENED},
     {"open, refused", fill_all, open_for_none, WELSBELL_REFUSED},

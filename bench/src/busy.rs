@@ -1,8 +1,35 @@
 //! Busy sessions: more submits than can be served, so that the table stays nearly full and reads are dropped.
-use tests::frames;
+use tests::frames::{self, Week, ALL_OPEN};
 use tests::random::Random;
 
-// A session's tables, and its clock, which each tick moves on.
+// What a session opens with.
+#[derive(Clone, Copy)]
+pub struct Station {
+    pub records: u16,
+    pub clients: u16,
+    pub week: Week,
+}
+
+impl Station {
+    // All hours are open.
+    pub const fn new(records: u16, clients: u16) -> Station {
+        Station {
+            records,
+            clients,
+            week: ALL_OPEN,
+        }
+    }
+
+    pub const fn every_second_closed(self, slots_per_hour: u32) -> Station {
+        let week = Week {
+            slots_per_hour,
+            marks: [0xAA; 21],
+        };
+        Station { week, ..self }
+    }
+}
+
+// A session's station, and its clock, which each tick moves on.
 struct Busy {
     random: Random,
     records: u16,
@@ -11,14 +38,15 @@ struct Busy {
 }
 
 // So many frames, the first of them an open.
-pub fn session(records: u16, clients: u16, count: usize) -> Vec<u8> {
+pub fn session(station: &Station, count: usize) -> Vec<u8> {
+    let Station { records, clients, week } = station;
     let mut busy = Busy {
         random: Random(0x9E37_79B9_7F4A_7C15),
-        records,
-        clients,
+        records: *records,
+        clients: *clients,
         clock: 0,
     };
-    let mut input = frames::open(clients, 1_000, records) + "\n";
+    let mut input = frames::open_with(*clients, 1_000, *records, week) + "\n";
     for _ in 1..count {
         input += &busy.frame();
         input += "\n";
@@ -58,7 +86,7 @@ impl Busy {
     // No frames, and frames that get another refusal.
     fn refused(&mut self) -> String {
         let (client, clients) = (self.client(), self.clients);
-        match self.random.below(16) {
+        match self.random.below(18) {
             0 => String::new(),
             1 => frames::TICK.repeat(50),
             2 => self.submit() + "0",
@@ -74,7 +102,18 @@ impl Busy {
             12 => frames::report(clients),
             13 => frames::submit(self.random.one_of(&[clients, 65_535]), self.clock + 1),
             14 => frames::submit(client, self.clock),
+            15 => open_in(self.random.one_of(&[0, 360_001, u32::MAX]), 0xFF),
+            16 => open_in(self.random.one_of(&[1, 360_000]), 0),
             _ => frames::submit(client, self.clock + self.random.one_of(&[65_536, u64::MAX / 2])),
         }
     }
+}
+
+// Eight hours have these marks, and so have the next.
+fn open_in(slots_per_hour: u32, marks: u8) -> String {
+    let week = Week {
+        slots_per_hour,
+        marks: [marks; 21],
+    };
+    frames::open_with(1, 1_000, 10, &week)
 }

@@ -45,13 +45,13 @@ pub fn ratios([proved, tuned, floor]: [f64; 3]) -> [f64; 2] {
 // Nanoseconds of one call. What it changed is put back first; the fence waits for that, so that none of it is in the time.
 fn time(queue: &Queue, timed: &Timed, t: &mut Tables, output: &mut [u64]) -> f64 {
     let (queue, from) = (black_box(queue), &timed.tables);
-    t.head = from.head;
+    (t.head, t.hours) = (from.head, from.hours);
     t.waiting.copy_from_slice(&from.waiting);
     t.client_numbers.copy_from_slice(&from.client_numbers);
     let mut values = [0; 5];
     fence(Ordering::SeqCst);
     let start = Instant::now();
-    let kind = queue.make(black_box(timed.call), black_box(t), output, &mut values);
+    let kind = queue.make(black_box(&timed.call), black_box(t), output, &mut values);
     let elapsed = start.elapsed();
     if kind != timed.answer {
         let answer = answer(kind, &values);

@@ -1,14 +1,16 @@
 //! The session program by hand, over calls by hand. A part of the input comes into a buffer, its frames are read where they
 //! lie, and the answers go into another, which is written when the part is answered, or when it is full.
-use crate::calls::Calls;
-use crate::lent::{refuse, Lent};
+use crate::by_hand::calls::Calls;
+use crate::by_hand::lent::{refuse, Lent};
+use crate::by_hand::slots::are_all_open;
+use crate::by_hand::slots::week::Week;
 use std::io::{self, Read, Write};
 use tests::tables::*;
 
 pub const SEGMENT: u64 = 0x87;
 
-// With their line feeds: a submit's frame, and the answer of a drop.
-const LONGEST_FRAME: usize = 23;
+// With their line feeds: an open's frame, and the answer of a drop.
+const LONGEST_FRAME: usize = 69;
 const LONGEST_ANSWER: usize = 43;
 
 const INPUT: usize = 65_536;
@@ -42,7 +44,7 @@ const fn pairs() -> [[u8; 2]; 256] {
 }
 
 enum Frame {
-    Open { clients: u64, period: u64, records: u64 },
+    Open { setup: Setup, marks: Hours, records: u64 },
     Submit { client: u64, deadline: u64 },
     Tick,
     Report { client: u64 },
@@ -67,22 +69,34 @@ fn number(digits: &[u8]) -> Option<u64> {
     (bits < 16).then_some(number)
 }
 
+// Two digits a byte.
+fn marks(digits: &[u8; 42]) -> Option<Hours> {
+    let mut hours = Hours::default();
+    for (byte, pair) in hours.marks.iter_mut().zip(digits.as_chunks::<2>().0) {
+        *byte = number(pair)? as u8;
+    }
+    Some(hours)
+}
+
+fn open_frame(line: &[u8; LONGEST_FRAME]) -> Option<Frame> {
+    let setup = setup_with(number(&line[2..6])?, number(&line[6..14])?, number(&line[18..26])?);
+    Some(Frame::Open {
+        setup,
+        records: number(&line[14..18])?,
+        marks: marks(line[26..].first_chunk()?)?,
+    })
+}
+
 // The frame that the input begins with, if it does, and how many characters it has with its line feed.
 #[inline(always)]
 fn frame_at(input: &[u8]) -> Option<(Frame, usize)> {
     let frame = match number(input.first_chunk::<2>()?)? {
         0x01 => {
-            let line = line::<19>(input)?;
-            let (clients, period, records) = (number(&line[2..6])?, number(&line[6..14])?, number(&line[14..18])?);
-            let open = Frame::Open {
-                clients,
-                period,
-                records,
-            };
-            (open, line.len())
+            let line = line::<LONGEST_FRAME>(input)?;
+            (open_frame(line)?, line.len())
         }
         0x02 => {
-            let line = line::<LONGEST_FRAME>(input)?;
+            let line = line::<23>(input)?;
             let (client, deadline) = (number(&line[2..6])?, number(&line[6..22])?);
             (Frame::Submit { client, deadline }, line.len())
         }
@@ -137,16 +151,16 @@ impl Answers {
             KEPT => self.put_line(kind, [8, 2, 2], values),
             DROPPED => self.put_line(kind, [8, 8, 2, 2], values),
             SERVED => self.put_line(kind, [8, 8, 2], values),
-            IDLE => self.put_line(kind, [8], values),
+            IDLE | CLOSED => self.put_line(kind, [8], values),
             REPORT => self.put_line(kind, [2, 4, 4, 4, 2], values),
             _ => self.put_line(kind, [1], values),
         }
     }
 
     // One line for each longest run of touching intervals, then their count.
-    fn put_chart(&mut self, starts: &[u64]) -> io::Result<()> {
+    fn put_chart(&mut self, starts: &[u64], do_touch: impl Fn(&u64, &u64) -> bool) -> io::Result<()> {
         let mut count = 0;
-        for run in starts.chunk_by(|a, b| a + 1 == *b) {
+        for run in starts.chunk_by(do_touch) {
             self.put_line(SEGMENT, [8, 8], &[run[0], run[run.len() - 1] + 1])?;
             count += 1;
         }
@@ -186,17 +200,13 @@ impl Session {
         let clients = self.tables.head.setup.clients as usize;
         let t = &mut Lent::part(&mut self.tables, self.records, clients);
         let kind = match frame {
-            Frame::Open {
-                clients,
-                period,
-                records,
-            } => self.open::<Q>(clients, period, records as usize, &mut values),
+            Frame::Open { setup, marks, records } => self.open::<Q>(&setup, &marks, records as usize, &mut values),
             _ if self.records == 0 => refuse(&mut values, 4),
             Frame::Submit { client, deadline } => Q::submit(t, client, deadline, &mut values),
             Frame::Tick => Q::tick(t, &mut values),
             Frame::Report { client } => Q::report(t, client, &mut values),
             Frame::Chart => match Q::chart(t, &mut self.starts, &mut values) {
-                CHART => return self.answers.put_chart(&self.starts[..values[0] as usize]),
+                CHART => return self.put_chart(values[0] as usize),
                 refused => refused,
             },
         };
@@ -204,15 +214,30 @@ impl Session {
     }
 
     // An open that names more than is reserved gets none, and is refused for that.
-    fn open<Q: Calls>(&mut self, clients: u64, period: u64, records: usize, values: &mut Values) -> u64 {
+    fn open<Q: Calls>(&mut self, setup: &Setup, marks: &Hours, records: usize, values: &mut Values) -> u64 {
         let lent_records = if records <= MOST_RECORDS { records } else { 0 };
-        let lent_clients = if clients <= MOST_CLIENTS as u64 { clients } else { 0 };
+        let lent_clients = if setup.clients <= MOST_CLIENTS as u64 {
+            setup.clients
+        } else {
+            0
+        };
         let t = &mut Lent::part(&mut self.tables, lent_records, lent_clients as usize);
-        let kind = Q::open(t, clients, period, values);
+        let kind = Q::open(t, setup, marks, values);
         if kind == OPENED {
             self.records = records;
         }
         kind
+    }
+
+    // Two intervals touch where no open slot lies between them; neighbours do in any hours.
+    fn put_chart(&mut self, count: usize) -> io::Result<()> {
+        let (Tables { head, hours, .. }, starts) = (&self.tables, &self.starts[..count]);
+        if are_all_open(hours) {
+            return self.answers.put_chart(starts, |a, b| a + 1 == *b);
+        }
+        let week = Week::new(head, hours);
+        let do_touch = |a: &u64, b: &u64| a + 1 == *b || week.open_before(a + 1) == week.open_before(*b);
+        self.answers.put_chart(starts, do_touch)
     }
 
     fn refuse_line(&mut self) -> io::Result<()> {

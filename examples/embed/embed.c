@@ -1,6 +1,7 @@
-/* A station that embeds the queue, with tables of 8 waiting records and 2 clients in arrays. It makes the calls of document 01's
-   session, goes on until nothing waits and then for three reads more, and says each answer in words. It is C99 and C++11 alike;
-   embed.rs, the Rust wrapper's example, and embed.py do the same. */
+/* A station that embeds the queue, with tables of 8 waiting records and 2 clients in arrays. An hour has 3 slots, and hour 1 belongs
+   to the inspectors: slots 3, 4 and 5. It makes the calls of document 01's session, which end before, goes on until nothing waits
+   and then for reads around that hour, and says each answer in words. It is C99 and C++11 alike; embed.rs, the Rust wrapper's
+   example, and embed.py do the same. */
 #include "welsbell.h"
 
 #include <inttypes.h>
@@ -8,6 +9,8 @@
 
 #define RECORDS 8
 #define CLIENTS 2
+#define SLOTS_PER_HOUR 3
+#define INSPECTION 1
 
 static welsbell_request waiting[RECORDS];
 static welsbell_client clients[CLIENTS];
@@ -38,6 +41,12 @@ static const char *reason(uint64_t refusal)
         return "the clock is at its end";
     case WELSBELL_REFUSED_OUTPUT:
         return "the output is shorter than the waiting count";
+    case WELSBELL_REFUSED_PER_HOUR:
+        return "slots per hour are not 1 to 360000";
+    case WELSBELL_REFUSED_ALL_CLOSED:
+        return "all hours are closed";
+    case WELSBELL_REFUSED_NO_OPEN_SLOT:
+        return "no slot from the clock to the deadline is open";
     default:
         return "no reason that this program knows";
     }
@@ -72,6 +81,9 @@ static void say(welsbell_answer answer)
     case WELSBELL_CHARTED:
         printf("%" PRIu64 " waiting\n", is->charted.count);
         break;
+    case WELSBELL_CLOSED:
+        printf("slot %" PRIu64 " is closed\n", is->closed.slot);
+        break;
     case WELSBELL_REFUSED:
         printf("refused, number %" PRIu64 ": %s\n", is->refused.number, reason(is->refused.number));
         break;
@@ -104,15 +116,18 @@ static void chart(void)
 
 static void open_queue(void)
 {
+    welsbell_hours hours = welsbell_all_hours_open();
     welsbell_setup setup;
     setup.clients = CLIENTS;
     setup.period = 100;
+    setup.slots_per_hour = SLOTS_PER_HOUR;
+    welsbell_mark_hour(&hours, INSPECTION, 0);
     queue.waiting = waiting;
     queue.waiting_length = RECORDS;
     queue.clients = clients;
     queue.clients_length = CLIENTS;
-    printf("open with %d clients: ", CLIENTS);
-    say(welsbell_queue_open(&queue, setup));
+    printf("open with %d clients, %d slots an hour, hour %d closed: ", CLIENTS, SLOTS_PER_HOUR, INSPECTION);
+    say(welsbell_queue_open(&queue, setup, hours));
 }
 
 int main(void)
@@ -131,8 +146,11 @@ int main(void)
     tick();
     tick();
     submit(2, 9);
+    submit(0, 5);
     submit(0, 9);
-    submit(0, 4);
-    submit(1, 4);
+    submit(0, 7);
+    submit(1, 7);
+    tick();
+    chart();
     return 0;
 }

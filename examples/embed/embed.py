@@ -1,6 +1,7 @@
 #!/usr/bin/env python3
-"""A station that embeds the queue by ctypes, with tables of 8 waiting records and 2 clients. It makes the calls of document 01's
-session, goes on until nothing waits and then for three reads more, and says each answer in words; embed.c and embed.rs do the same.
+"""A station that embeds the queue by ctypes, with tables of 8 waiting records and 2 clients. An hour has 3 slots, and hour 1 belongs
+to the inspectors: slots 3, 4 and 5. It makes the calls of document 01's session, which end before, goes on until nothing waits and
+then for reads around that hour, and says each answer in words; embed.c and embed.rs do the same.
 
     python3 embed.py [LIBRARY]
 
@@ -9,16 +10,32 @@ system. The header welsbell.h says what each call takes and gives.
 """
 import os
 import sys
-from ctypes import CDLL, POINTER, Structure, byref, c_size_t, c_uint32, c_uint64
+from ctypes import CDLL, POINTER, Structure, byref, c_size_t, c_uint8, c_uint32, c_uint64
 
-VERSION = 3  # the interface that this file is written for: WELSBELL_VERSION of the header
+VERSION = 4  # the interface that this file is written for: WELSBELL_VERSION of the header
 RECORDS = 8
 CLIENTS = 2
+SLOTS_PER_HOUR = 3
+INSPECTION = 1
 
 
 # The layouts of the header. Each is numbers of one width, so that there is nothing between them.
 class Setup(Structure):
-    _fields_ = [("clients", c_uint64), ("period", c_uint64)]
+    _fields_ = [("clients", c_uint64), ("period", c_uint64), ("slots_per_hour", c_uint64)]
+
+
+class Hours(Structure):
+    """Of each of the 168 hours of a week a mark, 1 where it is open, the first hour's in the highest bit of the first byte."""
+
+    _fields_ = [("marks", c_uint8 * 21)]
+
+    def mark(self, hour, is_open):
+        bit = 0x80 >> hour % 8
+        self.marks[hour // 8] = self.marks[hour // 8] | bit if is_open else self.marks[hour // 8] & ~bit
+
+
+def all_hours_open():
+    return Hours((c_uint8 * 21)(*[0xFF] * 21))
 
 
 class Head(Structure):
@@ -46,6 +63,7 @@ SAYINGS = {
     0x85: "nothing waits in slot {0}",
     0x86: "client {0}: {1} submitted, {2} served, {3} dropped, {4} waiting",
     CHARTED: "{0} waiting",
+    0x89: "slot {0} is closed",
     REFUSED: "refused, number {0}: {reason}",
 }
 REASONS = {
@@ -60,6 +78,9 @@ REASONS = {
     10: "the waiting table is full",
     11: "the clock is at its end",
     12: "the output is shorter than the waiting count",
+    13: "slots per hour are not 1 to 360000",
+    14: "all hours are closed",
+    15: "no slot from the clock to the deadline is open",
 }
 
 
@@ -74,9 +95,9 @@ class Answer:
 
 def declare(library):
     """Gives each call its types, without which ctypes would pass every number as a C int."""
-    lent = [POINTER(Head), POINTER(Request), c_size_t, POINTER(Client), c_size_t]
+    lent = [POINTER(Head), POINTER(Hours), POINTER(Request), c_size_t, POINTER(Client), c_size_t]
     own = {
-        "open": [POINTER(Setup)],
+        "open": [POINTER(Setup), POINTER(Hours)],
         "submit": [c_uint64, c_uint64],
         "tick": [],
         "report": [c_uint64],
@@ -91,11 +112,12 @@ def declare(library):
 
 
 class Queue:
-    """The head and the tables, which are the caller's: the library keeps nothing."""
+    """The head, the hours and the tables, which are the caller's: the library keeps nothing."""
 
     def __init__(self, library, records, clients):
         self.library = library
         self.head = Head()
+        self.hours = Hours()
         self.waiting = (Request * records)()
         self.clients = (Client * clients)()
 
@@ -103,6 +125,7 @@ class Queue:
         values = Values()
         kind = getattr(self.library, "welsbell_" + name)(
             byref(self.head),
+            byref(self.hours),
             self.waiting,
             len(self.waiting),
             self.clients,
@@ -112,8 +135,8 @@ class Queue:
         )
         return Answer(kind, values)
 
-    def open(self, period):
-        return self.call("open", byref(Setup(len(self.clients), period)))
+    def open(self, period, slots_per_hour, hours):
+        return self.call("open", byref(Setup(len(self.clients), period, slots_per_hour)), byref(hours))
 
     def submit(self, client, deadline):
         return self.call("submit", client, deadline)
@@ -151,6 +174,13 @@ def load():
     return library
 
 
+def open_queue(queue):
+    hours = all_hours_open()
+    hours.mark(INSPECTION, is_open=False)
+    answer = queue.open(period=100, slots_per_hour=SLOTS_PER_HOUR, hours=hours)
+    print(f"open with {CLIENTS} clients, {SLOTS_PER_HOUR} slots an hour, hour {INSPECTION} closed: {answer}")
+
+
 def submit(queue, client, deadline):
     print(f"client {client} submits a read with deadline {deadline}: {queue.submit(client, deadline)}")
 
@@ -168,7 +198,7 @@ def chart(queue):
 
 def main():
     queue = Queue(load(), RECORDS, CLIENTS)
-    print(f"open with {CLIENTS} clients: {queue.open(period=100)}")
+    open_queue(queue)
     submit(queue, 0, 1)
     submit(queue, 1, 2)
     submit(queue, 1, 1)
@@ -178,9 +208,12 @@ def main():
     tick(queue)
     tick(queue)
     submit(queue, 2, 9)
+    submit(queue, 0, 5)
     submit(queue, 0, 9)
-    submit(queue, 0, 4)
-    submit(queue, 1, 4)
+    submit(queue, 0, 7)
+    submit(queue, 1, 7)
+    tick(queue)
+    chart(queue)
 
 
 if __name__ == "__main__":

@@ -6,7 +6,7 @@ use welsbell::raw;
 pub fn answer(kind: u64, values: &Values) -> Vec<u64> {
     let count = match kind {
         OPENED => 0,
-        IDLE | CHART | REFUSED => 1,
+        IDLE | CHART | CLOSED | REFUSED => 1,
         KEPT | SERVED => 3,
         DROPPED => 4,
         _ => 5,
@@ -18,11 +18,12 @@ pub fn answer(kind: u64, values: &Values) -> Vec<u64> {
 // get pointers that may be written through, so that a write would show.
 macro_rules! lend {
     ($exported:ident, $tables:ident, $values:ident $(, $argument:expr)*) => {
-        // SAFETY: the head, a setup and the values are one of each, and every other pointer is good for as much as the length
-        // behind it says. All are lent for this call alone.
+        // SAFETY: the head, the hours, a setup, marks and the values are one of each, and every other pointer is good for as much
+        // as the length behind it says. All are lent for this call alone.
         unsafe {
             raw::$exported(
                 &raw mut $tables.head,
+                &raw mut $tables.hours,
                 $tables.waiting.as_mut_ptr(),
                 $tables.waiting.len(),
                 $tables.client_numbers.as_mut_ptr().cast(),
@@ -34,9 +35,8 @@ macro_rules! lend {
     };
 }
 
-pub fn open(t: &mut Tables, clients: u64, period: u64, values: &mut Values) -> u64 {
-    let setup = setup(clients, period);
-    lend!(welsbell_open, t, values, &setup)
+pub fn open(t: &mut Tables, setup: &Setup, marks: &Hours, values: &mut Values) -> u64 {
+    lend!(welsbell_open, t, values, setup, marks)
 }
 
 pub fn submit(t: &mut Tables, client: u64, deadline: u64, values: &mut Values) -> u64 {

@@ -2,8 +2,11 @@
 //! edits of the lengths, which meet refusal 4. Edits may come one behind the other, so that each takes tables with anything in
 //! them; where they have no place for it, it does nothing.
 use crate::model::sound::CLAUSES;
+use crate::model::{Fault, Week};
+use crate::random::hours::{close, open};
 use crate::random::Random;
-use crate::tables::{Client, Request, Tables, END, MOST_AHEAD, MOST_COUNTED, MOST_PERIOD, MOST_RECORDS, WIDTH};
+use crate::tables::{Client, Hours, Request, Tables, WIDTH};
+use crate::tables::{END, MOST_AHEAD, MOST_COUNTED, MOST_PERIOD, MOST_PER_HOUR, MOST_RECORDS};
 
 pub type Damage = fn(&mut Tables, &mut Random);
 
@@ -15,6 +18,15 @@ pub const DAMAGES: [&[Damage]; CLAUSES.len()] = [
         |t, _| t.head.setup.period = MOST_PERIOD + 1,
         |t, _| t.head.setup.period = u64::MAX,
     ],
+    &[
+        |t, _| t.head.setup.slots_per_hour = 0,
+        |t, _| t.head.setup.slots_per_hour = MOST_PER_HOUR + 1,
+        |t, random| t.head.setup.slots_per_hour = MOST_PER_HOUR + random.between(2, 99),
+        // in bounds but for 32 bits
+        |t, _| t.head.setup.slots_per_hour |= 1 << 32,
+        |t, _| t.head.setup.slots_per_hour = u64::MAX,
+    ],
+    &[|t, _| t.hours = Hours::default()],
     &[
         |t, _| move_clock(t, END + 1),
         |t, random| move_clock(t, END + random.between(2, 99)),
@@ -48,7 +60,13 @@ pub const DAMAGES: [&[Damage]; CLAUSES.len()] = [
         |t, random| move_to_client(t, random, |_| 1 << 32),
         |t, random| move_to_client(t, random, |_| u64::MAX),
     ],
-    &[overfill_anywhere, overfill_at_last],
+    &[
+        overfill_anywhere,
+        overfill_at_last,
+        overfill_open_slots,
+        close_hours,
+        close_all_but_one,
+    ],
     &[
         |t, random| edit_free(t, random, |record, any| record.deadline = any),
         |t, random| edit_free(t, random, |record, any| record.number = any),
@@ -236,6 +254,40 @@ fn overfill_at_last(t: &mut Tables, _: &mut Random) {
     if waiting_count(t) > 1 {
         overfill(t, waiting_count(t) - 1);
     }
+}
+
+// As above, but for the open slots: with all hours open there would often be room.
+fn overfill_open_slots(t: &mut Tables, random: &mut Random) {
+    let Some(place) = before_another(t, random) else { return };
+    let week = Week::new(t.head.setup.slots_per_hour, t.hours, Fault::None);
+    let last = t.waiting[place + 1].deadline;
+    let Some(full) = week.open_slots(t.head.clock, last).nth(place + 1) else {
+        return;
+    };
+    let records = &mut t.waiting[..=place + 1];
+    for record in records.iter_mut() {
+        record.deadline = record.deadline.min(full);
+    }
+    records.sort_by_key(|record| (record.deadline, record.number));
+}
+
+// The hours up to the deadline of one that waits are closed, and another hour is open.
+fn close_hours(t: &mut Tables, random: &mut Random) {
+    let count = waiting_count(t);
+    if count == 0 || t.head.setup.slots_per_hour == 0 {
+        return;
+    }
+    let deadline = t.waiting[random.below(count)].deadline;
+    let [first, end] = [t.head.clock, deadline].map(|slot| slot / t.head.setup.slots_per_hour);
+    for hour in (first..=end).take(167) {
+        close(&mut t.hours, hour % 168);
+    }
+    open(&mut t.hours, first.wrapping_sub(1) % 168);
+}
+
+fn close_all_but_one(t: &mut Tables, random: &mut Random) {
+    t.hours = Hours::default();
+    open(&mut t.hours, random.between(0, 167));
 }
 
 fn edit_free(t: &mut Tables, random: &mut Random, edit: impl Fn(&mut Request, u64)) {

@@ -2,7 +2,7 @@
 //! served and waiting are read off the calls of a session and off the program's answers.
 use crate::model::calls::{OPENED, REPORT};
 use crate::model::lists::List;
-use crate::model::Call;
+use crate::model::{Call, Fault, Week};
 use std::collections::BTreeMap;
 use std::fmt::{self, Display, Formatter};
 
@@ -24,6 +24,7 @@ pub struct Lists {
     calls: u64,
     with_drops: u64,
     with_idle: u64,
+    with_closed: u64,
     with_refused: u64,
     sums: u64,
 }
@@ -31,11 +32,11 @@ pub struct Lists {
 impl Lists {
     // One call of the session more.
     pub fn follow(&mut self, call: &Call, answer: &[u64]) -> Result<(), String> {
-        if let (&Call::Open { clients, .. }, [OPENED]) = (call, answer) {
+        if let (&Call::Open { setup, hours }, [OPENED]) = (call, answer) {
             self.end()?;
             self.current = Some(Current {
-                list: List::default(),
-                clients: clients as usize,
+                list: List::within(Week::new(setup.slots_per_hour, hours, Fault::None)),
+                clients: setup.clients as usize,
                 reported: BTreeMap::new(),
             });
         }
@@ -59,6 +60,7 @@ impl Lists {
         self.lists += 1;
         self.with_drops += u64::from(list.has_drops());
         self.with_idle += u64::from(list.idle > 0);
+        self.with_closed += u64::from(list.closed > 0);
         self.with_refused += u64::from(list.refused > 0);
         let (size, again) = (list.plan.size(), list.plan.backwards().size());
         if size == again {
@@ -69,17 +71,23 @@ impl Lists {
     }
 
     pub fn fewest_of_a_kind(&self) -> u64 {
-        let kinds = [self.with_drops, self.with_idle, self.with_refused, self.sums];
+        let kinds = [
+            self.with_drops,
+            self.with_idle,
+            self.with_closed,
+            self.with_refused,
+            self.sums,
+        ];
         kinds.into_iter().min().unwrap_or_default()
     }
 }
 
 impl Display for Lists {
     fn fmt(&self, f: &mut Formatter) -> fmt::Result {
-        let [drops, idle, refused] = [self.with_drops, self.with_idle, self.with_refused];
+        let [drops, idle, closed, refused] = [self.with_drops, self.with_idle, self.with_closed, self.with_refused];
         writeln!(
             f,
-            "demand 3: {} lists, {drops} with drops, {idle} with idle ticks, {refused} with refused calls",
+            "demand 3: {} lists, {drops} with drops, {idle} with idle ticks, {closed} with closed ones, {refused} with refused calls",
             self.lists
         )?;
         write!(

@@ -1,9 +1,12 @@
 //! The exported calls held to the model: after each call its answer, the head, every record of both tables and the output.
 use crate::calls;
-use crate::model::{Answer, Call, Counts, Fault, Queue};
-use crate::shifts::Shifts;
+use crate::counted::hours::{Before, Hours};
+use crate::counted::shifts::Shifts;
+use crate::counted::tally::Tally;
+use crate::model::calls::{CHART, OPENED};
+use crate::model::tables::{Head, Request};
+use crate::model::{Answer, Call, Counts, Fault, Queue, Week, REFUSED};
 use crate::tables::{Client, Tables, Values, WIDTH};
-use crate::tally::Tally;
 use std::fmt::Debug;
 
 // What stands in values and in outputs before a call, and is no number that one writes.
@@ -18,6 +21,7 @@ pub fn queue_of(tables: &Tables) -> Queue {
     });
     Queue {
         head: tables.head,
+        hours: tables.hours,
         records: tables.waiting.clone(),
         clients: counts.collect(),
         odd_numbers: tables.client_numbers.len() % WIDTH,
@@ -28,6 +32,7 @@ pub fn queue_of(tables: &Tables) -> Queue {
 // Writes what the model holds over the tables that it was taken from; numbers behind the last whole record stay.
 fn write(queue: &Queue, tables: &mut Tables) {
     tables.head = queue.head;
+    tables.hours = queue.hours;
     tables.waiting.copy_from_slice(&queue.records);
     for (client, counts) in tables.clients_mut().iter_mut().zip(&queue.clients) {
         *client = Client {
@@ -47,7 +52,7 @@ fn lent_for(call: &Call) -> (Vec<u64>, Values) {
 // Makes the exported call.
 fn make(tables: &mut Tables, call: &Call, output: &mut [u64], values: &mut Values) -> u64 {
     match *call {
-        Call::Open { clients, period } => calls::open(tables, clients, period, values),
+        Call::Open { setup, hours } => calls::open(tables, &setup, &hours, values),
         Call::Submit { client, deadline } => calls::submit(tables, client, deadline, values),
         Call::Tick => calls::tick(tables, values),
         Call::Report { client } => calls::report(tables, client, values),
@@ -66,6 +71,7 @@ pub struct Held {
     pub held: u64,
     pub tally: Tally,
     pub shifts: Shifts,
+    pub hours: Hours,
 }
 
 impl Held {
@@ -79,6 +85,7 @@ impl Held {
             held: 0,
             tally: Tally::default(),
             shifts: Shifts::default(),
+            hours: Hours::default(),
         }
     }
 
@@ -114,7 +121,7 @@ impl Held {
         }
         let (mut output, mut values) = lent_for(call);
         let (mut drawn, mut expected) = lent_for(call);
-        let waiting = self.queue.waiting().to_vec();
+        let before = (self.queue.head, self.queue.week(), self.queue.waiting().to_vec());
         let kind = make(&mut self.lent, call, &mut output, &mut values);
         let answer = self.queue.make(call, &mut drawn);
         write(&self.queue, &mut self.expected);
@@ -125,7 +132,9 @@ impl Held {
         expected[..answer.len() - 1].copy_from_slice(&answer[1..]);
         let is_same = kind == answer[0] && values == expected && output == drawn && self.lent == self.expected;
         if is_same {
+            let (head, week, waiting) = before;
             self.shifts.count(&waiting, call, &answer)?;
+            self.count_hours(head, week, &waiting, call, &answer, &output);
             return Ok(answer);
         }
         let tables = self.tables_differ().or(differ("output", &drawn, &output));
@@ -133,9 +142,32 @@ impl Held {
         Err(format!("{call:?}: answer\n{answers}\n{}", tables.unwrap_or_default()))
     }
 
+    // Of a call that was not refused. Neighbours on the chart that touch stand for a segment.
+    fn count_hours(&mut self, head: Head, week: Week, waiting: &[Request], call: &Call, answer: &[u64], output: &[u64]) {
+        let starts = match *answer {
+            [REFUSED, _] | [OPENED] => return,
+            [CHART, count] => &output[..count as usize],
+            _ => &[],
+        };
+        let do_touch = |pair: &&[u64]| (pair[0] + 1..pair[1]).all(|slot| !week.is_open(slot));
+        let touching: Vec<(u64, u64)> = starts
+            .windows(2)
+            .filter(do_touch)
+            .map(|pair| (pair[0], pair[1] + 1))
+            .collect();
+        let before = Before {
+            setup: head.setup,
+            week,
+            clock: head.clock,
+            waiting,
+        };
+        self.hours.count(&before, call, answer, &touching);
+    }
+
     fn tables_differ(&self) -> Option<String> {
         let (expected, came) = (&self.expected, &self.lent);
         differ("head", &[expected.head], &[came.head])
+            .or(differ("hours", &[expected.hours], &[came.hours]))
             .or(differ("waiting", &expected.waiting, &came.waiting))
             .or(differ("clients", expected.clients(), came.clients()))
             .or(differ("client numbers", &expected.client_numbers, &came.client_numbers))

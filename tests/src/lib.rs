@@ -1,6 +1,7 @@
 //! What the test programs and the benchmark share: the slow model; tables that are lent and the exported calls over them, alone
-//! (`calls`) and beside the model (`held`); session frames; damages; random sessions and tables.
+//! (`calls`) and beside the model (`held`); session frames; damages; random sessions and tables; how often each case came.
 pub mod calls;
+pub mod counted;
 pub mod damages;
 pub mod demand_3;
 pub mod frames;
@@ -8,6 +9,6 @@ pub mod held;
 pub mod model;
 pub mod program;
 pub mod random;
-pub mod shifts;
 pub mod tables;
-pub mod tally;
+
+pub use counted::tally;

@@ -3,12 +3,15 @@
 use bench::agree::agree;
 use bench::fail;
 use bench::measure::{clock, measure, ratios, Row, ROUNDS};
-use bench::timed::{calls, growing};
-use tests::tables::{Head, MOST_CLIENTS, MOST_RECORDS};
+use bench::timed::{calls, calls_with_hours, growing};
+use tests::tables::{Head, Setup, MOST_CLIENTS, MOST_RECORDS};
 
 // For tables of many lengths.
 const LENGTHS: [usize; 7] = [1, 4, 16, 64, 256, 1_024, MOST_RECORDS];
 const CLIENTS: usize = 4;
+
+// For tables with every second hour closed.
+const PER_HOUR: [u64; 4] = [1, 16, 360, 3_600];
 
 fn print_method() {
     println!();
@@ -35,7 +38,7 @@ fn print_noise(rows: &[Row]) {
 
 fn compare() {
     println!();
-    println!("Tables of {MOST_RECORDS} records. Where a submit comes one of them is free, since a full table would refuse it.");
+    println!("Tables of {MOST_RECORDS} records, all hours open. Where a submit comes one of them is free, since a full table would refuse it.");
     println!("                            waiting  clients   proved    tuned    floor  proved:tuned  proved:floor");
     let rows = measure([1, MOST_CLIENTS].into_iter().flat_map(calls));
     for row in &rows {
@@ -51,9 +54,34 @@ fn compare() {
     print_noise(&rows);
 }
 
+fn compare_with_hours() {
+    println!();
+    println!("Tables of {MOST_RECORDS} records, every second hour closed, and deadlines in closed hours too.");
+    println!("                        slots an hour  clients   proved    tuned    floor  proved:tuned  proved:floor");
+    let sizes = PER_HOUR.map(|slots_per_hour| [(slots_per_hour, 1), (slots_per_hour, MOST_CLIENTS)]);
+    let timed = sizes
+        .into_iter()
+        .flatten()
+        .flat_map(|(slots_per_hour, clients)| calls_with_hours(slots_per_hour, clients));
+    let rows = measure(timed);
+    for row in &rows {
+        let Setup {
+            clients, slots_per_hour, ..
+        } = row.timed.tables.head.setup;
+        let [proved, tuned, floor] = row.least();
+        let [to_tuned, to_floor] = ratios(row.least());
+        print!(
+            "{:28}{slots_per_hour:9}  {clients:7} {proved:8.0} {tuned:8.0} {floor:8.0}",
+            row.timed.name
+        );
+        println!("  {to_tuned:12.2}  {to_floor:12.2}");
+    }
+    print_noise(&rows);
+}
+
 fn grow() {
     println!();
-    println!("Tables of other lengths, {CLIENTS} clients. All records wait, but for one that is free where a submit comes.");
+    println!("Tables of other lengths, {CLIENTS} clients, all hours open. All records wait, but for one that is free where a submit comes.");
     println!("                                       nanoseconds            nanoseconds a record");
     println!(
         "                            records   proved    tuned    floor   proved    tuned    floor  proved:tuned  proved:floor"
@@ -78,6 +106,7 @@ fn main() {
             agree();
             print_method();
             compare();
+            compare_with_hours();
             grow();
         }
         Some("agree") => agree(),

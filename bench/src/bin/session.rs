@@ -3,12 +3,12 @@
 //   serve floor      is the one over calls that trust them
 //   agree PROGRAM    holds the program to those by hand, byte by byte, on short sessions
 //   time PROGRAM     does so on long busy ones, and says how long each takes
-use bench::busy::session;
+use bench::busy::{session, Station};
+use bench::by_hand::floor::Floor;
+use bench::by_hand::tuned::Tuned;
 use bench::fail;
-use bench::floor::Floor;
 use bench::measure::ratios;
 use bench::serve::{serve, SEGMENT};
-use bench::tuned::Tuned;
 use std::env::{args, current_exe};
 use std::fs::{read, write, File};
 use std::path::PathBuf;
@@ -18,8 +18,17 @@ use tests::random::{self, Random};
 use tests::tables::*;
 use tests::tally::Tally;
 
-// Busy sessions: their records and clients, and how many frames they have.
-const BUSY: [(u16, u16); 2] = [(16, 4), (2_048, 256)];
+// Busy sessions, and how many frames they have.
+const BUSY: [Station; 3] = [
+    Station::new(16, 4),
+    Station::new(2_048, 256),
+    Station::new(2_048, 256).every_second_closed(360),
+];
+// Others that are not timed, with hours of few slots.
+const HELD: [Station; 2] = [
+    Station::new(16, 4).every_second_closed(1),
+    Station::new(200, 5).every_second_closed(16),
+];
 const SHORT: usize = 20_000;
 const LONG: usize = 1_000_000;
 const ROUNDS: usize = 9;
@@ -28,9 +37,9 @@ const ROUNDS: usize = 9;
 const SEED: u64 = 1_912;
 const RANDOM: u64 = 300;
 
-const KINDS: [u64; 8] = [OPENED, KEPT, DROPPED, SERVED, IDLE, REPORT, SEGMENT, CHART];
+const KINDS: [u64; 9] = [OPENED, KEPT, DROPPED, SERVED, IDLE, REPORT, SEGMENT, CHART, CLOSED];
 // the others cannot occur in a session as short as these
-const REFUSALS: [u64; 7] = [1, 2, 3, 4, 6, 7, 10];
+const REFUSALS: [u64; 10] = [1, 2, 3, 4, 6, 7, 10, 13, 14, 15];
 
 // One that answers a session: the proved program, or this one by hand.
 struct Program {
@@ -140,16 +149,14 @@ fn count(tally: &mut Tally, answers: &[u8]) {
 }
 
 fn agree(programs: &Programs) {
-    let busy = BUSY.map(|(records, clients)| session(records, clients, SHORT));
+    let busy = BUSY.iter().chain(&HELD).map(|station| session(station, SHORT));
     let others = (0..RANDOM).map(|i| random::session::session(Random::of_part(SEED, i), i == 0));
     let mut tally = Tally::default();
-    for input in busy.into_iter().chain(others) {
+    for input in busy.chain(others) {
         count(&mut tally, &agreed(programs, &input));
     }
-    println!(
-        "{} busy sessions and {RANDOM} random ones: all agree on every byte\n{tally}",
-        BUSY.len()
-    );
+    let count = BUSY.len() + HELD.len();
+    println!("{count} busy sessions and {RANDOM} random ones: all agree on every byte\n{tally}");
     let missing = tally.missing(&KINDS, &REFUSALS);
     if !missing.is_empty() {
         fail(&format!("{missing:?}"));
@@ -175,16 +182,21 @@ fn compare(programs: &Programs) {
     println!(
         "Frames a second in busy sessions of {LONG} frames, read from a file, the answers thrown away; the best of {ROUNDS}"
     );
-    println!("runs in turn. The ratios are of times. First all have to give the same answers, byte by byte.");
-    println!("records  clients    proved     tuned     floor  proved:tuned  proved:floor");
+    println!(
+        "runs in turn. The ratios are of times. First all have to give the same answers, byte by byte. Where half of the hours"
+    );
+    println!("are open, every second one is closed, of 360 slots each.");
+    println!("records  clients    hours    proved     tuned     floor  proved:tuned  proved:floor");
     let mut noise = 0.0;
-    for (records, clients) in BUSY {
-        agreed(programs, &session(records, clients, LONG));
+    for station in BUSY {
+        agreed(programs, &session(&station, LONG));
         let times = times(programs);
         let best = times.map(|sorted| sorted[0]);
         let [proved, tuned, floor] = best.map(|seconds| LONG as f64 / seconds);
         let [to_tuned, to_floor] = ratios(best);
-        println!("{records:7}  {clients:7} {proved:9.0} {tuned:9.0} {floor:9.0}  {to_tuned:12.2}  {to_floor:12.2}");
+        let Station { records, clients, week } = station;
+        let hours = if week.marks == [0xFF; 21] { "all open" } else { "half" };
+        println!("{records:7}  {clients:7} {hours:>8} {proved:9.0} {tuned:9.0} {floor:9.0}  {to_tuned:12.2}  {to_floor:12.2}");
         noise = times
             .iter()
             .map(|sorted| sorted[ROUNDS / 2] / sorted[0] - 1.0)

@@ -1,21 +1,31 @@
 //! `welsbell run`: a session in words, answered line by line.
 use crate::failure::{wrong_line, Failure};
 use crate::session::follow::Followed;
-use crate::lines::frames::CALLS;
+use crate::lines::frames::{Kind, CALLS};
 use crate::lines::input::Input;
+use crate::lines::words::HOURS;
 use crate::said::say;
 use crate::session::{Asked, Language, Session, Turn};
 use std::io::{stdout, IsTerminal, Write};
 
 const PROMPT: &str = "> ";
 
+/// How a call is written, and below it how with what may follow.
+fn forms(kind: &Kind) -> String {
+    let more = HOURS.iter().filter(|_| !kind.usual.is_empty()).map(|more| format!("  {} .. {more}\n", kind.name()));
+    [format!("  {}\n", kind.form())].into_iter().chain(more).collect()
+}
+
 /// What `help` says.
 fn help() -> String {
-    let forms: Vec<String> = CALLS.iter().map(|kind| format!("  {}", kind.form())).collect();
+    let forms: String = CALLS.iter().map(forms).collect();
     format!(
-        "One call a line:\n{}\nA deadline is a slot counted from the open: a read by 2 has to be served in slot 0 or 1.\n\
-         Frames are understood too. A line that begins with # is a comment. `quit` ends.",
-        forms.join("\n")
+        "One call a line:\n{forms}\
+         A deadline is a slot counted from the open: a read by 2 has to be served in slot 0 or 1.\n\
+         An hour is SLOTS slots, and hour 0 begins with the open. HOURS are hours of the week, 0 to\n\
+         167, as in 6-7,30: with `closed` these are closed and all others open, with `open` these\n\
+         alone are open, and so again each week. Without HOURS every hour is open.\n\
+         Frames are understood too. A line that begins with # is a comment. `quit` ends."
     )
 }
 

@@ -6,6 +6,9 @@ const COLOURS: [&str; 10] = [
     "#0072b2", "#e69f00", "#009e73", "#cc79a7", "#56b4e9", "#d55e00", "#b8a500", "#6a3d9a", "#7f7f7f", "#8c510a",
 ];
 
+/// So far apart are slanting lines.
+const HATCH: f64 = 6.0;
+
 pub fn colour(client: usize) -> &'static str {
     COLOURS[client % COLOURS.len()]
 }
@@ -81,6 +84,20 @@ impl Svg {
         self.add("path", &[("d", &outlines), ("fill", &fill)], "");
     }
 
+    /// A rectangle filled with slanting lines.
+    pub fn hatch(&mut self, (x, y): (f64, f64), (width, height): (f64, f64), stroke: &str) {
+        let steps = (0..).map(|step| HATCH * (f64::from(step) + 0.5) - height).take_while(|&start| start < width);
+        let line = |start: f64| {
+            // From the lower edge to the upper, as far as it lies within the rectangle.
+            let (from, to) = ((-start).max(0.0), (width - start).min(height));
+            let ends = [(x + start + from, y + height - from), (x + start + to, y + height - to)];
+            let [(x1, y1), (x2, y2)] = ends.map(|(x, y)| (rounded(x), rounded(y)));
+            format!("M{x1} {y1}L{x2} {y2}")
+        };
+        let lines: String = steps.map(line).collect();
+        self.add("path", &[("d", &lines), ("stroke", &stroke), ("fill", &"none")], "");
+    }
+
     /// What is drawn meanwhile has a title, which is shown to whoever points at it.
     pub fn titled(&mut self, title: &str, draw: impl FnOnce(&mut Svg)) {
         let _ = write!(self.body, "<g><title>{}</title>", escaped(title));
@@ -109,6 +126,17 @@ fn rounded(value: f64) -> f64 {
 #[cfg(test)]
 mod tests {
     use super::*;
+
+    #[test]
+    fn slanting_lines_stay_within_their_rectangle() {
+        let mut svg = Svg::new(100.0, 100.0, "");
+        svg.hatch((10.0, 20.0), (36.0, 30.0), "#000000");
+        let drawn = svg.drawing();
+        let lines = drawn.split("d=\"M").nth(1).and_then(|part| part.split('"').next()).unwrap_or_default();
+        let ends: Vec<f64> = lines.split(['M', 'L', ' ']).map(|number| number.parse().unwrap()).collect();
+        assert!(ends.chunks(2).all(|end| (10.0..=46.0).contains(&end[0]) && (20.0..=50.0).contains(&end[1])), "{lines}");
+        assert_eq!(ends.len(), 4 * 11);
+    }
 
     #[test]
     fn text_is_no_markup() {

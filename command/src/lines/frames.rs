@@ -1,6 +1,8 @@
 //! The one table of the session's frames: kinds, fields with their widths in bytes, and words. What reads, writes, says or explains
-//! a line goes by it, so that a frame with another number in it is a change here. A field is a number of at most 8 bytes.
+//! a line goes by it, so that a frame with another number in it is a change here. A field is a number of at most 8 bytes, or the marks
+//! of the week's hours.
 use crate::lines::input::LONGEST;
+use crate::lines::marks::{Marks, BYTES};
 use crate::numbers::grouped;
 use std::fmt::{self, Display, Formatter};
 use std::ops::Index;
@@ -19,6 +21,7 @@ pub const IDLE: u8 = 0x85;
 pub const REPORTED: u8 = 0x86;
 pub const SEGMENT: u8 = 0x87;
 pub const CHARTED: u8 = 0x88;
+pub const CLOSED: u8 = 0x89;
 pub const REFUSED: u8 = 0xFF;
 
 /// A kind of frame. Its words are what a person writes for a call and reads for an answer: a name in braces stands for the value of
@@ -28,25 +31,32 @@ pub struct Kind {
     pub byte: u8,
     pub fields: &'static [(&'static str, usize)],
     pub words: &'static str,
+    /// Words for the last fields, which are left out where these have their usual values.
+    pub more: &'static str,
+    pub usual: &'static [Value],
 }
 
 const fn kind(byte: u8, fields: &'static [(&'static str, usize)], words: &'static str) -> Kind {
-    Kind { byte, fields, words }
+    Kind { byte, fields, words, more: "", usual: &[] }
 }
 
 pub static CALLS: [Kind; 5] = [
-    kind(
-        OPEN,
-        &[("clients", 2), ("period", 4), ("records", 2)],
-        "open clients {clients} period {period} records {records}",
-    ),
+    Kind {
+        byte: OPEN,
+        fields: &[("clients", 2), ("period", 4), ("records", 2), ("hour", 4), ("marks", BYTES)],
+        words: "open clients {clients} period {period} records {records}",
+        // The marks have a space before them, where there is something to say of them.
+        more: " hour {hour}{marks}",
+        // Document 01's setting: every hour is open, and then it is all one how long an hour is.
+        usual: &[Value::Number(1), Value::Marks(Marks::ALL_OPEN)],
+    },
     kind(SUBMIT, &[("client", 2), ("deadline", 8)], "submit {client} by {deadline}"),
     kind(TICK, &[], "tick"),
     kind(REPORT, &[("client", 2)], "report {client}"),
     kind(CHART, &[], "chart"),
 ];
 
-pub static ANSWERS: [Kind; 9] = [
+pub static ANSWERS: [Kind; 10] = [
     kind(OPENED, &[], "opened"),
     kind(
         KEPT,
@@ -71,6 +81,7 @@ pub static ANSWERS: [Kind; 9] = [
     ),
     kind(SEGMENT, &[("left", 8), ("right", 8)], "[{left}, {right}]"),
     kind(CHARTED, &[("count", 2)], "segments: {count}"),
+    kind(CLOSED, &[("slot", 8)], "slot {slot}: closed"),
     kind(REFUSED, &[("number", 1)], "refused, {number}"),
 ];
 
@@ -83,6 +94,12 @@ impl Kind {
     /// How many digits its frame has.
     pub fn digits(&self) -> usize {
         2 + self.fields.iter().map(|(_, width)| 2 * width).sum::<usize>()
+    }
+
+    /// How many bytes its field of this name has.
+    pub fn width(&self, name: &str) -> usize {
+        let field = self.fields.iter().find(|(field, _)| *field == name);
+        field.map_or(0, |(_, width)| *width)
     }
 
     /// Its words with the fields' names in capitals, as a person is told what to write.
@@ -100,31 +117,79 @@ pub fn most(width: usize) -> u64 {
     u64::MAX >> (64 - 8 * width)
 }
 
+/// The value of a field.
+#[derive(Clone, Copy, Debug, PartialEq, Eq)]
+pub enum Value {
+    Number(u64),
+    Marks(Marks),
+}
+
+impl Value {
+    /// Only marks have more bytes than a number.
+    fn of_bytes(bytes: &[u8]) -> Value {
+        match bytes.len() {
+            BYTES => Value::Marks(Marks::of_bytes(bytes)),
+            _ => Value::Number(bytes.iter().fold(0, |value, &byte| value << 8 | u64::from(byte))),
+        }
+    }
+
+    /// Its digits in a field of so many bytes.
+    fn line(&self, width: usize) -> String {
+        match self {
+            Value::Number(number) => format!("{number:0digits$X}", digits = 2 * width),
+            Value::Marks(marks) => marks.line(),
+        }
+    }
+
+    fn words(&self) -> String {
+        match self {
+            Value::Number(number) => number.to_string(),
+            Value::Marks(marks) => marks.words(),
+        }
+    }
+}
+
 /// A frame: its kind and a value for each field.
 #[derive(Clone, Debug)]
 pub struct Frame {
     kind: &'static Kind,
-    values: Vec<u64>,
+    values: Vec<Value>,
 }
 
 impl Index<&str> for Frame {
     type Output = u64;
 
     fn index(&self, name: &str) -> &u64 {
-        let place = self.kind.fields.iter().position(|(field, _)| *field == name);
-        &self.values[place.expect("a field of this kind of frame")]
+        match self.value(name) {
+            Value::Number(number) => number,
+            Value::Marks(_) => panic!("{name} is no number"),
+        }
     }
 }
 
 impl Frame {
-    pub fn new(kind: &'static Kind, values: Vec<u64>) -> Frame {
+    pub fn new(kind: &'static Kind, values: Vec<Value>) -> Frame {
         Frame { kind, values }
     }
 
-    /// The call of this kind, with these values in the order of its fields.
-    pub fn call(byte: u8, values: &[u64]) -> Frame {
-        let kind = CALLS.iter().find(|kind| kind.byte == byte);
-        Frame::new(kind.expect("a kind of call"), values.to_vec())
+    /// The call of this kind, with these numbers in the order of its fields; the fields behind them have their usual values.
+    pub fn call(byte: u8, numbers: &[u64]) -> Frame {
+        let kind = CALLS.iter().find(|kind| kind.byte == byte).expect("a kind of call");
+        let numbers = numbers.iter().map(|&number| Value::Number(number));
+        Frame::new(kind, numbers.chain(kind.usual.iter().copied()).collect())
+    }
+
+    fn value(&self, name: &str) -> &Value {
+        let place = self.kind.fields.iter().position(|(field, _)| *field == name);
+        &self.values[place.expect("a field of this kind of frame")]
+    }
+
+    /// The marks of an open.
+    pub fn marks(&self) -> Marks {
+        match self.value("marks") {
+            Value::Marks(marks) => *marks,
+            Value::Number(_) => panic!("marks are no number"),
+        }
     }
 
     pub fn kind(&self) -> u8 {
@@ -139,8 +204,8 @@ impl Frame {
         if line.len() != kind.digits() {
             return Err(NoFrame::Length(kind, line.len()));
         }
-        let mut rest = rest.iter();
-        let field = |(_, width): &(&str, usize)| rest.by_ref().take(*width).fold(0, |value, &byte| value << 8 | u64::from(byte));
+        let mut rest = rest.iter().copied();
+        let field = |(_, width): &(&str, usize)| Value::of_bytes(&rest.by_ref().take(*width).collect::<Vec<u8>>());
         Ok(Frame::new(kind, kind.fields.iter().map(field).collect()))
     }
 
@@ -148,7 +213,7 @@ impl Frame {
     pub fn line(&self) -> String {
         let mut line = format!("{:02X}", self.kind.byte);
         for (value, (_, width)) in self.values.iter().zip(self.kind.fields) {
-            line += &format!("{value:0digits$X}", digits = 2 * width);
+            line += &value.line(*width);
         }
         line
     }
@@ -156,8 +221,11 @@ impl Frame {
     /// Its words with its values in them.
     pub fn words(&self) -> String {
         let mut words = self.kind.words.to_string();
+        if !self.values.ends_with(self.kind.usual) {
+            words += self.kind.more;
+        }
         for (value, (name, _)) in self.values.iter().zip(self.kind.fields) {
-            words = words.replace(&format!("{{{name}}}"), &value.to_string());
+            words = words.replace(&format!("{{{name}}}"), &value.words());
         }
         words
     }
@@ -239,8 +307,10 @@ impl Display for NoFrame {
 mod tests {
     use super::*;
 
+    /// The names that stand in its words.
     fn named(kind: &Kind) -> Vec<&str> {
-        kind.words.split('{').skip(1).filter_map(|part| part.split('}').next()).collect()
+        let parts = [kind.words, kind.more].into_iter().flat_map(|words| words.split('{').skip(1));
+        parts.filter_map(|part| part.split('}').next()).collect()
     }
 
     fn fields(kind: &Kind) -> Vec<&str> {
@@ -261,6 +331,37 @@ mod tests {
             names
         };
         ANSWERS.iter().for_each(|kind| assert_eq!(sorted(named(kind)), sorted(fields(kind))));
+    }
+
+    const SMALL: &str = "0100010000000A000800000002A00000000000000000000000000000000000000000";
+
+    #[test]
+    fn an_open_has_its_hours() {
+        let open = Frame::read(SMALL.as_bytes(), &CALLS).unwrap();
+        assert_eq!((open["clients"], open["period"], open["records"], open["hour"]), (1, 10, 8, 2));
+        assert_eq!(open.marks(), Marks::read("0,2", true).unwrap());
+        assert_eq!((open.words().as_str(), open.line().as_str()), ("open clients 1 period 10 records 8 hour 2 open 0,2", SMALL));
+    }
+
+    #[test]
+    fn usual_hours_are_not_said() {
+        let said = |hours: &str| Frame::read(format!("010001000000640008{hours}").as_bytes(), &CALLS).unwrap().words();
+        let open = "FF".repeat(BYTES);
+        assert_eq!(said(&format!("00000001{open}")), "open clients 1 period 100 records 8");
+        assert_eq!(said(&format!("00000168{open}")), "open clients 1 period 100 records 8 hour 360");
+        assert_eq!(said(&format!("00000001{}", "00".repeat(BYTES))), "open clients 1 period 100 records 8 hour 1 closed 0-167");
+        assert_eq!(Frame::call(OPEN, &[1, 100, 8]).line(), format!("01000100000064000800000001{open}"));
+    }
+
+    /// Each number has its field, and the rest have their usual values.
+    #[test]
+    fn usual_values_are_those_of_the_last_fields() {
+        for kind in &CALLS {
+            let is_of = |((_, width), value): (&(&str, usize), &Value)| (*width == BYTES) == matches!(value, Value::Marks(_));
+            let last = &kind.fields[kind.fields.len() - kind.usual.len()..];
+            assert!(last.iter().zip(kind.usual).all(is_of));
+            assert!(last.iter().all(|(name, _)| kind.more.contains(&format!("{{{name}}}"))));
+        }
     }
 
     #[test]

@@ -11,7 +11,16 @@ const NAMED: usize = 12;
 pub fn opened(line: u64, followed: &Followed) -> String {
     let clients = counted(followed.clients.len() as u64, "client");
     let records = counted(followed.records, "waiting record");
-    format!("Opened in line {}: {clients}, period {}, {records}.", grouped(line), grouped(followed.period))
+    let hours = followed.hours.said();
+    format!("Opened in line {}: {clients}, period {}, {records}.{hours}", grouped(line), grouped(followed.period))
+}
+
+/// How many slots were closed, to stand behind how many were idle; nothing where every hour is open.
+pub fn closed(slots: u64, followed: &Followed) -> String {
+    match followed.hours.has_closed() {
+        true => format!(", {} closed", grouped(slots)),
+        false => String::new(),
+    }
 }
 
 /// What a turn asked, in words where it is a call.
@@ -90,6 +99,12 @@ pub fn reason(turn: &Turn, number: u64, followed: &Followed) -> String {
         (9, _) => "the last request number, 281,474,976,710,655, has been given".into(),
         (10, _) => format!("the waiting table is full; it has {}", counted(followed.records, "record")),
         (11, _) => "the clock is at its end, 281,474,976,710,655".into(),
+        (13, _) => "the slots per hour are not 1 to 360,000".into(),
+        (14, _) => "all hours are closed".into(),
+        (15, _) => {
+            let (clock, next) = (grouped(followed.clock), grouped(followed.hours.next_open(followed.clock)));
+            format!("no slot from the clock to the deadline is open; the clock is at {clock}, and the next open slot is {next}")
+        }
         _ => "a refusal that this command does not know".into(),
     }
 }
@@ -99,6 +114,8 @@ mod tests {
     use super::*;
     use crate::lines::frames::{ANSWERS, SUBMIT};
     use crate::lines::input::Line;
+    use crate::lines::marks::Marks;
+    use crate::session::hours::Hours;
 
     /// A submit that was refused.
     fn turn() -> Turn {
@@ -115,10 +132,19 @@ mod tests {
             (8, "the client has submitted 268,435,455 reads"),
             (9, "the last request number, 281,474,976,710,655,"),
             (11, "the clock is at its end, 281,474,976,710,655"),
+            (13, "the slots per hour are not 1 to 360,000"),
+            (14, "all hours are closed"),
             (200, "a refusal that this command does not know"),
         ] {
             assert!(reason(&turn(), number, &followed).contains(said), "{number}");
         }
+    }
+
+    #[test]
+    fn a_read_without_an_open_slot_is_told_the_next_one() {
+        let hours = Hours::new(1_000, Marks::read("0,2", true).unwrap());
+        let followed = Followed { clock: 1_500, hours, ..Followed::default() };
+        assert!(reason(&turn(), 15, &followed).ends_with("the clock is at 1,500, and the next open slot is 2,000"));
     }
 
     #[test]

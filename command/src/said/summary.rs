@@ -5,20 +5,16 @@ use crate::said::say;
 use std::collections::BTreeMap;
 use std::fmt::{self, Display, Formatter};
 
-/// A run of slots in each of which a read was served.
+/// A run of slots in each of which a read was served. Closed slots may lie between them, as they may in a segment.
 #[derive(Clone, Copy, Default)]
 struct Stretch {
     first: u64,
     /// The slot behind the last.
     end: u64,
+    /// Without the closed ones.
+    slots: u64,
     served: u64,
     dropped: u64,
-}
-
-impl Stretch {
-    fn slots(&self) -> u64 {
-        self.end - self.first
-    }
 }
 
 #[derive(Default)]
@@ -26,6 +22,7 @@ pub struct Summary {
     /// The line of the open.
     line: u64,
     idle: u64,
+    closed: u64,
     longest: Option<(u64, Read)>,
     stretch: Stretch,
     busiest: Stretch,
@@ -51,8 +48,17 @@ impl Summary {
                 self.stretch = Stretch::default();
                 self.dropped = 0;
             }
+            Event::Closed { .. } => self.pass_closed(),
             Event::Refused(number) => *self.refused.entry(*number).or_default() += 1,
             _ => {}
+        }
+    }
+
+    /// Drops in a closed slot belong to the stretch that it lies in, if it goes on behind it.
+    fn pass_closed(&mut self) {
+        self.closed += 1;
+        if self.stretch.served == 0 {
+            self.dropped = 0;
         }
     }
 
@@ -63,11 +69,12 @@ impl Summary {
         if self.stretch.served == 0 {
             self.stretch.first = slot;
         }
+        self.stretch.slots += u64::from(self.stretch.end <= slot);
         self.stretch.end = slot + 1;
         self.stretch.served += 1;
         self.stretch.dropped += std::mem::take(&mut self.dropped);
         // One that has begun in the same slot is the same one.
-        if self.stretch.slots() > self.busiest.slots() || self.stretch.first == self.busiest.first {
+        if self.stretch.slots > self.busiest.slots || self.stretch.first == self.busiest.first {
             self.busiest = self.stretch;
         }
     }
@@ -126,7 +133,7 @@ impl Shown<'_> {
             "Longest wait: {wait}, number {} of client {}, submitted at clock {} and served in slot {slot}.",
             read.number, read.client, read.since
         )?;
-        let Stretch { first, end, served, dropped } = self.summary.busiest;
+        let Stretch { first, end, served, dropped, .. } = self.summary.busiest;
         let (last, reads) = (end - 1, counted(served, "read"));
         writeln!(
             f,
@@ -162,8 +169,9 @@ impl Display for Shown<'_> {
             return self.write_refused(f);
         }
         let slots = counted(followed.clock, "slot");
+        let closed = say::closed(summary.closed, followed);
         writeln!(f, "{}", say::opened(summary.line, followed))?;
-        writeln!(f, "{slots} passed, {} of them idle.", grouped(summary.idle))?;
+        writeln!(f, "{slots} passed, {} of them idle{closed}.", grouped(summary.idle))?;
         self.write_clients(f)?;
         self.write_shifts(f)?;
         self.write_longest(f)?;
@@ -174,12 +182,14 @@ impl Display for Shown<'_> {
 #[cfg(test)]
 mod tests {
     use super::*;
+    use crate::lines::marks::Marks;
+    use crate::session::hours::Hours;
 
-    /// What is left of events, each of which is a drop, an idle slot or a read that is served.
+    /// What is left of events, each of which is a drop, an idle or closed slot or a read that is served.
     fn busiest(events: &[Event]) -> (u64, u64, u64, u64) {
         let mut summary = Summary::default();
         events.iter().for_each(|event| summary.take(event));
-        let Stretch { first, end, served, dropped } = summary.busiest;
+        let Stretch { first, end, served, dropped, .. } = summary.busiest;
         (first, end, served, dropped)
     }
 
@@ -199,6 +209,35 @@ mod tests {
     fn drops_belong_to_the_slot_that_comes() {
         let dropped = || Event::Dropped(READ, READ);
         assert_eq!(busiest(&[dropped(), Event::Idle { slot: 0 }, dropped(), served(1), dropped()]), (1, 2, 1, 1));
+    }
+
+    #[test]
+    fn a_stretch_goes_on_behind_closed_slots_and_is_no_longer_for_them() {
+        let closed = |slot: u64| Event::Closed { slot };
+        let three = [served(0), closed(1), closed(2), served(3), Event::Idle { slot: 4 }, served(5), served(6), served(7)];
+        assert_eq!(busiest(&three), (5, 8, 3, 0));
+        assert_eq!(busiest(&three[..5]), (0, 4, 2, 0));
+        assert_eq!(busiest(&[served(0), closed(1)]), (0, 1, 1, 0));
+    }
+
+    #[test]
+    fn drops_in_closed_slots_belong_to_the_stretch_around_them() {
+        let dropped = || Event::Dropped(READ, READ);
+        let closed = |slot: u64| Event::Closed { slot };
+        assert_eq!(busiest(&[dropped(), closed(0), served(1), dropped(), closed(2), served(3), dropped(), closed(4)]), (1, 4, 2, 1));
+    }
+
+    #[test]
+    fn closed_slots_are_counted_where_hours_are_closed() {
+        let said = |open: &str| {
+            let hours = Hours::new(2, Marks::read(open, true).unwrap());
+            let followed = Followed { is_open: true, clock: 3, hours, ..Followed::default() };
+            let mut summary = Summary::default();
+            summary.take(&Event::Closed { slot: 2 });
+            summary.shown(&followed).to_string()
+        };
+        assert!(said("0,2").contains("An hour is 2 slots; 2 of 168 hours are open: 0, 2.\n3 slots passed, 0 of them idle, 1 closed.\n"));
+        assert!(said("0-167").contains("\n3 slots passed, 0 of them idle.\n"));
     }
 
     #[test]

@@ -1,6 +1,7 @@
 //! What the lines and answers of a session show: the reads that wait, the clock, what became of each client's reads. It is read off
 //! the answers of the proved program; nothing is decided here.
-use crate::lines::frames::{Frame, CHARTED, DROPPED, IDLE, KEPT, OPENED, REFUSED, SEGMENT, SERVED, TICK};
+use crate::lines::frames::{Frame, CHARTED, CLOSED, DROPPED, IDLE, KEPT, OPENED, REFUSED, SEGMENT, SERVED, TICK};
+use crate::session::hours::Hours;
 use std::collections::BTreeMap;
 use std::iter::Sum;
 
@@ -49,6 +50,8 @@ pub enum Event {
     Dropped(Read, Read),
     Served { slot: u64, read: Read },
     Idle { slot: u64 },
+    /// The slot belongs to the inspectors, whether or not reads wait.
+    Closed { slot: u64 },
     /// The chart's segments, each from its left end to its right.
     Charted(Vec<(u64, u64)>),
     Refused(u64),
@@ -68,6 +71,7 @@ pub struct Followed {
     pub is_open: bool,
     pub period: u64,
     pub records: u64,
+    pub hours: Hours,
     pub clock: u64,
     /// By number.
     pub waiting: BTreeMap<u64, Read>,
@@ -102,6 +106,7 @@ impl Followed {
             DROPPED => self.drop_one(call, answer),
             SERVED => self.serve(answer),
             IDLE => Event::Idle { slot: answer["slot"] },
+            CLOSED => Event::Closed { slot: answer["slot"] },
             REFUSED => Event::Refused(answer["number"]),
             _ => Event::Other,
         }
@@ -113,6 +118,7 @@ impl Followed {
             is_open: true,
             period: call["period"],
             records: call["records"],
+            hours: Hours::new(call["hour"], call.marks()),
             clients: counts.clone(),
             in_period: counts,
             ..Followed::default()

@@ -1,5 +1,6 @@
 //! A session as it goes: lines in words or frames, each with the answers of the proved program to it.
 pub mod follow;
+pub mod hours;
 pub mod program;
 pub mod progress;
 pub mod watch;

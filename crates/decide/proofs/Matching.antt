@@ -5,20 +5,21 @@ use mathlib.Core.Logic.{_≢_}
 use mathlib.Core.Bool.{Bool, true, false, cond, not, and-false}
 use mathlib.Core.List.{List, [], _∷_, _++_}
 use native.Mathlib.Omega.{arith}
-use borrow.Author.Tests.{le-ltb, lt-ltb, lt-leb, eq-eqb, ne-eqb}
-use lib.Dec.{eqb}
+use borrow.Author.Tests.{le-ltb, lt-ltb, lt-leb, eq-eqb, ne-eqb, ltb-true, ltb-false}
+use lib.Dec.{ltb, eqb}
 use lib.ListN.{length, getD, length-replicate}
 use Rattle.spec.specs.declared.types.Setup.{Setup}
 use Rattle.spec.specs.Tables.{mostAhead, mostCounted, zeroRequest, zeroCounts, State, clientTable}
 use Rattle.spec.specs.Setup.{Refusal, firstMatch}
-use Rattle.spec.specs.Calls.Refusals.{refusal6, refusal7, refusal8, refusal9, refusal10}
+use Rattle.spec.specs.Chart.{roomTo}
+use Rattle.spec.specs.Calls.Refusals.{refusal6, refusal7, refusal15, refusal8, refusal9, refusal10}
 use Rattle.spec.proofs.Laws.Sound.{within-test}
 use Rattle.decide.specs.Refusal.{ofTables}
 
 -- submit's refusals behind 4 and 5
 abbrev pub submitOwn : ℕ → ℕ → State → List Refusal
 submitOwn client deadline s =
-    refusal6 client s ∷ refusal7 deadline s ∷ refusal8 client s ∷ refusal9 s ∷ refusal10 s ∷ []
+    refusal6 client s ∷ refusal7 deadline s ∷ refusal15 deadline s ∷ refusal8 client s ∷ refusal9 s ∷ refusal10 s ∷ []
 
 -- ---- one refusal of a list
 pub match-here : (r : Refusal) (rs : List Refusal) → r .holds ≡ true → r .number ≡ firstMatch (r ∷ rs)
@@ -74,6 +75,15 @@ fails7 : (deadline : ℕ) (s : State) → s .head .clock < deadline → deadline
     → refusal7 deadline s .holds ≡ false
 fails7 deadline s h g = ap not (within-test (suc (s .head .clock)) (s .head .clock + mostAhead) deadline h g)
 
+-- ---- document 02, 2.2: "15, no open slot from the clock to the deadline, after 7"
+holds15 : (deadline : ℕ) (s : State) → ltb 0 (roomTo (s .head) deadline) ≡ false → refusal15 deadline s .holds ≡ true
+holds15 deadline s e =
+    eq-eqb (roomTo (s .head) deadline) 0 (omega (arith, ltb-false 0 (roomTo (s .head) deadline) e))
+
+fails15 : (deadline : ℕ) (s : State) → ltb 0 (roomTo (s .head) deadline) ≡ true → refusal15 deadline s .holds ≡ false
+fails15 deadline s e =
+    ne-eqb (roomTo (s .head) deadline) 0 (λ z. omega (arith, z, ltb-true 0 (roomTo (s .head) deadline) e))
+
 -- ---- submit's, one after the other
 module _ (client deadline : ℕ) (s : State) {tables : ℕ} (none : tables ≡ 0) where
   abbrev list : List Refusal
@@ -86,7 +96,8 @@ module _ (client deadline : ℕ) (s : State) {tables : ℕ} (none : tables ≡ 0
   own6 h = after5 (match-here (refusal6 client s) _ (holds6 client s h))
 
   module _ (exists : client < s .head .setup .clients) where
-    after6 : {n : ℕ} → n ≡ firstMatch (refusal7 deadline s ∷ refusal8 client s ∷ refusal9 s ∷ refusal10 s ∷ [])
+    after6 : {n : ℕ}
+        → n ≡ firstMatch (refusal7 deadline s ∷ refusal15 deadline s ∷ refusal8 client s ∷ refusal9 s ∷ refusal10 s ∷ [])
         → n ≡ firstMatch list
     after6 e = after5 (match-next (refusal6 client s) _ (fails6 client s exists) e)
 
@@ -94,14 +105,20 @@ module _ (client deadline : ℕ) (s : State) {tables : ℕ} (none : tables ≡ 0
     own7 e = after6 (match-here (refusal7 deadline s) _ e)
 
     module _ (late : s .head .clock < deadline) (near : deadline ≤ s .head .clock + mostAhead) where
-      after7 : {n : ℕ} → n ≡ firstMatch (refusal8 client s ∷ refusal9 s ∷ refusal10 s ∷ [])
+      after7 : {n : ℕ} → n ≡ firstMatch (refusal15 deadline s ∷ refusal8 client s ∷ refusal9 s ∷ refusal10 s ∷ [])
           → n ≡ firstMatch list
       after7 e = after6 (match-next (refusal7 deadline s) _ (fails7 deadline s late near) e)
 
-      pub own8 : getD (clientTable s) client zeroCounts .submitted ≡ mostCounted
-          → 8 ≡ firstMatch list
-      own8 e = after7 (match-here (refusal8 client s) _ (eq-eqb _ mostCounted e))
+      pub own15 : ltb 0 (roomTo (s .head) deadline) ≡ false → 15 ≡ firstMatch list
+      own15 e = after7 (match-here (refusal15 deadline s) _ (holds15 deadline s e))
 
-      pub after8 : getD (clientTable s) client zeroCounts .submitted ≢ mostCounted → {n : ℕ}
-          → n ≡ firstMatch (refusal9 s ∷ refusal10 s ∷ []) → n ≡ firstMatch list
-      after8 countable e = after7 (match-next (refusal8 client s) _ (ne-eqb _ mostCounted countable) e)
+      module _ (some-open : ltb 0 (roomTo (s .head) deadline) ≡ true) where
+        after15 : {n : ℕ} → n ≡ firstMatch (refusal8 client s ∷ refusal9 s ∷ refusal10 s ∷ []) → n ≡ firstMatch list
+        after15 e = after7 (match-next (refusal15 deadline s) _ (fails15 deadline s some-open) e)
+
+        pub own8 : getD (clientTable s) client zeroCounts .submitted ≡ mostCounted → 8 ≡ firstMatch list
+        own8 e = after15 (match-here (refusal8 client s) _ (eq-eqb _ mostCounted e))
+
+        pub after8 : getD (clientTable s) client zeroCounts .submitted ≢ mostCounted → {n : ℕ}
+            → n ≡ firstMatch (refusal9 s ∷ refusal10 s ∷ []) → n ≡ firstMatch list
+        after8 countable e = after15 (match-next (refusal8 client s) _ (ne-eqb _ mostCounted countable) e)

@@ -9,7 +9,7 @@ use Rattle.spec.specs.declared.types.Counts.{Counts}
 use Rattle.spec.specs.declared.types.Answer.the-variants.{Kept, Dropped}
 use Rattle.spec.specs.declared.types.Reply.{Reply}
 use Rattle.spec.specs.Setup.{firstMatch}
-use Rattle.spec.specs.Calls.Refusals.{refusal6, refusal7, refusal8, refusal9, refusal10}
+use Rattle.spec.specs.Calls.Refusals.{refusal6, refusal7, refusal15, refusal8, refusal9, refusal10}
 use Rattle.table.specs.Widths.{largest64, saturatingNext}
 use Rattle.table.specs.declared.clients.Count.the-variants as count
 use Rattle.table.specs.Clients.{changedAt, oneMoreUnlessFull}
@@ -27,6 +27,7 @@ submitMatch tables head records numbers client deadline =
     (ofTables tables
     ∷ refusal6 client (told head records numbers)
     ∷ refusal7 deadline (told head records numbers)
+    ∷ refusal15 deadline (told head records numbers)
     ∷ refusal8 client (told head records numbers)
     ∷ refusal9 (told head records numbers)
     ∷ refusal10 (told head records numbers)

@@ -1,6 +1,7 @@
 // Submit: its refusal, what it decides, and what it hands back. `tables` is what the tables call for, 4 or 5 or 0, however it was
 // found: refusals 4 and 5 stand first in every list but open's.
 use crate::reply;
+use hours::calendar;
 use occupancy::overfull;
 use spec::bounds;
 use spec::types::Answer;
@@ -66,6 +67,9 @@ pub fn refusal(
     }
     if bounds::MOST_AHEAD < deadline - head.clock {
         return 7;
+    }
+    if !calendar::is_any_open(head.setup, head.clock, deadline) {
+        return 15;
     }
     if clients::counts_at(numbers, client).submitted == bounds::MOST_COUNTED {
         return 8;

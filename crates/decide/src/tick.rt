@@ -1,5 +1,7 @@
-// Tick: its refusal, and what it hands back. `gone` is the record that went out of the waiting table, where one waits.
+// Tick: its refusal, and what it hands back. `serves` says whether its slot is open, and `gone` is the record that went out of the waiting
+// table, where one did.
 use crate::reply;
+use hours::calendar;
 use spec::bounds;
 use spec::types::Answer;
 use spec::types::Head;
@@ -12,7 +14,9 @@ ghost use mathlib.Core.Path.{_≡_};
 ghost use mathlib.Core.Bool.{cond};
 ghost use lib.Dec.{eqb};
 ghost use Prim.Native.Nat.{_-_};
-ghost use Rattle.decide.specs.Tick.{tickMatch, servedNumbers, slotNumbers, tickNumbers, headAfterTick, tickAnswer, tickReply};
+ghost use Rattle.spec.specs.Hours.{isOpen};
+ghost use Rattle.decide.specs.Tick.{tickMatch, waitingFor, servedNumbers, slotNumbers, tickNumbers, waitingAfter, headAfterTick};
+ghost use Rattle.decide.specs.Tick.{tickAnswer, tickReply};
 
 // The number of the first refusal that matches, or 0.
 pub fn refusal(tables: u64, head: Head) -> u64
@@ -27,18 +31,36 @@ pub fn refusal(tables: u64, head: Head) -> u64
     0
 }
 
-// Of so many waiting records the first goes out; of none where the tick is refused.
-pub fn serving(head: Head, refusal: u64) -> usize
-    ensures { λ r. ⌜ r ≡ cond (eqb refusal 0) (head .waiting) 0 ⌝ }
+// Whether the slot that starts at the clock is open.
+pub fn is_slot_open(head: Head) -> bool
+    ensures { λ r. ⌜ r ≡ isOpen (head .setup) (head .clock) ⌝ }
 {
-    reply::unless_refused(refusal, head.waiting)
+    calendar::is_open(head.setup, head.clock)
 }
 
-// The record that is served, where one waits, is counted in served.
-fn count_served(numbers: &mut [u32], head: Head, gone: Request)
-    ensures { λ _. ⌜ now (numbers .exit) ≡ servedNumbers head gone (now (numbers .entry)) ⌝ }
+// How many records wait for the slot: none for a closed one.
+fn waiting_for(head: Head, serves: bool) -> u64
+    ensures { λ r. ⌜ r ≡ waitingFor serves head ⌝ }
 {
-    if head.waiting == 0 {
+    if serves {
+        return head.waiting;
+    }
+    0
+}
+
+// Of so many waiting records the first goes out; of none where the tick is refused, or its slot is closed.
+pub fn serving(head: Head, refusal: u64, serves: bool) -> usize
+    ensures { λ r. ⌜ r ≡ cond (eqb refusal 0) (waitingFor serves head) 0 ⌝ }
+{
+    let waiting = waiting_for(head, serves);
+    reply::unless_refused(refusal, waiting)
+}
+
+// The record that is served, where one is, is counted in served.
+fn count_served(numbers: &mut [u32], head: Head, serves: bool, gone: Request)
+    ensures { λ _. ⌜ now (numbers .exit) ≡ servedNumbers serves head gone (now (numbers .entry)) ⌝ }
+{
+    if waiting_for(head, serves) == 0 {
         return;
     }
     clients::add_one(numbers, gone.client, Count::Served);
@@ -54,13 +76,13 @@ fn end_slot(numbers: &mut [u32], head: Head)
 }
 
 // What a tick does to the client table, unless it is refused.
-pub fn count(numbers: &mut [u32], head: Head, refusal: u64, gone: Request)
-    ensures { λ _. ⌜ now (numbers .exit) ≡ tickNumbers refusal head gone (now (numbers .entry)) ⌝ }
+pub fn count(numbers: &mut [u32], head: Head, refusal: u64, serves: bool, gone: Request)
+    ensures { λ _. ⌜ now (numbers .exit) ≡ tickNumbers refusal serves head gone (now (numbers .entry)) ⌝ }
 {
     if refusal != 0 {
         return;
     }
-    count_served(numbers, head, gone);
+    count_served(numbers, head, serves, gone);
     end_slot(numbers, head);
 }
 
@@ -74,13 +96,23 @@ fn one_less(n: u64) -> u64
     n - 1
 }
 
-// The head one slot later, with one less waiting.
-fn head_after_tick(head: Head) -> Head
-    ensures { λ r. ⌜ r ≡ headAfterTick head ⌝ }
+// How many wait after it: one less where the slot is open.
+fn waiting_after(head: Head, serves: bool) -> u64
+    ensures { λ r. ⌜ r ≡ waitingAfter serves head ⌝ }
+{
+    if serves {
+        return one_less(head.waiting);
+    }
+    head.waiting
+}
+
+// The head one slot later.
+fn head_after_tick(head: Head, serves: bool) -> Head
+    ensures { λ r. ⌜ r ≡ headAfterTick serves head ⌝ }
 {
     let clock = reply::saturating_next(head.clock);
     let setup = head.setup;
-    let waiting = one_less(head.waiting);
+    let waiting = waiting_after(head, serves);
     Head {
         setup,
         clock,
@@ -90,9 +122,12 @@ fn head_after_tick(head: Head) -> Head
 }
 
 // The answer of a tick that is not refused.
-fn answer(head: Head, gone: Request) -> Answer
-    ensures { λ r. ⌜ r ≡ tickAnswer head gone ⌝ }
+fn answer(head: Head, serves: bool, gone: Request) -> Answer
+    ensures { λ r. ⌜ r ≡ tickAnswer serves head gone ⌝ }
 {
+    if !serves {
+        return Answer::Closed { slot: head.clock };
+    }
     if head.waiting != 0 {
         return Answer::Served {
             slot: head.clock,
@@ -104,11 +139,11 @@ fn answer(head: Head, gone: Request) -> Answer
 }
 
 // The reply of a tick.
-pub fn reply(head: Head, refusal: u64, gone: Request) -> Reply
-    ensures { λ r. ⌜ r ≡ tickReply refusal head gone ⌝ }
+pub fn reply(head: Head, refusal: u64, serves: bool, gone: Request) -> Reply
+    ensures { λ r. ⌜ r ≡ tickReply refusal serves head gone ⌝ }
 {
-    let said = answer(head, gone);
-    let after = head_after_tick(head);
+    let said = answer(head, serves, gone);
+    let after = head_after_tick(head, serves);
     let accepted = Reply {
         head: after,
         answer: said,

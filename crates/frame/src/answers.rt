@@ -168,6 +168,7 @@ pub fn put_answer(out: &mut [u8], at: usize, answer: Answer) -> usize
             waiting,
         } => put_report(out, at, client, submitted, served, dropped, waiting),
         Answer::Charted { count } => put_value(out, at, 0x88, 2, count),
+        Answer::Closed { slot } => put_value(out, at, 0x89, 8, slot),
         Answer::Refused { number } => put_value(out, at, 0xFF, 1, number),
     }
 }

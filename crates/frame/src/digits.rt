@@ -2,7 +2,7 @@
 ghost use mathlib.Core.Bool.{true};
 ghost use mathlib.Core.List.{_++_};
 ghost use mathlib.Core.Path.{_≡_};
-ghost use Prim.Native.Nat.{_+_, _*_, _<_, _≤_};
+ghost use Prim.Native.Nat.{_+_, _*_, _^_, _<_, _≤_};
 ghost use lib.ListN.{length, take};
 ghost use Rattle.spec.specs.Every.{every};
 ghost use Rattle.spec.specs.Lines.Frames.{digitOf, isDigit, characterOf, fieldAt, digits};
@@ -31,11 +31,11 @@ pub(crate) fn are_digits(table: &[u8], line: &[u8]) -> bool
     true
 }
 
-// The field of `width` bytes behind the first `from` bytes of a frame: big-endian.
+// The field of `width` bytes behind the first `from` bytes of a frame: big-endian. It fits so many bytes.
 pub(crate) fn field_at(table: &[u8], line: &[u8], from: usize, width: usize) -> u64
     requires { ⌜ now table ≡ digitTable ⌝ }
     requires { ⌜ (2 * (from + width) ≤ length (now line)) × (width ≤ 8) × (every isDigit (now line) ≡ true) ⌝ }
-    ensures { λ r. ⌜ r ≡ fieldAt from width (now (line .entry)) ⌝ }
+    ensures { λ r. ⌜ (r ≡ fieldAt from width (now (line .entry))) × (r < 16 ^ (2 * width)) ⌝ }
 {
     let mut number: u64 = 0;
     let mut i = 2 * from;

@@ -13,14 +13,14 @@ ghost use Rattle.frame.specs.Kinds.{whereLong, frameAs};
 // The digits of each frame: two for its kind byte, and two for each byte of its fields.
 const BARE_DIGITS: usize = 2 * 1;
 
-const OPEN_DIGITS: usize = 2 * (1 + 2 + 4 + 2);
+const OPEN_DIGITS: usize = 2 * (1 + 2 + 4 + 2 + 4 + 21);
 
 const SUBMIT_DIGITS: usize = 2 * (1 + 2 + 8);
 
 const REPORT_DIGITS: usize = 2 * (1 + 2);
 
-// The digits of the longest frame, submit's; no frame has fewer than a kind byte.
-pub const LONGEST_FRAME: usize = SUBMIT_DIGITS;
+// The digits of the longest frame, open's; no frame has fewer than a kind byte.
+pub const LONGEST_FRAME: usize = OPEN_DIGITS;
 
 // The open that a line with its kind byte is; one of another length is `Bad`.
 fn open_frame(table: &[u8], line: &[u8]) -> Frame
@@ -34,6 +34,11 @@ fn open_frame(table: &[u8], line: &[u8]) -> Frame
         setup: Setup {
             clients: digits::field_at(table, line, 1, 2),
             period: digits::field_at(table, line, 3, 4),
+            hour: digits::field_at(table, line, 9, 4),
+            marks0: digits::field_at(table, line, 13, 8),
+            marks64: digits::field_at(table, line, 21, 8),
+            marks128: digits::field_at(table, line, 29, 4) as u32,
+            marks160: digits::field_at(table, line, 33, 1) as u8,
         },
         records: digits::field_at(table, line, 7, 2),
     }

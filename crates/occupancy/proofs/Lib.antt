@@ -4,3 +4,4 @@ pub mod StartsAndSegments
 pub mod Columns
 pub mod LastOfEach
 pub mod Searches
+pub mod Fours

@@ -5,17 +5,20 @@ use mathlib.Core.Bool.{Bool, true, false, cond}
 use mathlib.Core.List.{List, [], _∷_, map}
 use native.Mathlib.Numerals.{add-one}
 use native.Mathlib.Omega.{arith}
-use borrow.Author.Tests.{lt-ltb, le-ltb, le-leb, lt-leb}
+use borrow.Author.Tests.{ltb-true, ltb-false, lt-ltb, le-ltb, le-leb, lt-leb}
 use lib.Dec.{leb, ltb}
 use lib.ListN.{length, getD, set, take, drop, length-map, List·getD-map}
 use lib.Seq.{length-take-le, getD-take}
-use Rattle.slots.proofs.Laws.Tests.{Test, holds, fails, test}
+use Rattle.slots.proofs.Laws.Tests.{Test, holds, fails, test, le, gt, order}
+use Rattle.spec.specs.declared.types.Setup.{Setup}
 use Rattle.spec.specs.declared.types.Head.{Head}
 use Rattle.spec.specs.declared.types.Request.{Request}
 use Rattle.spec.specs.Every.{countIf}
 use Rattle.spec.specs.Tables.{mostClients, zeroRequest, deadlinesOf, clientsOf}
+use Rattle.spec.specs.Hours.{room}
 use Rattle.spec.specs.Chart.{roomTo}
-use Rattle.spec.proofs.Laws.Every.{number-yes, number-no}
+use Rattle.spec.proofs.Laws.Every.{number-yes, number-no, Value, is-true, is-false, value}
+use Rattle.spec.proofs.Laws.Room.{room-mono, room-back, room-split}
 use Rattle.table.proofs.Remaining.{rest-cons, rest-none}
 use Rattle.occupancy.specs.Scans.{Sorted, middle, halved, placeBy, overfullFrom, latestOf}
 
@@ -208,28 +211,48 @@ module _ (f : Request → ℕ) (ws : List Request) (n i : ℕ) where
       rest-cons (map f ws) n i (f zeroRequest) inside (omega (arith, length-map ws f))
       ∙ rw (List·getD-map f ws i zeroRequest)
 
--- ---- the search for an overfull deadline: d stands at the place i, those behind it are the waiting ones from i on
-module _ (head : Head) (ws : List Request) (n i d : ℕ) where
-  -- where d has room, what is found is among those behind it
-  behind : i < roomTo head d → overfullFrom head (suc i) (drop i (take n (deadlinesOf ws)))
-      ≡ overfullFrom head i (d ∷ drop i (take n (deadlinesOf ws)))
+-- ---- the search for an overfull deadline: d stands at the place i, and the others behind it
+module _ (head : Head) (i d : ℕ) (ds : List ℕ) where
+  pub overfull-first : roomTo head d ≤ i → d ≡ overfullFrom head i (d ∷ ds)
   unfolding overfullFrom
-  behind h = rw le-ltb
-
-  pub overfull-here : roomTo head d ≤ i → d ≡ overfullFrom head i (d ∷ drop i (take n (deadlinesOf ws)))
-  unfolding overfullFrom
-  overfull-here h =
+  overfull-first h =
       let full : roomTo head d < suc i = omega arith in
       rw lt-ltb
 
-  pub overfull-next : n ≤ length ws → i < n → i < roomTo head d
-      → overfullFrom head (i + 1) (getD ws i zeroRequest .deadline ∷ drop (i + 1) (take n (deadlinesOf ws)))
-      ≡ overfullFrom head i (d ∷ drop i (take n (deadlinesOf ws)))
-  overfull-next fits inside h = rw (← rest-field (λ w. w .deadline) ws n i inside fits, add-one) (behind h)
-
-  pub overfull-none : n ≤ i → i < roomTo head d → 0 ≡ overfullFrom head i (d ∷ drop i (take n (deadlinesOf ws)))
+  -- where d has room, what is found is among those behind it
+  pub overfull-behind : i < roomTo head d → overfullFrom head (i + 1) ds ≡ overfullFrom head i (d ∷ ds)
   unfolding overfullFrom
-  overfull-none past h = ap (overfullFrom head (suc i)) (sym (rest-none (deadlinesOf ws) n i past)) ∙ behind h
+  overfull-behind h = rw (add-one i, le-ltb)
+
+-- the search in the waiting records from the place i on, where `more` requests besides come before each
+module _ (head : Head) (ws : List Request) (n more : ℕ) where
+  abbrev pub overfullAt : ℕ → ℕ
+  overfullAt i = overfullFrom head (i + more) (drop i (take n (deadlinesOf ws)))
+
+  module _ (i : ℕ) (fits : n ≤ length ws) (inside : i < n) where
+    at-record : overfullAt i
+        ≡ overfullFrom head (i + more) (getD ws i zeroRequest .deadline ∷ drop (i + 1) (take n (deadlinesOf ws)))
+    at-record = ap (overfullFrom head (i + more)) (rest-field (λ w. w .deadline) ws n i inside fits)
+
+    pub overfull-here : roomTo head (getD ws i zeroRequest .deadline) ≤ i + more → getD ws i zeroRequest .deadline ≡ overfullAt i
+    overfull-here h = overfull-first head (i + more) _ _ h ∙ sym at-record
+
+    pub overfull-next : i + more < roomTo head (getD ws i zeroRequest .deadline) → overfullAt (i + 1) ≡ overfullAt i
+    overfull-next h =
+        let e : i + 1 + more ≡ i + more + 1 = omega arith in
+        ap (λ (k : ℕ). overfullFrom head k (drop (i + 1) (take n (deadlinesOf ws)))) e
+        ∙ overfull-behind head (i + more) _ _ h
+        ∙ sym at-record
+
+  pub overfull-none : (i : ℕ) → n ≤ i → 0 ≡ overfullAt i
+  unfolding overfullFrom
+  overfull-none i past = ap (overfullFrom head (i + more)) (sym (rest-none (deadlinesOf ws) n i past))
+
+  -- ---- where a turn of a search stands: what is left from its place on gives the whole
+  pub record Turn (start : ℕ) : Type 0 where
+    pub i : ℕ
+    pub inside : i ≤ n
+    pub left : overfullAt i ≡ overfullAt start
 
 -- ---- each client's last request: the record at i is noted, and those behind it are left
 module _ (ws : List Request) (n more i : ℕ) (known : List ℕ) where
@@ -245,3 +268,19 @@ module _ (ws : List Request) (n more i : ℕ) (known : List ℕ) where
   pub latest-all : n ≤ i → known ≡ latestOf (i + more) (drop i (take n (clientsOf ws))) known
   unfolding latestOf
   latest-all past = rw (rest-none (clientsOf ws) n i past)
+
+-- ---- a test of a difference as one of a sum
+pub less-by-sum : (a i b : ℕ) → ltb (a + i) b ≡ ltb i (b - a)
+less-by-sum a i b = go (value (ltb (a + i) b))
+  where
+    go : Value (ltb (a + i) b) → ltb (a + i) b ≡ ltb i (b - a)
+    go (is-true e) = rw (e, lt-ltb i (b - a) (omega (arith, ltb-true (a + i) b e)))
+    go (is-false e) = rw (e, le-ltb i (b - a) (omega (arith, ltb-false (a + i) b e)))
+
+-- ---- the room between two slots by the open slots before each
+pub room-difference : (setup : Setup) (a b : ℕ) → room setup 0 b - room setup 0 a ≡ room setup a b
+room-difference setup a b =
+    elim (order a b) [
+      | le h ↦ omega (arith, room-split setup 0 a b (omega arith) h)
+      | gt h ↦ omega (arith, room-back setup a b (omega arith), room-mono setup 0 b a (omega arith))
+    ]

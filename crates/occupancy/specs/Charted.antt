@@ -1,14 +1,13 @@
 -- The chart's start slots, read off the column of deadlines, and its segments. Assumes nothing.
-use Prim.Native.Nat.{ℕ, _-_, min}
+use Prim.Native.Nat.{ℕ}
 use mathlib.Core.List.{List, [], _∷_}
 use Rattle.spec.specs.declared.types.Setup.{Setup}
-use Rattle.spec.specs.Chart.{Segment}
+use Rattle.spec.specs.Chart.{limitOf, latestFree, Segment}
 
--- "From the last record to the first, a request ends at the smaller of its deadline and the start of the record behind it, and
--- starts one slot earlier.": the start slot of a request with this deadline, from the starts of the later ones
+-- document 02, 2.2: "the chart uses the latest open slots": the start slot of a request with this deadline, from the starts of the later
+-- ones
 abbrev pub startSlot : Setup → ℕ → List ℕ → ℕ
-startSlot setup deadline [] = deadline - 1
-startSlot setup deadline (start ∷ later) = min deadline start - 1
+startSlot setup deadline later = latestFree setup later (limitOf deadline later)
 
 -- the start slots of requests with these deadlines
 unfoldable pub startSlots : Setup → List ℕ → List ℕ

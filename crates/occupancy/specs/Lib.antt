@@ -1,2 +1,3 @@
 pub mod Charted
 pub mod Scans
+pub mod Fours

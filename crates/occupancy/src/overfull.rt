@@ -1,5 +1,8 @@
 // Overfull deadlines: the room up to a deadline, the first deadline that has too little, and who is then dropped. Of the clients that
 // have a candidate, the victim's has the smallest miss ratio; among equals, it is the one whose last candidate stands last.
+use crate::open_search;
+use hours::calendar;
+use hours::marks;
 use spec::bounds::MOST_CLIENTS;
 use spec::types::Counts;
 use spec::types::Head;
@@ -8,11 +11,13 @@ use table::clients;
 use table::waiting;
 ghost use mathlib.Core.Path.{_≡_};
 ghost use mathlib.Core.List.{_∷_};
+ghost use mathlib.Core.Bool.{true};
 ghost use Prim.Native.Nat.{_+_, _%_, _≤_, _<_, min};
 ghost use lib.Dec.{ltb};
 ghost use lib.ListN.{length, getD, set, take, drop};
 ghost use Rattle.spec.specs.Tables.{mostClients, mostRecords, clockEnd, deadlinesOf, clientsOf, zeroCounts, recordsOf};
 ghost use Rattle.spec.specs.Chart.{roomTo, hasSmallerRatio};
+ghost use Rattle.hours.specs.Week.{areAllOpen};
 ghost use Rattle.table.specs.Widths.{largest16, largest32};
 ghost use Rattle.occupancy.specs.Scans.{placeBy, overfullFrom, candidateCount, latestOf, countsWith, betterCandidate, smallestRatioPlace};
 
@@ -26,12 +31,26 @@ pub fn smaller(a: usize, b: usize) -> usize
     b
 }
 
-// Whether the slots from the clock to the deadline can take more than i requests. A sum, since a difference would need a branch.
+// Whether more than i slots, open or not, lie between the clock and a deadline. A sum, since a difference would need a branch.
+pub fn is_ahead_by(head: Head, i: u64, deadline: u64) -> bool
+    requires { ⌜ (head .clock ≤ clockEnd) × (i ≤ mostRecords) ⌝ }
+    ensures { λ r. ⌜ r ≡ ltb (head .clock + i) deadline ⌝ }
+{
+    head.clock + i < deadline
+}
+
+// Whether the slots from the clock to the deadline can take more than i requests.
 pub fn has_room(head: Head, i: u64, deadline: u64) -> bool
     requires { ⌜ (head .clock ≤ clockEnd) × (i ≤ mostRecords) ⌝ }
     ensures { λ r. ⌜ r ≡ ltb i (roomTo head deadline) ⌝ }
 {
-    head.clock + i < deadline
+    let setup = head.setup;
+    if marks::are_all_open(setup) {
+        return is_ahead_by(head, i, deadline);
+    }
+    let before = calendar::open_before(setup, head.clock);
+    let after = calendar::open_before(setup, deadline);
+    before + i < after
 }
 
 // How many of the first n records, whose deadlines ascend, have a deadline of at most this one, by halves; in any order of
@@ -54,25 +73,49 @@ pub fn due_by(t: &[Request], n: usize, deadline: u64) -> usize
     low
 }
 
-// The first overfull deadline among those of n waiting records and a new one, looked for from the new one's place on: those before it
-// have the room that they had without it. 0 where there is none.
-pub fn first_overfull(head: Head, t: &[Request], n: usize, place: usize, deadline: u64) -> u64
-    requires { ⌜ (n ≤ length (now t)) × (n ≤ mostRecords) × (place ≤ n) × (head .clock ≤ clockEnd) ⌝ }
-    ensures { λ r. ⌜ r ≡ overfullFrom head place (deadline ∷ drop place (take n (deadlinesOf (now (t .entry))))) ⌝ }
+// The first overfull deadline among those of the records from one index to another, where `more` requests besides come before each: one
+// that has not more slots up to it than requests before it. 0 where there is none. All slots are open.
+fn overfull_in_all(head: Head, t: &[Request], from: usize, n: usize, more: usize) -> u64
+    requires { ⌜ (n ≤ length (now t)) × (n + more ≤ mostRecords) × (from ≤ n) × (head .clock ≤ clockEnd) × (areAllOpen (head .setup) ≡ true) ⌝ }
+    ensures { λ r. ⌜ r ≡ overfullFrom head (from + more) (drop from (take n (deadlinesOf (now (t .entry))))) ⌝ }
 {
-    let mut d = deadline;
-    let mut i = place;
+    let mut i = from;
     loop {
-        if !has_room(head, i as u64, d) {
-            break d;
-        }
         if n <= i {
             break 0;
         }
         let w = waiting::get(t, i);
-        d = w.deadline;
+        if !is_ahead_by(head, (i + more) as u64, w.deadline) {
+            break w.deadline;
+        }
         i += 1;
     }
+}
+
+// The same as `overfull_in_all`, by open slots. Where no record is left to look at, the hours are not counted either.
+pub fn overfull_in_open(head: Head, t: &[Request], from: usize, n: usize, more: usize) -> u64
+    requires { ⌜ (n ≤ length (now t)) × (n + more ≤ mostRecords) × (from ≤ n) × (head .clock ≤ clockEnd) × (1 ≤ head .setup .hour) ⌝ }
+    ensures { λ r. ⌜ r ≡ overfullFrom head (from + more) (drop from (take n (deadlinesOf (now (t .entry))))) ⌝ }
+{
+    if from < n {
+        return open_search::overfull_by_counts(head, t, from, n, more);
+    }
+    0
+}
+
+// The first overfull deadline among those of n waiting records and a new one, looked for from the new one's place on: those before it
+// have the room that they had without it. 0 where there is none.
+pub fn first_overfull(head: Head, t: &[Request], n: usize, place: usize, deadline: u64) -> u64
+    requires { ⌜ (n ≤ length (now t)) × (n < mostRecords) × (place ≤ n) × (head .clock ≤ clockEnd) × (1 ≤ head .setup .hour) ⌝ }
+    ensures { λ r. ⌜ r ≡ overfullFrom head place (deadline ∷ drop place (take n (deadlinesOf (now (t .entry))))) ⌝ }
+{
+    if !has_room(head, place as u64, deadline) {
+        return deadline;
+    }
+    if marks::are_all_open(head.setup) {
+        return overfull_in_all(head, t, place, n, 1);
+    }
+    overfull_in_open(head, t, place, n, 1)
 }
 
 // How many of n waiting records are candidates, where so many are due by the first overfull deadline: those, and none where no

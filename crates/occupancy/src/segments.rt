@@ -1,10 +1,11 @@
 // The chart's segments, one after the other.
+use hours::calendar;
 use spec::types::Setup;
 ghost use mathlib.Core.Path.{_≡_};
 ghost use mathlib.Core.List.{_∷_};
-ghost use Prim.Native.Nat.{ℕ, _+_, _-_, _<_, _≤_};
+ghost use Prim.Native.Nat.{ℕ, _<_, _≤_};
 ghost use lib.ListN.{length, getD, take, drop};
-ghost use Rattle.spec.specs.Chart.{segmentsOf};
+ghost use Rattle.spec.specs.Chart.{doTouch, segmentsOf};
 ghost use Rattle.table.specs.Widths.{largest64};
 ghost use Rattle.occupancy.specs.Charted.{segment};
 
@@ -15,7 +16,17 @@ pub struct Run {
     pub next: usize,
 }
 
-// The segment that begins with the interval of the start slot at the index i: it spans as many start slots as it has slots.
+// Whether an interval that ends at `end` touches one that starts at `start`: no open slot lies between.
+fn do_touch(setup: Setup, end: u64, start: u64) -> bool
+    ensures { λ r. ⌜ r ≡ doTouch setup end start ⌝ }
+{
+    if end == start {
+        return true;
+    }
+    !calendar::is_any_open(setup, end, start)
+}
+
+// The segment that begins with the interval of the start slot at the index i.
 pub fn segment_at(setup: Setup, starts: &[u64], n: usize, i: usize) -> Run
     requires { ⌜ (i < n) × (n ≤ length (now starts)) × ((k : ℕ) → k < n → getD (now starts) k 0 < largest64) ⌝ }
     ensures { λ r. ⌜
@@ -23,17 +34,17 @@ pub fn segment_at(setup: Setup, starts: &[u64], n: usize, i: usize) -> Run
         ≡ segment (r .left) (r .right) ∷ segmentsOf setup (drop (r .next) (take n (now (starts .entry)))))
         × (i < r .next)
         × (r .next ≤ n)
-        × (r .next ≡ i + (r .right - r .left))
         ⌝ }
 {
     let left = starts[i];
     let mut right = left + 1;
     let mut k = i + 1;
     while k < n {
-        if starts[k] != right {
+        let start = starts[k];
+        if !do_touch(setup, right, start) {
             break;
         }
-        right += 1;
+        right = start + 1;
         k += 1;
     }
     Run {

@@ -1,4 +1,7 @@
-// The chart's start slots: the deadlines are copied out of the waiting table, and then become start slots, from the last to the first.
+// The chart's start slots, from the last record to the first, in one pass from the waiting table.
+use hours::calendar;
+use hours::calendar::Stretch;
+use hours::marks;
 use spec::types::Request;
 use spec::types::Setup;
 use table::waiting;
@@ -7,56 +10,80 @@ ghost use mathlib.Core.List.{_++_};
 ghost use Prim.Native.Nat.{_-_, _≤_, _<_, min};
 ghost use lib.ListN.{length, set, take, drop};
 ghost use Rattle.spec.specs.Tables.{deadlinesOf};
+ghost use Rattle.hours.specs.Week.{latestOpen, OpenFrom};
 ghost use Rattle.occupancy.specs.Charted.{startSlots};
 
-// The deadline of w becomes the entry at i.
-fn put_deadline(xs: &mut [u64], i: usize, w: Request)
-    requires { ⌜ i < length (now xs) ⌝ }
-    ensures { λ _. ⌜ now (xs .exit) ≡ set (now (xs .entry)) i (w .deadline) ⌝ }
-{
-    xs[i] = w.deadline;
+// Where the chart stands: the start slot of the record behind, and the open slots among which it lies.
+struct Reached {
+    next: u64,
+    open: Stretch,
 }
 
-// The deadlines of the first n records, copied out; entries beyond are untouched.
-pub fn deadlines(t: &[Request], out: &mut [u64], n: usize)
+// Before the last record: no start slot is behind it, for which the largest number stands, since no deadline is larger. With all hours
+// open every slot is among those at hand, and else none is.
+fn reached_at_end(setup: Setup) -> Reached
+    ensures { λ r. ⌜ (r .next ≡ 18446744073709551615) × OpenFrom setup (r .open) ⌝ }
+{
+    let end: u64 = if marks::are_all_open(setup) {
+        18446744073709551615
+    } else {
+        0
+    };
+    let open = Stretch { start: 0, end };
+    Reached {
+        next: 18446744073709551615,
+        open,
+    }
+}
+
+// The smaller of two slots.
+fn earlier(a: u64, b: u64) -> u64
+    ensures { λ r. ⌜ r ≡ min a b ⌝ }
+{
+    if a < b { a } else { b }
+}
+
+// The latest open slot before a deadline and before the start slot of the record behind; 0 where there is none. The open slots at hand
+// serve as long as it lies among them.
+fn start_before(setup: Setup, at: Reached, deadline: u64) -> Reached
+    requires { ⌜ OpenFrom setup (at .open) ⌝ }
+    ensures { λ r. ⌜ (r .next ≡ latestOpen setup (min deadline (at .next))) × OpenFrom setup (r .open) ⌝ }
+{
+    let end = earlier(deadline, at.next);
+    let held = at.open;
+    if (held.start < end) & (end <= held.end) {
+        return Reached {
+            next: end - 1,
+            open: held,
+        };
+    }
+    let open = calendar::open_stretch_before(setup, end);
+    let next = if open.end == 0 { 0 } else { open.end - 1 };
+    Reached { next, open }
+}
+
+// The start slot of w becomes the entry at i.
+fn put_start(setup: Setup, out: &mut [u64], i: usize, at: Reached, w: Request) -> Reached
+    requires { ⌜ (i < length (now out)) × OpenFrom setup (at .open) ⌝ }
+    ensures { λ r. ⌜ (r .next ≡ latestOpen setup (min (w .deadline) (at .next))) × OpenFrom setup (r .open)
+        × (now (out .exit) ≡ set (now (out .entry)) i (latestOpen setup (min (w .deadline) (at .next)))) ⌝ }
+{
+    let reached = start_before(setup, at, w.deadline);
+    out[i] = reached.next;
+    reached
+}
+
+// The start slots of the first n records, into the first entries of the output; those beyond stay as they are.
+pub fn write_starts(setup: Setup, t: &[Request], out: &mut [u64], n: usize)
     requires { ⌜ (n ≤ length (now t)) × (n ≤ length (now out)) ⌝ }
-    ensures { λ _. ⌜ now (out .exit) ≡ deadlinesOf (take n (now (t .entry))) ++ drop n (now (out .entry)) ⌝ }
+    ensures { λ _. ⌜ now (out .exit) ≡ startSlots setup (deadlinesOf (take n (now (t .entry)))) ++ drop n (now (out .entry)) ⌝ }
 {
-    let mut i = 0;
-    while i < n {
-        let w = waiting::get(t, i);
-        put_deadline(out, i, w);
-        i += 1;
-    }
-}
-
-// One slot before the smaller of both; 0 stays 0.
-fn one_before(deadline: u64, next: u64) -> u64
-    ensures { λ r. ⌜ r ≡ min deadline next - 1 ⌝ }
-{
-    if deadline == 0 {
-        return 0;
-    }
-    if next == 0 {
-        return 0;
-    }
-    if next < deadline {
-        return next - 1;
-    }
-    deadline - 1
-}
-
-// The first n entries are deadlines and become their start slots; those beyond stay as they are. At first the largest number
-// stands for the start behind, since no deadline is larger.
-pub fn write_starts(setup: Setup, output: &mut [u64], n: usize)
-    requires { ⌜ n ≤ length (now output) ⌝ }
-    ensures { λ _. ⌜ now (output .exit) ≡ startSlots setup (take n (now (output .entry))) ++ drop n (now (output .entry)) ⌝ }
-{
+    let mut at = reached_at_end(setup);
     let mut i = n;
-    let mut next: u64 = 18446744073709551615;
     while 0 < i {
-        i -= 1;
-        next = one_before(output[i], next);
-        output[i] = next;
+        let before = i - 1;
+        let w = waiting::get(t, before);
+        at = put_start(setup, out, before, at, w);
+        i = before;
     }
 }

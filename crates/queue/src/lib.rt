@@ -30,7 +30,7 @@ pub fn open(head: Head, waiting: &mut [Request], clients: &mut [u32], setup: Set
     decide::open::reply(head, refusal, setup)
 }
 
-// Tick: the first waiting record is served, or none waits; then the clock rises by 1, and a period may begin.
+// Tick: the first waiting record is served, or none waits, or the slot is closed; then the clock rises by 1, and a period may begin.
 pub fn tick(head: Head, waiting: &mut [Request], clients: &mut [u32]) -> Reply
     ensures { λ r. ⌜ Gives tick
         (stateOf head (now (waiting .entry)) (now (clients .entry))) r
@@ -38,10 +38,11 @@ pub fn tick(head: Head, waiting: &mut [Request], clients: &mut [u32]) -> Reply
 {
     let tables = check::tables_refusal(waiting, clients, head);
     let refusal = decide::tick::refusal(tables, head);
-    let served = decide::tick::serving(head, refusal);
+    let serves = decide::tick::is_slot_open(head);
+    let served = decide::tick::serving(head, refusal, serves);
     let gone = waiting::remove(waiting, served, 0);
-    decide::tick::count(clients, head, refusal, gone);
-    decide::tick::reply(head, refusal, gone)
+    decide::tick::count(clients, head, refusal, serves, gone);
+    decide::tick::reply(head, refusal, serves, gone)
 }
 
 // Report: a client's three counts and its waiting count.
@@ -66,7 +67,6 @@ pub fn chart(head: Head, waiting: &[Request], clients: &[u32], output: &mut [u64
     let tables = check::tables_refusal(waiting, clients, head);
     let refusal = decide::chart::refusal(tables, head, output.len());
     let n = unless_refused(refusal, head.waiting);
-    starts::deadlines(waiting, output, n);
-    starts::write_starts(head.setup, output, n);
+    starts::write_starts(head.setup, waiting, output, n);
     decide::chart::reply(head, refusal)
 }

@@ -11,7 +11,6 @@ use Rattle.slots.proofs.Laws.Sums.{total}
 use Rattle.slots.proofs.Queue.{opens, Queue, empty, arrival, asking, ticked, Taken, withdrawing, discarded}
 use Rattle.slots.proofs.Laws.Count.{isAt-no}
 use Rattle.slots.proofs.Reached.Chart.{plan}
-use Rattle.slots.proofs.Single.{own}
 
 -- ---- one head, two heads, and one head that is closed from the slot 2 on
 abbrev single : ℕ → ℕ
@@ -54,11 +53,13 @@ abbrev third : Queue
 third = asking 3 (record { deadline = 1; number = 2 } ∷ arrival 3 second ∷ []) second
 
 -- the last request first
-third-own : own third ≡ at 2 ∷ at 0 ∷ none ∷ []
+third-own : plan single third ≡ at 2 ∷ at 0 ∷ none ∷ []
+unfolding opens
 third-own = refl
 
 -- the second is served, and has its slot
-served-own : own (ticked single third) ≡ at 2 ∷ at 0 ∷ none ∷ []
+served-own : plan single (ticked single third) ≡ at 2 ∷ at 0 ∷ none ∷ []
+unfolding opens
 served-own = refl
 
 -- two heads: both of the slot 2 are free
@@ -81,7 +82,7 @@ unfolding total
 gone-taken = record { sums = λ f. refl; lifts = λ p a. tt }
 
 -- request 1, which was dropped for it, does not come back
-gone-own : own gone ≡ none ∷ none ∷ []
+gone-own : plan single gone ≡ none ∷ none ∷ []
 gone-own = refl
 
 -- a plan may still hold request 2

@@ -3,3 +3,4 @@ pub mod Tests
 pub mod Sums
 pub mod Count
 pub mod Sorted
+pub mod Hours

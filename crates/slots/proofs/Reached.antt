@@ -5,3 +5,6 @@ pub mod Seat
 pub mod Own
 pub mod Agree
 pub mod Placing
+pub mod Words
+pub mod Rivals
+pub mod Runs

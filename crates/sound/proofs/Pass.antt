@@ -1,12 +1,13 @@
--- One pass finds what soundness asks of the waiting records: an overfull deadline shows at the last record that has it.
+-- One pass, and the room by open slots, find what soundness asks of the waiting records: an overfull deadline shows at the last record
+-- that has it.
 -- Assumes nothing.
-use Prim.Native.Nat.{ℕ, suc, _+_, _≤_}
+use Prim.Native.Nat.{ℕ, suc, _+_, _≤_, _<_}
 use mathlib.Core.Path.{_≡_, refl, sym, _∙_}
 use mathlib.Core.Bool.{Bool, true, _&&_, and-eq-true-iff}
 use mathlib.Core.List.{List, [], _∷_}
 use native.Mathlib.Omega.{arith}
 use borrow.Author.Tests.{leb-true, ltb-true, le-leb, lt-ltb}
-use lib.Dec.{leb}
+use lib.Dec.{leb, ltb}
 use Rattle.spec.specs.declared.types.Head.{Head}
 use Rattle.spec.specs.declared.types.Request.{Request}
 use Rattle.spec.specs.Every.{every, everyFrom}
@@ -18,8 +19,8 @@ use Rattle.spec.proofs.Laws.Every.{and-both, same-test}
 use Rattle.spec.proofs.Laws.Order.{before-facts, before-deadline, order-facts, before-test, earlier}
 use Rattle.spec.proofs.Laws.Sound.{within-facts, within-test}
 use Rattle.spec.proofs.Laws.Places.{Roomy, roomy-feasible, feasible-roomy}
-use Rattle.sound.specs.Checks.{isNext, areNext}
-use Rattle.sound.proofs.RecordTests.{room-past}
+use Rattle.hours.proofs.OpenSlots.{room-most}
+use Rattle.sound.specs.Checks.{isNext, areNext, haveRoom}
 
 every-cons : (p : Request → Bool) (w : Request) (ws : List Request) → every p (w ∷ ws) ≡ true
     → (p w ≡ true) × (every p ws ≡ true)
@@ -34,7 +35,6 @@ record PassFinds (head : Head) (i : ℕ) (before : Request) (ws : List Request) 
   pub ahead : every (λ w. isAhead (head .clock) (w .deadline)) ws ≡ true
   pub given : every (λ w. isGiven (head .last) (w .number)) ws ≡ true
   pub owned : every (λ w. isClient (head .setup .clients) (w .client)) ws ≡ true
-  pub roomy : Roomy head i ws
 
 next-facts : (head : Head) (i : ℕ) (before : Request) (ws : List Request) → areNext head i before ws ≡ true
     → PassFinds head i before ws
@@ -46,7 +46,6 @@ next-facts head i before [] e =
       ahead = refl;
       given = refl;
       owned = refl;
-      roomy = tt;
     }
 next-facts head i before (w ∷ ws) e =
     let p = and-eq-true-iff (isNext head i before w) (areNext head (suc i) w ws) .0 e in
@@ -58,21 +57,21 @@ next-facts head i before (w ∷ ws) e =
       ahead =
           and-both (isAhead (head .clock) (w .deadline)) (every (λ v. isAhead (head .clock) (v .deadline)) ws)
           (within-test (suc (head .clock)) (head .clock + mostAhead) (w .deadline)
-          (room-past head i (w .deadline) (ltb-true i (roomTo head (w .deadline)) (q .0 .1))) (f .near)) (f .ahead);
+          (omega (arith, ltb-true (head .clock + i) (w .deadline) (q .0 .1))) (f .near)) (f .ahead);
       given =
           and-both (isGiven (head .last) (w .number)) (every (λ v. isGiven (head .last) (v .number)) ws)
           (and-both (leb 1 (w .number)) (leb (w .number) (head .last)) (q .0 .0 .0 .0) (q .0 .0 .0 .1)) (f .given);
       owned =
           and-both (isClient (head .setup .clients) (w .client)) (every (λ v. isClient (head .setup .clients) (v .client)) ws)
           (q .0 .0 .1) (f .owned);
-      roomy = (ltb-true i (roomTo head (w .deadline)) (q .0 .1), f .roomy);
     }
 
-next-test : (head : Head) (i : ℕ) (before : Request) (ws : List Request) → PassFinds head i before ws
+-- where each has room by open slots, it has room by all slots
+next-test : (head : Head) (i : ℕ) (before : Request) (ws : List Request) → PassFinds head i before ws → Roomy head i ws
     → areNext head i before ws ≡ true
 unfolding areNext isNext every isInOrder
-next-test head i before [] f = le-leb (before .deadline) (head .clock + mostAhead) (f .near)
-next-test head i before (w ∷ ws) f =
+next-test head i before [] f roomy = le-leb (before .deadline) (head .clock + mostAhead) (f .near)
+next-test head i before (w ∷ ws) f roomy =
     let o = and-eq-true-iff (comesBefore before w) (isInOrder (w ∷ ws)) .0 (f .ordered) in
     let a = every-cons (λ (v : Request). isAhead (head .clock) (v .deadline)) w ws (f .ahead) in
     let g = every-cons (λ (v : Request). isGiven (head .last) (v .number)) w ws (f .given) in
@@ -84,9 +83,22 @@ next-test head i before (w ∷ ws) f =
       ahead = a .1;
       given = g .1;
       owned = c .1;
-      roomy = f .roomy .1;
-    }) in
-    rw (g .0, c .0, lt-ltb i (roomTo head (w .deadline)) (f .roomy .0), o .0) r
+    }) (roomy .1) in
+    let ahead : head .clock + i < w .deadline = omega (arith, roomy .0, room-most (head .setup) (head .clock) (w .deadline)) in
+    rw (g .0, c .0, lt-ltb (head .clock + i) (w .deadline) ahead, o .0) r
+
+-- ---- room by open slots: the test, and what it says of each record
+room-facts : (head : Head) (i : ℕ) (ws : List Request) → haveRoom head i ws ≡ true → Roomy head i ws
+unfolding haveRoom
+room-facts head i [] e = tt
+room-facts head i (w ∷ ws) e =
+    let p = and-eq-true-iff (ltb i (roomTo head (w .deadline))) (haveRoom head (suc i) ws) .0 e in
+    (ltb-true i (roomTo head (w .deadline)) (p .0), room-facts head (suc i) ws (p .1))
+
+room-test : (head : Head) (i : ℕ) (ws : List Request) → Roomy head i ws → haveRoom head i ws ≡ true
+unfolding haveRoom
+room-test head i [] r = refl
+room-test head i (w ∷ ws) r = rw (lt-ltb i (roomTo head (w .deadline)) (r .0)) (room-test head (suc i) ws (r .1))
 
 -- a record that is zero stands before all that have their deadlines ahead
 first-order : (clock : ℕ) (ws : List Request) → every (λ w. isAhead clock (w .deadline)) ws ≡ true
@@ -99,30 +111,29 @@ first-order clock (w ∷ ws) e =
     rw (before-test zeroRequest w (earlier (omega arith)))
 
 -- the pass, and the clauses of soundness that it stands for
-passed : (head : Head) (ws : List Request) → PassFinds head 0 zeroRequest ws
+passed : (head : Head) (ws : List Request) → PassFinds head 0 zeroRequest ws → Roomy head 0 ws
     → (isInOrder ws ≡ true) × (hasNoOverfull head ws ≡ true)
-passed head ws f =
+passed head ws f roomy =
     let o = sym (first-order (head .clock) ws (f .ahead)) ∙ f .ordered in
-    (o, roomy-feasible head ws (order-facts ws o) (f .roomy))
+    (o, roomy-feasible head ws (order-facts ws o) roomy)
 
 passes : (head : Head) (ws : List Request) → isInOrder ws ≡ true → every (λ w. isAhead (head .clock) (w .deadline)) ws ≡ true
     → every (λ w. isGiven (head .last) (w .number)) ws ≡ true → every (λ w. isClient (head .setup .clients) (w .client)) ws ≡ true
-    → hasNoOverfull head ws ≡ true → PassFinds head 0 zeroRequest ws
-passes head ws o a g c f =
+    → PassFinds head 0 zeroRequest ws
+passes head ws o a g c =
     record {
       near = omega arith;
       ordered = first-order (head .clock) ws a ∙ o;
       ahead = a;
       given = g;
       owned = c;
-      roomy = feasible-roomy head ws (order-facts ws o) f;
     }
 
--- soundness as the pass over the records, the records behind them and the pass over the clients find it
+-- soundness as the pass over the records, their room by open slots, the records behind them and the pass over the clients find it
 abbrev pub isFoundSound : State → Bool
 isFoundSound s =
     isHeadWithin (s .head)
-    && areNext (s .head) 0 zeroRequest (waiting s)
+    && (areNext (s .head) 0 zeroRequest (waiting s) && haveRoom (s .head) 0 (waiting s))
     && every isZeroRequest (behind s)
     && everyFrom (isBalanced (waiting s)) 0 (clientTable s)
 
@@ -134,12 +145,19 @@ sound-pass s = same-test (isSound s) (isFoundSound s) to from
     to e =
         let p = simp and-eq-true-iff at e in
         let q = p .0 .0 .0 in
-        let f = passes (s .head) (waiting s) (q .0 .0 .0 .1) (q .0 .0 .1) (q .0 .1) (q .1) (p .0 .0 .1) in
-        rw (q .0 .0 .0 .0, next-test (s .head) 0 zeroRequest (waiting s) f, p .0 .1, p .1)
+        let f = passes (s .head) (waiting s) (q .0 .0 .0 .1) (q .0 .0 .1) (q .0 .1) (q .1) in
+        let roomy = feasible-roomy (s .head) (waiting s) (order-facts (waiting s) (q .0 .0 .0 .1)) (p .0 .0 .1) in
+        rw (
+          q .0 .0 .0 .0,
+          next-test (s .head) 0 zeroRequest (waiting s) f roomy,
+          room-test (s .head) 0 (waiting s) roomy,
+          p .0 .1,
+          p .1,
+        )
 
     from : isFoundSound s ≡ true → isSound s ≡ true
     from e =
         let p = simp and-eq-true-iff at e in
-        let f = next-facts (s .head) 0 zeroRequest (waiting s) (p .0 .0 .1) in
-        let g = passed (s .head) (waiting s) f in
+        let f = next-facts (s .head) 0 zeroRequest (waiting s) (p .0 .0 .1 .0) in
+        let g = passed (s .head) (waiting s) f (room-facts (s .head) 0 (waiting s) (p .0 .0 .1 .1)) in
         rw (p .0 .0 .0, g .0, f .ahead, f .given, f .owned, g .1, p .0 .1, p .1)

@@ -14,36 +14,23 @@ use lib.Dec.{T, T-not, leb, ltb, eqb, eqb→eq, eqb-refl}
 use lib.ListN.{length, take, replicate}
 use lib.Seq.{take-all}
 use mir.Val.{boolByte}
-use Rattle.slots.proofs.Laws.Tests.{le, gt, order, Test, holds, fails, test}
+use Rattle.slots.proofs.Laws.Tests.{Test, holds, fails, test}
 use Rattle.spec.specs.declared.types.Head.{Head}
 use Rattle.spec.specs.declared.types.Request.{Request}
 use Rattle.spec.specs.declared.types.Counts.{Counts}
 use Rattle.spec.specs.Every.{isWithin, every, everyFrom}
 use Rattle.spec.specs.Tables.{mostClients, mostRecords, mostCounted, State, clientWidth, recordsOf}
 use Rattle.spec.specs.Order.{comesBefore}
-use Rattle.spec.specs.Chart.{roomTo}
 use Rattle.spec.specs.Sound.{waitingOf, isZeroRequest, isBalanced}
 use Rattle.spec.specs.Calls.Refusals.{refusal4}
 use Rattle.spec.proofs.Laws.Every.{Value, is-true, is-false, value}
 use Rattle.spec.proofs.Laws.Order.{Compared, compared, before as ordered, after as unordered, earlier, alike, later, alike-later}
-use Rattle.spec.proofs.Laws.Room.{room-back}
 use Rattle.spec.proofs.Laws.Layout.{whole-records}
 use Rattle.spec.proofs.Laws.Sound.{within-test, Shaped}
 use Rattle.table.proofs.Remaining.{rest-none, records-rest}
 use Rattle.table.proofs.MovedRecords.{not-not}
 use Rattle.sound.specs.Checks.{hasShape, isNext, doesBalance, balancesAt, areBalancedFrom, tallySize, talliedOf, Tallied}
 use Rattle.sound.proofs.Tally.{tally-zero}
-
--- ---- a deadline that has room is past the clock
-pub room-past : (head : Head) (i deadline : ℕ) → i < roomTo head deadline → head .clock < deadline
-room-past head i deadline h =
-    elim (order deadline (head .clock)) [
-      | le g ↦ absurd (omega (arith, room-back (head .setup) (head .clock) deadline g))
-      | gt g ↦ g
-    ]
-
-pub room-some : (head : Head) (i deadline : ℕ) → i < roomTo head deadline → 1 ≤ deadline
-room-some head i deadline h = omega (arith, room-past head i deadline h)
 
 -- ---- chart order as one comparison: a deadline may follow itself only where the number is larger
 -- what a deadline is lowered by
@@ -72,14 +59,14 @@ pub next-order : (head : Head) (i : ℕ) (before w : Request)
     → 1 ≤ w .number
     → w .number ≤ head .last
     → w .client < head .setup .clients
-    → ltb i (roomTo head (w .deadline)) ≡ true
+    → ltb (head .clock + i) (w .deadline) ≡ true
     → isNext head i before w ≡ comesBefore before w
 unfolding isNext
-next-order head i before w some most owned room =
+next-order head i before w some most owned ahead =
     rw (
       within-test 1 (head .last) (w .number) some most,
       lt-ltb (w .client) (head .setup .clients) owned,
-      room,
+      ahead,
     )
 
 -- ---- a record that may stand where it does has a client that exists

@@ -130,7 +130,7 @@ pass-told head ys m n tally₀ tally₁ tally p r within l few less first second
 
 -- ---- bounds hold of fewer records too
 pub fewer-bounded : {head : Head} {n : ℕ} (i : ℕ) → Bounded head n → i ≤ n → Bounded head i
-fewer-bounded i b l = record { clients = b .clients; clock = b .clock; records = omega arith }
+fewer-bounded i b l = record { clients = b .clients; clock = b .clock; slots = b .slots; records = omega arith }
 
 -- ---- the record at an index is the one before the next index
 pub comes-next : (ys : List Request) (i j : ℕ) → j ≡ i + 1 → getD ys i zeroRequest ≡ recordBefore ys j

@@ -8,13 +8,13 @@ use lib.ListN.{length, getD, set, take, drop}
 use Rattle.spec.specs.declared.types.Head.{Head}
 use Rattle.spec.specs.declared.types.Request.{Request}
 use Rattle.spec.specs.declared.types.Counts.{Counts}
-use Rattle.spec.specs.Every.{isWithin, everyFrom}
+use Rattle.spec.specs.Every.{isWithin, every, everyFrom}
 use Rattle.spec.specs.Tables.{mostClients, mostRecords, mostAhead, mostCounted, clockEnd, zeroRequest, zeroCounts, State}
-use Rattle.spec.specs.Tables.{clientWidth, recordsOf}
+use Rattle.spec.specs.Tables.{clientWidth, recordsOf, waiting, behind, clientTable}
 use Rattle.spec.specs.Setup.{firstMatch}
 use Rattle.spec.specs.Order.{comesBefore}
 use Rattle.spec.specs.Chart.{roomTo}
-use Rattle.spec.specs.Sound.{isGiven, isClient, isHeadWithin, waitingOf}
+use Rattle.spec.specs.Sound.{isGiven, isClient, isHeadWithin, waitingOf, isZeroRequest, isBalanced}
 use Rattle.spec.specs.Calls.Refusals.{refusal4, refusal5}
 use Rattle.table.specs.Widths.{largest16}
 
@@ -23,13 +23,13 @@ unfoldable pub hasShape : Head → ℕ → ℕ → Bool
 hasShape head records numbers =
     isWithin 1 mostRecords records && eqb numbers (clientWidth * head .setup .clients) && leb (head .waiting) records
 
--- the clauses of soundness that speak of waiting records, but for how far ahead a deadline is (`isNear`), of one record: its
--- index, the record before it, the record
+-- the clauses of soundness that speak of waiting records, but for how far ahead a deadline is (`isNear`) and for closed slots
+-- (`haveRoom`), of one record: its index, the record before it, the record
 unfoldable pub isNext : Head → ℕ → Request → Request → Bool
 isNext head i before w =
     isGiven (head .last) (w .number)
     && isClient (head .setup .clients) (w .client)
-    && ltb i (roomTo head (w .deadline))
+    && ltb (head .clock + i) (w .deadline)
     && comesBefore before w
 
 -- ---- a count per client, in four parts: records are counted in them by turns, and a client's count is the sum of its four
@@ -68,6 +68,7 @@ pub record Countable (more : ℕ) (tally : List ℕ) : Type 0 where
 pub record Bounded (head : Head) (n : ℕ) : Type 0 where
   pub clients : head .setup .clients ≤ mostClients
   pub clock : head .clock ≤ clockEnd
+  pub slots : 1 ≤ head .setup .hour
   pub records : n ≤ mostRecords
 
 -- where it stands: whether all records so far passed, and the count per client
@@ -102,6 +103,11 @@ unfoldable pub areNext : Head → ℕ → Request → List Request → Bool
 areNext head i before [] = isNear head (before .deadline)
 areNext head i before (w ∷ ws) = isNext head i before w && areNext head (suc i) w ws
 
+-- whether each has room for those before it and itself, by open slots; the first has the index i
+unfoldable pub haveRoom : Head → ℕ → List Request → Bool
+haveRoom head i [] = true
+haveRoom head i (w ∷ ws) = ltb i (roomTo head (w .deadline)) && haveRoom head (suc i) ws
+
 -- a client's counts balance with so many waiting
 unfoldable pub doesBalance : Counts → ℕ → Bool
 doesBalance k waits = eqb (k .submitted) (k .served + k .dropped + waits) && leb (k .submitted) mostCounted
@@ -126,6 +132,12 @@ pub record Passed (head : Head) (ws : List Request) (tally₀ : List ℕ) (r : B
 -- what the tables call for, before a call's own refusals: 4 or 5, or 0 where neither matches
 unfoldable pub tablesRefusal : State → ℕ
 tablesRefusal s = firstMatch (refusal4 s ∷ refusal5 s ∷ [])
+
+-- what the contents of tables that fit call for, where all slots count: 5, or 0
+unfoldable pub contentsRefusal : State → ℕ
+contentsRefusal s =
+    cond (areNext (s .head) 0 zeroRequest (waiting s)
+    && (every isZeroRequest (behind s) && everyFrom (isBalanced (waiting s)) 0 (clientTable s))) 0 5
 
 -- what the lengths and the head call for, before any record is looked at: 4 or 5, or 0
 unfoldable pub headRefusal : Head → ℕ → ℕ → ℕ

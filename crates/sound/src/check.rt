@@ -1,6 +1,8 @@
 // The refusal that the tables call for: first by the lengths and the head, then by the waiting records, those behind them, and the
 // clients' counts, each record and each client looked at once.
 use crate::records;
+use crate::room;
+use hours::marks;
 use spec::bounds;
 use spec::types::Counts;
 use spec::types::Head;
@@ -15,7 +17,7 @@ ghost use Rattle.spec.specs.Every.{everyFrom};
 ghost use Rattle.spec.specs.Tables.{mostClients, clientWidth, recordsOf, stateOf};
 ghost use Rattle.spec.specs.Setup.{firstMatch, setupRefusals};
 ghost use Rattle.spec.specs.Sound.{isHeadWithin};
-ghost use Rattle.sound.specs.Checks.{hasShape, doesBalance, balancesAt, tallySize, talliedOf, areBalancedFrom, headRefusal, tablesRefusal};
+ghost use Rattle.sound.specs.Checks.{hasShape, doesBalance, balancesAt, tallySize, talliedOf, areBalancedFrom, headRefusal, contentsRefusal, tablesRefusal};
 
 // The number of the first refusal of a setup that matches, 0 where none does.
 pub fn setup_refusal(setup: Setup) -> u64
@@ -26,6 +28,12 @@ pub fn setup_refusal(setup: Setup) -> u64
     }
     if !((1 <= setup.period) & (setup.period <= bounds::MOST_PERIOD)) {
         return 3;
+    }
+    if !((1 <= setup.hour) & (setup.hour <= bounds::MOST_PER_HOUR)) {
+        return 13;
+    }
+    if marks::are_all_closed(setup) {
+        return 14;
     }
     0
 }
@@ -133,8 +141,7 @@ pub(crate) fn are_balanced(tally: &[u16], numbers: &[u32], n: usize) -> bool
     balance_rest(tally, numbers, n / 4 * 4, n, fours)
 }
 
-// The refusal that the three passes call for, of the waiting records, of those behind them and of the clients: 5, 0 where there
-// is none.
+// The refusal that the passes call for, of the waiting records, of those behind them and of the clients: 5, 0 where there is none.
 fn verdict(next: bool, zero: bool, balanced: bool) -> u64
     ensures { λ r. ⌜ r ≡ cond (next && (zero && balanced)) 0 5 ⌝ }
 {
@@ -144,10 +151,10 @@ fn verdict(next: bool, zero: bool, balanced: bool) -> u64
     5
 }
 
-// The refusal that the contents of the tables call for, where lengths and head call for none.
+// The refusal that the contents of the tables call for where all slots count, if lengths and head call for none.
 fn contents_refusal(waiting: &[Request], numbers: &[u32], head: Head) -> u64
     requires { ⌜ headRefusal head (length (now waiting)) (length (now numbers)) ≡ 0 ⌝ }
-    ensures { λ r. ⌜ r ≡ tablesRefusal (stateOf head (now (waiting .entry)) (now (numbers .entry))) ⌝ }
+    ensures { λ r. ⌜ r ≡ contentsRefusal (stateOf head (now (waiting .entry)) (now (numbers .entry))) ⌝ }
 {
     let mut tally = [0u16; 4 * bounds::MOST_CLIENTS];
     let n = head.waiting as usize;
@@ -157,7 +164,8 @@ fn contents_refusal(waiting: &[Request], numbers: &[u32], head: Head) -> u64
     verdict(next, zero, balanced)
 }
 
-// The refusal that the tables call for, 0 where there is none.
+// The refusal that the tables call for, 0 where there is none. The room by open slots is asked last and apart: whatever lives across the
+// pass over the records takes one of its registers, which every call pays for, and closed hours are few.
 pub fn tables_refusal(waiting: &[Request], numbers: &[u32], head: Head) -> u64
     ensures { λ r. ⌜ r ≡ tablesRefusal (stateOf head (now (waiting .entry)) (now (numbers .entry))) ⌝ }
 {
@@ -165,5 +173,10 @@ pub fn tables_refusal(waiting: &[Request], numbers: &[u32], head: Head) -> u64
     if refusal != 0 {
         return refusal;
     }
-    contents_refusal(waiting, numbers, head)
+    let contents = contents_refusal(waiting, numbers, head);
+    if contents != 0 {
+        return contents;
+    }
+    let roomy = room::have_room(waiting, head, head.waiting as usize);
+    verdict(roomy, true, true)
 }

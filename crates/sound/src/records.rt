@@ -13,9 +13,9 @@ ghost use Rattle.spec.specs.Tables.{mostRecords, clockEnd};
 ghost use Rattle.spec.specs.Sound.{isZeroRequest};
 ghost use Rattle.sound.specs.Checks.{isNext, isNear, Countable, Bounded, turn, turns, recordBefore, withLastNear, Passed};
 
-// Whether w can stand at the index i, behind the record before it; how far ahead it is, `is_near` asks of the last one. Chart order
-// takes one comparison: w's deadline counts one less where its number is not the larger. Branches on the deadlines take longer where
-// few records wait: docs/landings/04-session.md.
+// Whether w can stand at the index i, behind the record before it. All slots count here: `room::have_room` asks for room by open slots, and
+// `is_near` asks of the last record how far ahead it is. Chart order takes one comparison: w's deadline counts one less where its number is
+// not the larger. Branches on the deadlines take longer where few records wait: docs/landings/04-session.md.
 pub(crate) fn is_next(head: Head, i: u64, before: Request, w: Request) -> bool
     requires { ⌜ (head .clock ≤ clockEnd) × (i ≤ mostRecords) ⌝ }
     ensures { λ r. ⌜ r ≡ isNext head i before w ⌝ }
@@ -29,7 +29,7 @@ pub(crate) fn is_next(head: Head, i: u64, before: Request, w: Request) -> bool
     if head.setup.clients <= w.client {
         return false;
     }
-    if !overfull::has_room(head, i, w.deadline) {
+    if !overfull::is_ahead_by(head, i, w.deadline) {
         return false;
     }
     before.deadline <= w.deadline - (w.number <= before.number) as u64

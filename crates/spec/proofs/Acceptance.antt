@@ -1,4 +1,4 @@
--- What the definitions compute: document 01's worked reads and sessions, the refusals in order, damaged tables, a list read off.
+-- What the definitions compute: document 01's worked reads and sessions, the refusals in order, damaged tables, a list read off, an open's marks.
 pub mod Computed
 pub mod Cases
 pub mod Sessions
@@ -6,3 +6,4 @@ pub mod Refusals
 pub mod Damaged
 pub mod ReadOff
 pub mod Printed
+pub mod Marks

@@ -5,4 +5,6 @@ pub mod Victim
 pub mod Keeps
 pub mod Fair
 pub mod LatestSlots
+pub mod Segments
+pub mod AllOpen
 pub mod Widths

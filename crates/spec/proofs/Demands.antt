@@ -3,4 +3,5 @@ pub mod Words
 pub mod Demand1
 pub mod Demand2
 pub mod Demand3
+pub mod AllOpen
 pub mod Sessions

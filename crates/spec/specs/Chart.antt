@@ -1,5 +1,6 @@
--- The occupancy chart, overfull deadlines, candidates and the victim: document 01, "Chart and victim". Assumes nothing.
-use Prim.Native.Nat.{ℕ, suc, _-_, _*_, min}
+-- The occupancy chart, overfull deadlines, candidates and the victim: document 01, "Chart and victim", and document 02, 2.2. Assumes
+-- nothing.
+use Prim.Native.Nat.{ℕ, zero, suc, _*_, min}
 use mathlib.Core.Bool.{Bool, not, cond}
 use mathlib.Core.List.{List, [], _∷_}
 use lib.Dec.{leb, ltb, eqb}
@@ -11,15 +12,26 @@ use Rattle.spec.specs.declared.types.Counts.{Counts}
 use Rattle.spec.specs.Every.{every, countIf}
 use Rattle.spec.specs.Tables.{zeroRequest, zeroCounts}
 use Rattle.spec.specs.Order.{removeAt}
+use Rattle.spec.specs.Hours.{capacityOf, room}
 
--- "a request ends at the smaller of its deadline and the start of the record behind it": behind it are the starts of the later ones
-abbrev pub endOf : Request → List ℕ → ℕ
-endOf w [] = w .deadline
-endOf w (start ∷ later) = min (w .deadline) start
+-- document 02, 2.2: "the chart uses the latest open slots": how many of these start slots are the slot s
+abbrev pub taken : ℕ → List ℕ → ℕ
+taken s starts = countIf (eqb s) starts
 
--- ".. and starts one slot earlier."
+-- "a request ends at the smaller of its deadline and the start of the record behind it": its slot is before its deadline and not behind
+-- that of the record behind it, which is taken; behind it are the starts of the later ones
+abbrev pub limitOf : ℕ → List ℕ → ℕ
+limitOf deadline [] = deadline
+limitOf deadline (start ∷ later) = min deadline (suc start)
+
+-- the latest slot before e that can take one more, 0 where there is none; the slots of the later ones are taken
+unfoldable pub latestFree : Setup → List ℕ → ℕ → ℕ
+latestFree setup later zero = 0
+latestFree setup later (suc e) =
+    let earlier = latestFree setup later e in cond (ltb (taken e later) (capacityOf setup e)) e earlier
+
 abbrev pub startBefore : Setup → Request → List ℕ → List ℕ
-startBefore setup w later = (endOf w later - 1) ∷ later
+startBefore setup w later = latestFree setup later (limitOf (w .deadline) later) ∷ later
 
 -- "From the last record to the first": the start slots, in chart order
 unfoldable pub startsOf : Setup → List Request → List ℕ
@@ -31,11 +43,11 @@ pub record Segment : Type 0 where
   pub left : ℕ
   pub right : ℕ
 
--- an interval that ends at `end` touches one that starts at `start`
+-- document 02, 2.2: "two of them touch if no open slot lies between": an interval that ends at `end` touches one that starts at `start`
 abbrev pub doTouch : Setup → ℕ → ℕ → Bool
-doTouch setup end start = eqb end start
+doTouch setup end start = eqb (room setup end start) 0
 
--- the segments with the interval of one more start slot, on their left
+-- document 02, 2.2: "each interval ending one after its own slot": the segments with the interval of one more start slot, on their left
 abbrev pub joinLeft : Setup → ℕ → List Segment → List Segment
 joinLeft setup s [] = record { left = s; right = suc s } ∷ []
 joinLeft setup s (g ∷ gs) =
@@ -47,15 +59,7 @@ unfoldable pub segmentsOf : Setup → List ℕ → List Segment
 segmentsOf setup [] = []
 segmentsOf setup (s ∷ starts) = joinLeft setup s (segmentsOf setup starts)
 
--- "serves one in each slot": how many requests a slot can take
-unfoldable pub capacityOf : Setup → ℕ → ℕ
-capacityOf setup slot = 1
-
--- how many requests the slots a, a + 1, .. b - 1 can take
-unfoldable pub room : Setup → ℕ → ℕ → ℕ
-room setup a b = b - a
-
--- "D minus the clock"
+-- "D minus the clock", document 02, 2.2: "Wherever document 01 counts slots up to a deadline, only open ones count"
 abbrev pub roomTo : Head → ℕ → ℕ
 roomTo head D = room (head .setup) (head .clock) D
 

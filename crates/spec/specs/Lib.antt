@@ -1,5 +1,6 @@
 pub mod Every
 pub mod Tables
+pub mod Hours
 pub mod Setup
 pub mod Order
 pub mod Chart

@@ -12,7 +12,7 @@ use Rattle.spec.specs.Setup.{isSetupWithin}
 use Rattle.spec.specs.Order.{isInOrder}
 use Rattle.spec.specs.Chart.{hasNoOverfull}
 
--- "the head is within these bounds and those of every value document 02 adds to it": so far it adds none
+-- "the head is within these bounds and those of every value document 02 adds to it", 2.2: "a sound head has neither" 13 nor 14
 unfoldable pub isHeadWithin : Head → Bool
 isHeadWithin h =
     isSetupWithin (h .setup)

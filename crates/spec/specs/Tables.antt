@@ -35,13 +35,27 @@ mostPeriod = 4294967295
 abbrev pub mostAhead : ℕ
 mostAhead = 65535
 
--- "Open takes clients and period": how many numbers a setup is, and the setup that numbers are, in this order; one that is not
--- there is 0
-abbrev pub setupWidth : ℕ
-setupWidth = 2
+-- document 02, 2.2: "slots per hour outside 1 to 360,000"
+abbrev pub mostPerHour : ℕ
+mostPerHour = 360000
 
+-- document 02, 2.2: "168 open-or-closed marks": how many hours have a mark
+abbrev pub hours : ℕ
+hours = 168
+
+-- "Open takes clients and period", and document 02, 2.2: "Open takes slots per hour and 168 open-or-closed marks": the setup that these
+-- numbers are, in this order, the marks as four numbers; one that is not there is 0
 abbrev pub setupOf : List ℕ → Setup
-setupOf xs = record { clients = getD xs 0 0; period = getD xs 1 0 }
+setupOf xs =
+    record {
+      clients = getD xs 0 0;
+      period = getD xs 1 0;
+      hour = getD xs 2 0;
+      marks0 = getD xs 3 0;
+      marks64 = getD xs 4 0;
+      marks128 = getD xs 5 0;
+      marks160 = getD xs 6 0;
+    }
 
 -- records that are zero
 abbrev pub zeroSetup : Setup

@@ -1,4 +1,4 @@
-// The bounds of document 01, as code has them; specs/Tables.antt has them for contracts.
+// The bounds of documents 01 and 02, as code has them; specs/Tables.antt has them for contracts.
 
 // "Clients: 1 to 256, numbered from 0."
 pub const MOST_CLIENTS: usize = 256;
@@ -19,3 +19,9 @@ pub const MOST_PERIOD: u64 = 4294967295;
 
 // "each deadline is past the clock by 1 to 65,535"
 pub const MOST_AHEAD: u64 = 65535;
+
+// "slots per hour outside 1 to 360,000"
+pub const MOST_PER_HOUR: u64 = 360000;
+
+// "168 open-or-closed marks"
+pub const HOURS: u64 = 168;

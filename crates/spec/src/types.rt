@@ -1,4 +1,5 @@
-// The types of the queue, document 01, "Tables and bounds" and "Calls", and document 02, 2.1; and the setup before the first open.
+// The types of the queue, document 01, "Tables and bounds" and "Calls", and document 02, 2.1 and 2.2; and the setup before the first
+// open.
 
 // "A record has a deadline, a request number and a client." Laid out as C does, for programs in other languages.
 #[repr(C)]
@@ -15,19 +16,31 @@ pub struct Counts {
     pub dropped: u32,
 }
 
-// "Open takes clients and period": what open sets and no other call changes.
+// "Open takes clients and period", and document 02, 2.2: "Open takes slots per hour and 168 open-or-closed marks": what open sets and no
+// other call changes. `hour` is the slots per hour. The marks are 168 bits, "first hour in the highest bit, 1 meaning open", in four
+// numbers, each named by its first hour, so that there is no bit of which no paper speaks.
 pub struct Setup {
     pub clients: u64,
     pub period: u64,
+    pub hour: u64,
+    pub marks0: u64,
+    pub marks64: u64,
+    pub marks128: u32,
+    pub marks160: u8,
 }
 
 // The setup before the first open.
 pub const ZERO_SETUP: Setup = Setup {
     clients: 0,
     period: 0,
+    hour: 0,
+    marks0: 0,
+    marks64: 0,
+    marks128: 0,
+    marks160: 0,
 };
 
-// "The head, passed and handed back: clients, period, clock, last request number, waiting count."
+// "The head, passed and handed back: clients, period, clock, last request number, waiting count.", and what document 02 adds to a setup.
 pub struct Head {
     pub setup: Setup,
     pub clock: u64,
@@ -66,6 +79,9 @@ pub enum Answer {
     },
     Charted {
         count: u64,
+    },
+    Closed {
+        slot: u64,
     },
     Refused {
         number: u64,

@@ -7,20 +7,23 @@
 -- Assumes nothing.
 use Prim.Native.Nat.{_+_}
 use prog.Routine.{Env}
-use Rattle.walk.proofs.Prelude.{_≡_, List, _∷_, URA, Name, Fn, SProp, Memory, Model, Routine, Heap, Atoms, Fun, GhostRules, Running, givenOf, Given, u64, Array, RattleType, Clauses, tripleOf, Contract, Triple}
+use Rattle.walk.proofs.Prelude.{_≡_, List, _∷_, URA, Name, Fn, SProp, Memory, Model, Routine, Heap, Atoms, Fun, GhostRules, Running, givenOf, Given, u8, u64, Array, RattleType, Clauses, tripleOf, Contract, Triple}
 use Rattle.walk.proofs.Enter.{ParamKind, Lies, endedOf}
 use Rattle.walk.proofs.Prelude.{Shape}
-use Rattle.spec.specs.Tables.{setupWidth}
+use Rattle.welsbell.specs.Numbers.{setupWidth, markBytes}
 use Rattle.welsbell.proofs.numbers.head_of as head-of
 use Rattle.welsbell.proofs.numbers.write_head as write-head
 use Rattle.welsbell.proofs.numbers.write_values as write-values
 
--- the arrays that are lent: a setup's numbers, a head's and an answer's
+-- the arrays that are lent: a setup's numbers, a head's, the marks of the hours, and an answer's values
 abbrev pub setup-array : RattleType
 setup-array = Array u64 setupWidth
 
 abbrev pub head-array : RattleType
 head-array = Array u64 (setupWidth + 3)
+
+abbrev pub marks-array : RattleType
+marks-array = Array u8 markBytes
 
 abbrev pub values-array : RattleType
 values-array = Array u64 5

@@ -1,10 +1,13 @@
-//! A station that embeds the queue, with tables of 8 waiting records and 2 clients. It makes the calls of document 01's session,
-//! goes on until nothing waits and then for three reads more, and says each answer in words. embed.c and embed.py, in examples/embed/, do the same.
+//! A station that embeds the queue, with tables of 8 waiting records and 2 clients. An hour has 3 slots, and hour 1 belongs to the
+//! inspectors: slots 3, 4 and 5. It makes the calls of document 01's session, which end before, goes on until nothing waits and then
+//! for reads around that hour, and says each answer in words. embed.c and embed.py, in examples/embed/, do the same.
 use std::process::exit;
-use welsbell::{version, Answer, Queue, Setup, Tables, VERSION};
+use welsbell::{version, Answer, Hours, Queue, Setup, Tables, VERSION};
 
 const RECORDS: usize = 8;
 const CLIENTS: usize = 2;
+const SLOTS_PER_HOUR: u64 = 3;
+const INSPECTION: usize = 1;
 
 fn submit(queue: &mut Queue, client: u64, deadline: u64) {
     let answer = queue.submit(client, deadline);
@@ -27,6 +30,18 @@ fn chart(queue: &Queue) {
     }
 }
 
+fn open(queue: &mut Queue) {
+    let setup = Setup {
+        clients: CLIENTS as u64,
+        period: 100,
+        slots_per_hour: SLOTS_PER_HOUR,
+    };
+    let mut hours = Hours::ALL_OPEN;
+    hours.mark(INSPECTION, false);
+    let answer = queue.open(setup, hours);
+    println!("open with {CLIENTS} clients, {SLOTS_PER_HOUR} slots an hour, hour {INSPECTION} closed: {answer}");
+}
+
 fn main() {
     if version() != VERSION {
         eprintln!("the archive has version {}, the wrapper {VERSION}", version());
@@ -34,11 +49,7 @@ fn main() {
     }
     let mut tables = Tables::<RECORDS, CLIENTS>::new();
     let mut queue = tables.queue();
-    let setup = Setup {
-        clients: CLIENTS as u64,
-        period: 100,
-    };
-    println!("open with {CLIENTS} clients: {}", queue.open(setup));
+    open(&mut queue);
     submit(&mut queue, 0, 1);
     submit(&mut queue, 1, 2);
     submit(&mut queue, 1, 1);
@@ -48,7 +59,10 @@ fn main() {
     tick(&mut queue);
     tick(&mut queue);
     submit(&mut queue, 2, 9);
+    submit(&mut queue, 0, 5);
     submit(&mut queue, 0, 9);
-    submit(&mut queue, 0, 4);
-    submit(&mut queue, 1, 4);
+    submit(&mut queue, 0, 7);
+    submit(&mut queue, 1, 7);
+    tick(&mut queue);
+    chart(&queue);
 }

@@ -1,23 +1,26 @@
-//! The recorder's read queue. Clients submit reads with deadlines, one read is served in each slot, and where not all can finish
-//! one is dropped, fairly shared among the clients. This crate wraps the calls of the proved library, each of which is proved
-//! equal to its definition for all input.
+//! The recorder's read queue. Clients submit reads with deadlines, one read is served in each open slot, and where not all can
+//! finish one is dropped, fairly shared among the clients. This crate wraps the calls of the proved library, each of which is
+//! proved equal to its definition for all input.
 //!
-//! The caller lends the head and the tables and keeps them: a call allocates nothing, keeps nothing from one call to the next and
-//! ends for all input. One that is refused says why and changes nothing, whatever the tables hold. [`Tables`] owns a head and
-//! tables of a size that is known beforehand; a [`Queue`] borrows them, or any others.
+//! The caller lends the head, the hours and the tables and keeps them: a call allocates nothing, keeps nothing from one call to the
+//! next and ends for all input. One that is refused says why and changes nothing, whatever the tables hold. [`Tables`] owns a head,
+//! hours and tables of a size that is known beforehand; a [`Queue`] borrows them, or any others.
 //!
 //! Every method is safe with an archive of this crate's version, which a program asks for first ([`version`]). The library leaves to
 //! its caller that pointers are good for their lengths, that nothing that is lent overlaps and that nobody else uses it meanwhile;
 //! here Rust's borrows keep all of that.
 //!
 //! ```
-//! use welsbell::{Answer, Refusal, Setup, Tables};
+//! use welsbell::{Answer, Hours, Refusal, Setup, Tables};
 //!
 //! // 8 waiting records, 2 clients
 //! let mut tables = Tables::<8, 2>::new();
 //! let mut queue = tables.queue();
-//! assert_eq!(queue.open(Setup { clients: 2, period: 100 }), Answer::Opened);
-//! assert_eq!(queue.submit(0, 2), Answer::Kept { number: 1, place: 0, shift: 0 });
+//! // slots 2 and 3 are hour 1 of the week, which belongs to the inspectors
+//! let mut hours = Hours::ALL_OPEN;
+//! hours.mark(1, false);
+//! assert_eq!(queue.open(Setup { clients: 2, period: 100, slots_per_hour: 2 }, hours), Answer::Opened);
+//! assert_eq!(queue.submit(0, 4), Answer::Kept { number: 1, place: 0, shift: 0 });
 //! // two reads that have to end with slot 0: one is too many, and the first read stands behind each
 //! assert_eq!(queue.submit(0, 1), Answer::Kept { number: 2, place: 0, shift: 1 });
 //! assert_eq!(queue.submit(1, 1), Answer::Dropped { number: 3, victim: 3, client: 1, shift: 1 });
@@ -27,7 +30,9 @@
 //! let answer = queue.submit(0, 2);
 //! assert_eq!(answer, Answer::Refused(Refusal::Deadline));
 //! assert_eq!(answer.to_string(), "refused, number 7: the deadline is not 1 to 65535 slots after the clock");
-//! assert_eq!(tables.head.clock, 2);
+//! assert_eq!(queue.submit(0, 4), Answer::Refused(Refusal::NoOpenSlot));
+//! assert_eq!(queue.tick(), Answer::Closed { slot: 2 });
+//! assert_eq!(tables.head.clock, 3);
 //! ```
 #![no_std]
 
@@ -35,7 +40,7 @@ use core::fmt::{self, Display, Formatter};
 use core::ptr::{from_mut, from_ref};
 
 /// The version that this crate is written for. An archive of another version does not fit: see [`version`].
-pub const VERSION: u64 = 3;
+pub const VERSION: u64 = 4;
 
 /// The version of the archive that was linked, to be compared with [`VERSION`] before the first call.
 pub fn version() -> u64 {
@@ -49,7 +54,11 @@ pub const MOST_CLIENTS: usize = 256;
 pub const MOST_RECORDS: usize = 2_048;
 /// A period is 1 to so many slots.
 pub const MOST_PERIOD: u64 = 4_294_967_295;
-/// A deadline is past the clock by 1 to so many slots.
+/// An hour has 1 to so many slots.
+pub const MOST_PER_HOUR: u64 = 360_000;
+/// A week has so many hours, each open or closed.
+pub const HOURS: usize = 168;
+/// A deadline is past the clock by 1 to so many slots, open and closed ones counted.
 pub const MOST_AHEAD: u64 = 65_535;
 /// A client's submitted, served and dropped are each at most this.
 pub const MOST_COUNTED: u32 = 268_435_455;
@@ -74,13 +83,46 @@ pub struct Client {
     pub dropped: u32,
 }
 
-/// What open sets.
+/// What open sets; the hours come beside it.
 #[repr(C)]
 #[derive(Clone, Copy, Debug, Default, PartialEq, Eq)]
 pub struct Setup {
     pub clients: u64,
-    /// In slots.
+    /// In slots, open and closed ones counted.
     pub period: u64,
+    pub slots_per_hour: u64,
+}
+
+/// The hours of the week. Hour 0 begins at clock 0, and behind hour 167 the marks repeat: slot s lies in hour
+/// `s / slots_per_hour % 168`. In the slots of a closed hour nothing is served. They may hold anything before an open.
+#[repr(C)]
+#[derive(Clone, Copy, Debug, Default, PartialEq, Eq)]
+pub struct Hours {
+    /// Of each hour a mark, 1 where it is open, the first hour's in the highest bit of the first byte.
+    pub marks: [u8; HOURS / 8],
+}
+
+impl Hours {
+    /// A week without a closed hour.
+    pub const ALL_OPEN: Hours = Hours {
+        marks: [0xFF; HOURS / 8],
+    };
+
+    /// Whether an hour is open; hour 168 is hour 0 again.
+    pub const fn is_open(&self, hour: usize) -> bool {
+        self.marks[hour % HOURS / 8] & bit(hour) != 0
+    }
+
+    /// Marks an hour as open or closed; hour 168 is hour 0 again.
+    pub const fn mark(&mut self, hour: usize, is_open: bool) {
+        let byte = &mut self.marks[hour % HOURS / 8];
+        *byte = if is_open { *byte | bit(hour) } else { *byte & !bit(hour) };
+    }
+}
+
+// The hour's mark in its byte.
+const fn bit(hour: usize) -> u8 {
+    0x80 >> (hour % 8)
 }
 
 /// What is passed to each call and handed back; may hold anything before an open.
@@ -96,7 +138,7 @@ pub struct Head {
 }
 
 // All of these are laid out as in the archive.
-const _: () = assert!(size_of::<Setup>() == 16 && size_of::<Head>() == 40);
+const _: () = assert!(size_of::<Setup>() == 24 && size_of::<Head>() == 48 && size_of::<Hours>() == 21);
 const _: () = assert!(size_of::<Request>() == 24 && size_of::<Client>() == 12);
 
 /// Why a call was refused: the first reason that matches. Nothing has changed.
@@ -106,14 +148,20 @@ pub enum Refusal {
     Clients = 2,
     /// The period is not 1 to 4,294,967,295 slots.
     Period = 3,
+    /// Slots per hour are not 1 to 360,000.
+    PerHour = 13,
+    /// All hours are closed.
+    AllClosed = 14,
     /// The tables do not have the lengths that are needed: see [`Queue`].
     Lengths = 4,
-    /// The tables are not sound.
+    /// Head, hours and tables are not sound.
     Unsound = 5,
     /// The client does not exist.
     Client = 6,
-    /// The deadline is not after the clock, or more than 65,535 after it.
+    /// The deadline is not after the clock, or more than 65,535 after it, all slots counted.
     Deadline = 7,
+    /// No slot from the clock to the deadline is open.
+    NoOpenSlot = 15,
     /// The client's submitted is 268,435,455.
     Count = 8,
     /// The last request number has been given.
@@ -128,13 +176,16 @@ pub enum Refusal {
 
 impl Refusal {
     /// Every refusal that a call gives, in the order in which they are asked.
-    pub const ALL: [Refusal; 11] = [
+    pub const ALL: [Refusal; 14] = [
         Refusal::Clients,
         Refusal::Period,
+        Refusal::PerHour,
+        Refusal::AllClosed,
         Refusal::Lengths,
         Refusal::Unsound,
         Refusal::Client,
         Refusal::Deadline,
+        Refusal::NoOpenSlot,
         Refusal::Count,
         Refusal::Number,
         Refusal::Full,
@@ -142,7 +193,7 @@ impl Refusal {
         Refusal::Output,
     ];
 
-    /// Its number, 2 to 12.
+    /// Its number, 2 to 15.
     pub const fn number(self) -> u64 {
         self as u64
     }
@@ -158,10 +209,13 @@ impl Display for Refusal {
         f.write_str(match self {
             Refusal::Clients => "clients are not 1 to 256",
             Refusal::Period => "the period is not 1 to 4294967295 slots",
+            Refusal::PerHour => "slots per hour are not 1 to 360000",
+            Refusal::AllClosed => "all hours are closed",
             Refusal::Lengths => "the tables do not have the lengths that are needed",
             Refusal::Unsound => "the tables are not sound",
             Refusal::Client => "the client does not exist",
             Refusal::Deadline => "the deadline is not 1 to 65535 slots after the clock",
+            Refusal::NoOpenSlot => "no slot from the clock to the deadline is open",
             Refusal::Count => "the client has submitted as many requests as can be counted",
             Refusal::Number => "the last request number has been given",
             Refusal::Full => "the waiting table is full",
@@ -199,7 +253,7 @@ pub enum Answer {
         number: u64,
         client: u64,
     },
-    /// Nothing waited in this slot.
+    /// Nothing waited in this slot, which is open.
     Idle {
         slot: u64,
     },
@@ -214,6 +268,10 @@ pub enum Answer {
     /// So many start slots were written.
     Charted {
         count: u64,
+    },
+    /// This slot is closed: nothing was served in it, whether or not reads wait.
+    Closed {
+        slot: u64,
     },
     /// Nothing has changed.
     Refused(Refusal),
@@ -248,6 +306,7 @@ impl Answer {
                 waiting: e,
             },
             raw::CHARTED => Answer::Charted { count: a },
+            raw::CLOSED => Answer::Closed { slot: a },
             raw::REFUSED => Answer::Refused(Refusal::new(a)),
             _ => unreachable!("the calls are proved to answer one of these kinds"),
         }
@@ -289,16 +348,18 @@ impl Display for Answer {
                 )
             }
             Answer::Charted { count } => write!(f, "{count} waiting"),
+            Answer::Closed { slot } => write!(f, "slot {slot} is closed"),
             Answer::Refused(refusal) => write!(f, "refused, number {}: {refusal}", refusal.number()),
         }
     }
 }
 
-/// A head and tables that are owned, for so many waiting records and clients: no allocation, all of it inline. [`Tables::queue`]
-/// lends them.
+/// A head, hours and tables that are owned, for so many waiting records and clients: no allocation, all of it inline.
+/// [`Tables::queue`] lends them.
 #[derive(Clone, Debug, PartialEq, Eq)]
 pub struct Tables<const RECORDS: usize, const CLIENTS: usize> {
     pub head: Head,
+    pub hours: Hours,
     pub waiting: [Request; RECORDS],
     pub clients: [Client; CLIENTS],
 }
@@ -311,11 +372,13 @@ impl<const RECORDS: usize, const CLIENTS: usize> Tables<RECORDS, CLIENTS> {
                 setup: Setup {
                     clients: 0,
                     period: 0,
+                    slots_per_hour: 0,
                 },
                 clock: 0,
                 last: 0,
                 waiting: 0,
             },
+            hours: Hours { marks: [0; HOURS / 8] },
             waiting: [Request {
                 deadline: 0,
                 number: 0,
@@ -333,6 +396,7 @@ impl<const RECORDS: usize, const CLIENTS: usize> Tables<RECORDS, CLIENTS> {
     pub fn queue(&mut self) -> Queue<'_> {
         Queue {
             head: &mut self.head,
+            hours: &mut self.hours,
             waiting: &mut self.waiting,
             clients: &mut self.clients,
         }
@@ -345,31 +409,35 @@ impl<const RECORDS: usize, const CLIENTS: usize> Default for Tables<RECORDS, CLI
     }
 }
 
-/// The head and the tables as they are lent: a waiting table of 1 to 2,048 records, and a client table of one record a client.
+/// The head, the hours and the tables as they are lent: a waiting table of 1 to 2,048 records, and a client table of one record a
+/// client.
 ///
 /// They may be looked at between calls, and written too. Every call but open first asks whether they are sound, and is refused
 /// where they are not:
 /// - [`Refusal::Lengths`]: the waiting table has no records or more than 2,048, the client table has not as many records as the
 ///   head has clients, or the waiting count exceeds the waiting table's length;
-/// - [`Refusal::Unsound`]: the tables are not sound.
+/// - [`Refusal::Unsound`]: head, hours and tables are not sound.
 #[derive(Debug)]
 pub struct Queue<'a> {
     pub head: &'a mut Head,
+    pub hours: &'a mut Hours,
     pub waiting: &'a mut [Request],
     pub clients: &'a mut [Client],
 }
 
-// Makes an exported call with the head and the tables, then its own arguments, and hands back its answer. The pointers are for
+// Makes an exported call with head, hours and tables, then its own arguments, and hands back its answer. The pointers are for
 // reading and writing (`as_mut_ptr`), or for reading only (`as_ptr`).
 macro_rules! lend {
     ($exported:ident, $queue:ident, $one:path, $pointer:ident $(, $argument:expr)*) => {{
         let mut values = [0; 5];
-        // SAFETY: the head, a setup and the values are one of each, and each other pointer is good for as much as the length behind
-        // it says, since they are slices: a client's record is three numbers and nothing else, so that so many records are three
-        // times as many numbers. All are borrowed until the call is over, those to be written through by nobody else.
+        // SAFETY: the head, the hours, a setup, marks and the values are one of each, and each other pointer is good for as much as
+        // the length behind it says, since they are slices: a client's record is three numbers and nothing else, so that so many
+        // records are three times as many numbers. All are borrowed until the call is over, those to be written through by nobody
+        // else.
         let kind = unsafe {
             raw::$exported(
                 $one($queue.head),
+                $one($queue.hours),
                 $queue.waiting.$pointer(),
                 $queue.waiting.len(),
                 $queue.clients.$pointer(),
@@ -383,27 +451,27 @@ macro_rules! lend {
 }
 
 impl Queue<'_> {
-    /// Begins anew, whatever head and tables hold: clock, last number and waiting count become 0 and every record zero. Gives
-    /// `Opened`.
+    /// Begins anew, whatever head, hours and tables hold: setup and hours become these, clock, last number and waiting count become
+    /// 0 and every record zero. Gives `Opened`.
     ///
-    /// Refusals: `Clients`, `Period`, and `Lengths` where the waiting table has no records or more than 2,048, or the client table
-    /// has not as many records as the setup has clients.
-    pub fn open(&mut self, setup: Setup) -> Answer {
-        lend!(welsbell_open, self, from_mut, as_mut_ptr, &setup)
+    /// Refusals: `Clients`, `Period`, `PerHour`, `AllClosed`, and `Lengths` where the waiting table has no records or more than
+    /// 2,048, or the client table has not as many records as the setup has clients.
+    pub fn open(&mut self, setup: Setup, hours: Hours) -> Answer {
+        lend!(welsbell_open, self, from_mut, as_mut_ptr, &setup, &hours)
     }
 
-    /// A client submits a request, which is to be served in a slot that ends by the deadline: slot `deadline - 1` at the latest.
-    /// Gives `Kept` if every request can still finish. Otherwise it gives `Dropped`: of the requests whose removal helps, the new
-    /// one included, one goes whose client has the smallest miss ratio, and among equals the last in chart order.
+    /// A client submits a request, which is to be served in an open slot that ends by the deadline: slot `deadline - 1` at the
+    /// latest. Gives `Kept` if every request can still finish. Otherwise it gives `Dropped`: of the requests whose removal helps,
+    /// the new one included, one goes whose client has the smallest miss ratio, and among equals the last in chart order.
     ///
-    /// Refusals, besides `Lengths` and `Unsound`: `Client`, `Deadline`, `Count`, `Number`, `Full`.
+    /// Refusals, besides `Lengths` and `Unsound`: `Client`, `Deadline`, `NoOpenSlot`, `Count`, `Number`, `Full`.
     pub fn submit(&mut self, client: u64, deadline: u64) -> Answer {
         lend!(welsbell_submit, self, from_mut, as_mut_ptr, client, deadline)
     }
 
-    /// One slot passes, the one that starts at the clock. Gives `Served` with the first waiting record, which is taken out, or
-    /// `Idle` where none waits; then the clock rises by 1. Where it comes to a multiple of the period, each client's submitted
-    /// becomes its waiting count, and served and dropped become 0.
+    /// One slot passes, the one that starts at the clock. Gives `Closed` if it is closed. Otherwise it gives `Served` with the
+    /// first waiting record, which is taken out, or `Idle` where none waits. Then, in each case, the clock rises by 1. Where it
+    /// comes to a multiple of the period, each client's submitted becomes its waiting count, and served and dropped become 0.
     ///
     /// Refusals, besides `Lengths` and `Unsound`: `Clock`.
     pub fn tick(&mut self) -> Answer {
@@ -417,8 +485,8 @@ impl Queue<'_> {
         lend!(welsbell_report, self, from_ref, as_ptr, client)
     }
 
-    /// Writes one start slot a waiting record, the latest that it can have, in chart order to the front of the output; entries
-    /// beyond are untouched. Gives `Charted` with their count. Head and tables stay as they are.
+    /// Writes one start slot a waiting record, the latest open one that it can have, in chart order to the front of the output;
+    /// entries beyond are untouched. Gives `Charted` with their count. Head, hours and tables stay as they are.
     ///
     /// Refusals, besides `Lengths` and `Unsound`: `Output`.
     pub fn chart(&self, output: &mut [u64]) -> Answer {
@@ -426,17 +494,17 @@ impl Queue<'_> {
     }
 }
 
-/// The exported calls as they are linked: a head, a setup and the values are a pointer each, a table is a pointer and then a
-/// length. The client table's length is in numbers, three a record. The result is the answer's kind; its values go to the front
-/// of the five, and those behind them stay. The header `welsbell.h` says the same in C.
+/// The exported calls as they are linked: a head, hours, a setup, marks and the values are a pointer each, a table is a pointer and
+/// then a length. The client table's length is in numbers, three a record. The result is the answer's kind; its values go to the
+/// front of the five, and those behind them stay. The header `welsbell.h` says the same in C.
 ///
 /// # Safety
 ///
 /// Each pointer has to be aligned and not null: one to a table or an output good for as much as the length behind it says, even
-/// where that is 0, and one to a head, a setup or values for one of these. Nothing that is lent to a call may overlap, and nobody else
-/// may write it, or use what is written, until the call is over.
+/// where that is 0, and one to a head, hours, a setup, marks or values for one of these. Nothing that is lent to a call may overlap,
+/// and nobody else may write it, or use what is written, until the call is over.
 pub mod raw {
-    use crate::{Client, Head, Request, Setup};
+    use crate::{Client, Head, Hours, Request, Setup};
 
     pub const OPENED: u64 = 0x81;
     pub const KEPT: u64 = 0x82;
@@ -445,6 +513,7 @@ pub mod raw {
     pub const IDLE: u64 = 0x85;
     pub const REPORTED: u64 = 0x86;
     pub const CHARTED: u64 = 0x88;
+    pub const CLOSED: u64 = 0x89;
     pub const REFUSED: u64 = 0xFF;
 
     /// The values of an answer.
@@ -455,12 +524,13 @@ pub mod raw {
         pub fn welsbell_version() -> u64;
     }
 
-    // Declares a call: the head and the tables, to be written (`mut`) or only read (`const`), its own arguments, and the values.
+    // Declares a call: head, hours and tables, to be written (`mut`) or only read (`const`), its own arguments, and the values.
     macro_rules! exported {
         ($name:ident, $access:tt $(, $argument:ident: $type:ty)*) => {
             extern "C" {
                 pub fn $name(
                     head: *$access Head,
+                    hours: *$access Hours,
                     waiting: *$access Request,
                     waiting_length: usize,
                     clients: *$access Client,
@@ -472,7 +542,7 @@ pub mod raw {
         };
     }
 
-    exported!(welsbell_open, mut, setup: *const Setup);
+    exported!(welsbell_open, mut, setup: *const Setup, marks: *const Hours);
     exported!(welsbell_submit, mut, client: u64, deadline: u64);
     exported!(welsbell_tick, mut);
     exported!(welsbell_report, const, client: u64);

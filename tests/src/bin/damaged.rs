@@ -2,15 +2,17 @@
 // together with each other one, in several ways and at random places; lengths are wrong; and sound tables lie at the bounds.
 // Every call is made on every table, with good and with bad arguments. The argument, if any, is a seed.
 use std::env::args;
+use tests::counted::shifts::MOST_SHIFT;
 use tests::damages::{Damage, DAMAGES, LENGTHS};
 use tests::held::{queue_of, Held};
 use tests::model::sound::{is_sound, CLAUSES};
-use tests::model::{Call, KINDS, REFUSED};
+use tests::model::{Call, Queue, KINDS, REFUSED};
 use tests::program::{end, fail, seed};
+use tests::random::hours::{end_of_hour, hours};
 use tests::random::tables::{call, sound};
 use tests::random::Random;
-use tests::shifts::MOST_SHIFT;
-use tests::tables::{Head, Tables, MOST_AHEAD, MOST_PERIOD, MOST_RECORDS};
+use tests::tables::{setup_with, Head, Hours, Tables, ALL_OPEN};
+use tests::tables::{MOST_AHEAD, MOST_PERIOD, MOST_PER_HOUR, MOST_RECORDS};
 
 // So many small tables for each way to break a clause, for each pair of clauses, and for each clause with each wrong length.
 const EACH_WAY: usize = 600;
@@ -24,7 +26,7 @@ const LARGE_SOUND: usize = 100;
 // So often are other tables and ways tried where an edit found no place.
 const TRIES: usize = 1_000;
 
-const REFUSALS: [u64; 11] = [2, 3, 4, 5, 6, 7, 8, 9, 10, 11, 12];
+const REFUSALS: [u64; 14] = [2, 3, 13, 14, 4, 5, 6, 7, 15, 8, 9, 10, 11, 12];
 
 // A clause, and an edit that breaks it.
 type Way = (usize, Damage);
@@ -46,8 +48,44 @@ struct Test {
     held: Held,
     tables: u64,
     broken: [Broken; CLAUSES.len()],
+    // how many calls met refusal 5 on tables that are sound if all hours are open
+    overfull_by_hours: u64,
     // how many calls on tables of each wrong length met refusal 4
     lengths: [u64; LENGTHS.len()],
+}
+
+// An open with these numbers and marks, at the bounds, past them, and past several of them.
+fn opens(random: &mut Random, lent: u64, near: u64) -> impl Iterator<Item = Call> {
+    let (some, none) = (hours(random), Hours::default());
+    let opens = [
+        (lent, near, near, some),
+        (lent, MOST_PERIOD, MOST_PER_HOUR, ALL_OPEN),
+        (lent, 0, 0, none),
+        (lent, MOST_PERIOD + 1, 1, some),
+        (lent, near, 0, some),
+        (lent, near, MOST_PER_HOUR + 1, none),
+        (lent, near, u64::MAX, some),
+        (lent, near, MOST_PER_HOUR, none),
+        (lent + 1, near, 1, none),
+        (lent + 1, near, near, some),
+        (0, 0, 0, none),
+        (257, near, 1, ALL_OPEN),
+    ];
+    opens.into_iter().map(|(clients, period, slots_per_hour, hours)| Call::Open {
+        setup: setup_with(clients, period, slots_per_hour),
+        hours,
+    })
+}
+
+// The deadline of one that waits, or near it.
+fn among(random: &mut Random, tables: &Tables) -> u64 {
+    let count = tables.waiting.len().min(tables.head.waiting as usize);
+    let deadline = if count > 0 {
+        tables.waiting[random.below(count)].deadline
+    } else {
+        tables.head.clock
+    };
+    deadline.saturating_add(random.between(0, 2)).saturating_sub(1)
 }
 
 // Every call, with arguments that sound tables accept and with others.
@@ -58,24 +96,22 @@ fn calls(random: &mut Random, tables: &Tables) -> Vec<Call> {
     let near = random.between(1, 9);
     let records = tables.waiting.len();
     let entries = records.min(tables.head.waiting as usize);
-    let opens = [
-        (lent, near),
-        (lent, MOST_PERIOD),
-        (lent, 0),
-        (lent, MOST_PERIOD + 1),
-        (lent + 1, near),
-        (0, 0),
-        (257, near),
-    ];
     let ahead = [1, near, random.between(1, MOST_AHEAD), MOST_AHEAD];
-    let out_of_reach = [clock, clock.saturating_sub(1), clock.saturating_add(MOST_AHEAD + 1), u64::MAX];
-    let deadlines = ahead.map(|ahead| clock.saturating_add(ahead)).into_iter().chain(out_of_reach);
+    let others = [
+        clock,
+        clock.saturating_sub(1),
+        clock.saturating_add(MOST_AHEAD + 1),
+        u64::MAX,
+        end_of_hour(random, setup.slots_per_hour, clock),
+        among(random, tables),
+    ];
+    let deadlines = ahead.map(|ahead| clock.saturating_add(ahead)).into_iter().chain(others);
     let no_client = Call::Submit {
         client: setup.clients,
         deadline: clock,
     };
     let mut calls = vec![Call::Tick, no_client];
-    calls.extend(opens.map(|(clients, period)| Call::Open { clients, period }));
+    calls.extend(opens(random, lent, near));
     calls.extend(deadlines.map(|deadline| Call::Submit { client, deadline }));
     calls.extend([client, setup.clients, u64::MAX].map(|client| Call::Report { client }));
     calls.extend([entries, records + 1, entries.saturating_sub(1)].map(|entries| Call::Chart { entries }));
@@ -88,7 +124,7 @@ impl Test {
         let records = if is_large {
             MOST_RECORDS
         } else {
-            self.random.one_of(&[1, 2, 3, 6, 9])
+            self.random.one_of(&[1, 2, 3, 6, 9, 25])
         };
         let any = self.random.below(records + 1);
         let waiting = self.random.one_of(&[any, any, records - 1, records]);
@@ -132,6 +168,11 @@ impl Test {
     fn hold_damaged(&mut self, tables: &Tables) -> Result<(), String> {
         let refused = self.hold(tables, 5)?;
         let queue = queue_of(tables);
+        let all_open = Queue {
+            hours: ALL_OPEN,
+            ..queue.clone()
+        };
+        self.overfull_by_hours += if is_sound(&all_open) { refused } else { 0 };
         let is_broken = CLAUSES.map(|(_, holds)| !holds(&queue));
         let count = is_broken.iter().filter(|&&is_broken| is_broken).count();
         let broken = self.broken.iter_mut().zip(is_broken).filter(|(_, is_broken)| *is_broken);
@@ -182,6 +223,7 @@ impl Test {
     // Every call on sound tables, and then some calls one behind the other.
     fn hold_sound(&mut self, is_large: bool) -> Result<(), String> {
         let tables = self.sound(is_large)?;
+        self.held.hours.open(&tables.head.setup, &queue_of(&tables).week());
         if self.hold(&tables, 5)? > 0 {
             return Err("refusal 5".into());
         }
@@ -222,7 +264,8 @@ impl Test {
         }
         let lengths: u64 = self.lengths.iter().sum();
         println!("wrong lengths: {lengths} calls refused");
-        println!("{}\n{}", self.held.tally, self.held.shifts);
+        println!("sound but for their hours: {} calls refused", self.overfull_by_hours);
+        println!("{}\n{}\n{}", self.held.tally, self.held.shifts, self.held.hours);
         println!("{} tables, {} calls: all as the model says", self.tables, self.held.made);
     }
 
@@ -234,6 +277,11 @@ impl Test {
         let mut missing = self.held.tally.missing(&KINDS, &REFUSALS);
         missing.extend(never);
         missing.extend(self.held.shifts.missing(MOST_SHIFT));
+        missing.extend(self.held.hours.missing());
+        missing.extend(self.held.hours.missing_opens());
+        if self.overfull_by_hours == 0 {
+            missing.push("never refused for its hours alone".into());
+        }
         if self.lengths.contains(&0) {
             missing.push("a wrong length was never refused".into());
         }
@@ -245,7 +293,7 @@ fn shown(tables: &Tables) -> String {
     if tables.waiting.len() < 20 && tables.clients().len() < 20 {
         format!("{tables:?}")
     } else {
-        format!("head {:?}, {} records", tables.head, tables.waiting.len())
+        format!("head {:?}, {:?}, {} records", tables.head, tables.hours, tables.waiting.len())
     }
 }
 
@@ -256,6 +304,7 @@ fn main() {
         held: Held::over(&Tables::zero(Head::default(), 0)),
         tables: 0,
         broken: Default::default(),
+        overfull_by_hours: 0,
         lengths: Default::default(),
     };
     test.all().unwrap_or_else(|difference| fail(difference));

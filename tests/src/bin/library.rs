@@ -1,5 +1,8 @@
 // Holds the exported calls to documents 01 and 02, case by case. After each call the answer, its values, the head, every record of
 // both tables and the output are held to what the case expects, which is written out or comes by simple arithmetic.
+#[path = "library/hours.rs"]
+mod hours;
+
 use std::fmt::Debug;
 use std::process::exit;
 use std::thread;
@@ -77,10 +80,16 @@ impl Library {
         self
     }
 
+    // With one slot an hour and every hour open, unless more is said.
     #[must_use]
     fn open(&mut self, clients: u64, period: u64) -> &Library {
-        let name = format!("open {clients} {period}");
-        self.make(name, |t, _, v| open(t, clients, period, v))
+        self.open_with(setup(clients, period), ALL_OPEN)
+    }
+
+    #[must_use]
+    fn open_with(&mut self, setup: Setup, hours: Hours) -> &Library {
+        let name = format!("open {setup:?} {hours:?}");
+        self.make(name, |t, _, v| open(t, &setup, &hours, v))
     }
 
     #[must_use]
@@ -111,8 +120,23 @@ impl Library {
 // of the head follows from those, and everything else is to be as it was.
 impl Library {
     fn opened(&self, clients: u64, period: u64) {
-        let counts = vec![FRESH; clients as usize];
-        self.gives(&[OPENED], head(clients, period, 0, 0, 0), &[], &counts);
+        self.opened_with(setup(clients, period), ALL_OPEN);
+    }
+
+    fn opened_with(&self, setup: Setup, hours: Hours) {
+        let counts = vec![FRESH; setup.clients as usize];
+        let mut expected = self.before.clone();
+        write(
+            &mut expected,
+            Head {
+                setup,
+                ..Head::default()
+            },
+            &[],
+            &counts,
+        );
+        expected.hours = hours;
+        self.hold(&[OPENED], &expected, &self.output_before);
     }
 
     fn kept(&self, number: u64, place: u64, shift: u64, rows: &[Row], counts: &[Counts]) {
@@ -132,6 +156,12 @@ impl Library {
 
     fn idle(&self, slot: u64, counts: &[Counts]) {
         self.gives(&[IDLE, slot], self.ticked(slot, &[]), &[], counts);
+    }
+
+    // Rows are those that waited before, and counts as before unless a period starts.
+    fn closed(&self, slot: u64, rows: &[Row], counts: &[Counts]) {
+        self.same("waiting count", &[self.before.head.waiting], &[rows.len() as u64]);
+        self.gives(&[CLOSED, slot], self.ticked(slot, rows), rows, counts);
     }
 
     fn refused(&self, number: u64) {
@@ -174,6 +204,7 @@ impl Library {
     fn hold(&self, answer: &[u64], expected: &Tables, output: &[u64]) {
         self.same("answer", answer, &self.answer);
         self.same("head", &[expected.head], &[self.tables.head]);
+        self.same("hours", &expected.hours.marks, &self.tables.hours.marks);
         self.same("waiting", &expected.waiting, &self.tables.waiting);
         self.same("clients", expected.clients(), self.tables.clients());
         self.same("client numbers", &expected.client_numbers, &self.tables.client_numbers);
@@ -650,7 +681,7 @@ const DAMAGES: [Edit; 42] = [
 ];
 
 fn damaged(l: &mut Library) {
-    for (edit, damage) in DAMAGES {
+    for (edit, damage) in DAMAGES.into_iter().chain(hours::DAMAGES) {
         l.case = format!("damaged tables, {edit}");
         l.lend(good());
         damage(&mut l.tables);
@@ -786,6 +817,8 @@ fn little_stack(l: &mut Library) {
             full_of_many_clients(l);
             victims_in_a_large_table(l);
             charts(l);
+            hours::full_in_every_second_slot(l);
+            hours::charts_with_hours(l);
         };
         small.spawn_scoped(scope, calls).expect("a thread");
     });
@@ -793,7 +826,7 @@ fn little_stack(l: &mut Library) {
 
 type Case = (&'static str, fn(&mut Library));
 
-const CASES: [Case; 33] = [
+const CASES: [Case; 45] = [
     ("document 01's session", session),
     ("idle ticks", idle_ticks),
     ("deadlines at their bounds", deadlines),
@@ -826,6 +859,18 @@ const CASES: [Case; 33] = [
     ("first match wins: open and submit", first_match_of_open_and_submit),
     ("first match wins: report, tick and chart", first_match_of_the_others),
     ("numbers of clients that are not records", odd_numbers),
+    ("a small session with hours", hours::small_session),
+    ("opens with hours", hours::opens_with_hours),
+    ("each hour by itself", hours::each_hour),
+    ("edges of hours", hours::edges_of_hours),
+    ("closed ticks", hours::closed_ticks),
+    ("no open slot", hours::no_open_slot),
+    ("65,535, all slots counted", hours::reach_in_all_slots),
+    ("first match wins: hours", hours::first_match_with_hours),
+    ("charts with hours", hours::charts_with_hours),
+    ("candidates by open slots", hours::candidates_by_open_slots),
+    ("2,048 records in every second slot", hours::full_in_every_second_slot),
+    ("deadlines in closed hours", hours::deadlines_in_closed_hours),
     ("a stack of 32 KiB", little_stack),
 ];
 
@@ -846,6 +891,6 @@ fn main() {
         run(&mut l);
     }
     // each edit is a case of its own
-    let cases = CASES.len() - 2 + DAMAGES.len() + LENGTHS.len();
+    let cases = CASES.len() - 2 + DAMAGES.len() + hours::DAMAGES.len() + LENGTHS.len();
     println!("{cases} cases, {} calls: all as the documents say", l.calls);
 }

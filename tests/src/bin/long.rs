@@ -7,7 +7,8 @@ use tests::model::{Call, KINDS};
 use tests::program::{end, fail, seed};
 use tests::random::tables::call;
 use tests::random::Random;
-use tests::tables::{head, Head, Tables, END, MOST_COUNTED, MOST_PERIOD, MOST_RECORDS};
+use tests::tables::{head, setup_with, Head, Hours, Request, Tables, ALL_OPEN};
+use tests::tables::{END, MOST_COUNTED, MOST_PERIOD, MOST_PER_HOUR, MOST_RECORDS};
 
 // At least so many calls, all phases together.
 const CALLS: u64 = 10_000_000;
@@ -15,7 +16,7 @@ const CALLS: u64 = 10_000_000;
 // After so many calls of a phase values are moved.
 const BEFORE_MOVING: u64 = 1_000;
 
-const REFUSALS: [u64; 7] = [6, 7, 8, 9, 10, 11, 12];
+const REFUSALS: [u64; 8] = [6, 7, 15, 8, 9, 10, 11, 12];
 
 // On large tables a shift of so many has to come among the calls that are held to the model.
 const LARGE_SHIFT: u64 = 1_000;
@@ -26,6 +27,8 @@ struct Phase {
     records: usize,
     clients: u64,
     period: u64,
+    slots_per_hour: u64,
+    hours: Hours,
     // deadlines lie at most so far ahead of the clock
     ahead: u64,
     calls: u64,
@@ -39,13 +42,15 @@ const USUAL: Phase = Phase {
     records: 6,
     clients: 3,
     period: 10,
+    slots_per_hour: 1,
+    hours: ALL_OPEN,
     ahead: 12,
-    calls: 2_500_000,
+    calls: 2_000_000,
     one_of: 1,
     moves: |_| {},
 };
 
-const PHASES: [Phase; 7] = [
+const PHASES: [Phase; 12] = [
     USUAL,
     Phase {
         name: "a period of one slot",
@@ -59,7 +64,39 @@ const PHASES: [Phase; 7] = [
         clients: 4,
         period: MOST_PERIOD,
         ahead: 5,
+        calls: 1_000_000,
+        ..USUAL
+    },
+    Phase {
+        name: "every second hour closed, of one slot each",
+        hours: EVERY_SECOND,
+        calls: 1_000_000,
+        ..USUAL
+    },
+    Phase {
+        name: "few hours open, to the clock's end",
+        slots_per_hour: 3,
+        hours: FEW,
+        ahead: 30,
         calls: 1_500_000,
+        moves: |tables| move_clock(tables, END - 300_000),
+        ..USUAL
+    },
+    Phase {
+        name: "most hours open, of many slots",
+        records: 40,
+        slots_per_hour: 360,
+        hours: MOST,
+        ahead: 60,
+        calls: 500_000,
+        ..USUAL
+    },
+    Phase {
+        name: "as many slots an hour as can be, to the clock's end",
+        slots_per_hour: MOST_PER_HOUR,
+        hours: EVERY_SECOND,
+        calls: 500_000,
+        moves: |tables| empty(tables, END - 150_000),
         ..USUAL
     },
     Phase {
@@ -81,6 +118,18 @@ const PHASES: [Phase; 7] = [
         ..USUAL
     },
     Phase {
+        name: "large tables, most hours open",
+        records: MOST_RECORDS,
+        clients: 256,
+        period: 1_000,
+        slots_per_hour: 16,
+        hours: MOST,
+        ahead: 4_000,
+        calls: 150_000,
+        one_of: 200,
+        ..USUAL
+    },
+    Phase {
         name: "large tables",
         records: MOST_RECORDS,
         clients: 256,
@@ -92,13 +141,40 @@ const PHASES: [Phase; 7] = [
     },
 ];
 
-// The deadlines move with it.
+const EVERY_SECOND: Hours = Hours { marks: [0xAA; 21] };
+const FEW: Hours = Hours {
+    marks: [
+        0x11, 0, 0x80, 0x01, 0xC3, 0, 0, 0x3C, 0, 0x24, 0xFF, 0, 1, 2, 4, 8, 16, 32, 64, 128, 0x81,
+    ],
+};
+const MOST: Hours = Hours {
+    marks: [
+        0xFE, 0x7F, 0xFF, 0xFF, 0xE7, 0xFF, 0x0F, 0xFF, 0xF0, 0xFF, 0xFF, 0xFD, 0xFF, 0xFF, 0x7F, 0xFE, 0xFF, 0xFF, 0xFF, 0xDB,
+        0xFF,
+    ],
+};
+
+// Near to this clock, by whole weeks, so that the same slots are open. The deadlines move with it.
 fn move_clock(tables: &mut Tables, to: u64) {
-    let Head { clock, waiting, .. } = tables.head;
-    tables.head.clock = to;
+    let Head {
+        setup, clock, waiting, ..
+    } = tables.head;
+    let week = 168 * setup.slots_per_hour;
+    let by = (to - clock) / week * week;
+    tables.head.clock += by;
     for request in &mut tables.waiting[..waiting as usize] {
-        request.deadline += to - clock;
+        request.deadline += by;
     }
+}
+
+// As if all had been served by this clock.
+fn empty(tables: &mut Tables, clock: u64) {
+    for place in 0..tables.head.waiting as usize {
+        let client = tables.waiting[place].client as usize;
+        tables.clients_mut()[client].served += 1;
+    }
+    tables.waiting.fill(Request::default());
+    (tables.head.clock, tables.head.waiting) = (clock, 0);
 }
 
 // As if so many had been submitted, most of them served.
@@ -112,9 +188,11 @@ fn move_counts(tables: &mut Tables, to: u32) {
 }
 
 fn run(phase: &Phase, held: &mut Held, random: &mut Random) -> Result<(), String> {
-    let &Phase { clients, period, .. } = phase;
-    held.lend(&Tables::zero(head(clients, 0, 0, 0, 0), phase.records));
-    held.call(&Call::Open { clients, period })?;
+    held.lend(&Tables::zero(head(phase.clients, 0, 0, 0, 0), phase.records));
+    held.call(&Call::Open {
+        setup: setup_with(phase.clients, phase.period, phase.slots_per_hour),
+        hours: phase.hours,
+    })?;
     for number in 0..phase.calls {
         if number == BEFORE_MOVING {
             let mut moved = held.tables().clone();
@@ -135,6 +213,7 @@ fn run(phase: &Phase, held: &mut Held, random: &mut Random) -> Result<(), String
 fn missing(held: &Held) -> Vec<String> {
     let mut missing = held.tally.missing(&KINDS, &REFUSALS);
     missing.extend(held.shifts.missing(LARGE_SHIFT));
+    missing.extend(held.hours.missing());
     if held.made < CALLS {
         missing.push(format!("fewer than {CALLS} calls"));
     }
@@ -153,7 +232,7 @@ fn main() {
         let ran = run(phase, &mut held, &mut random);
         ran.unwrap_or_else(|difference| fail(format!("{}: {difference}", phase.name)));
     }
-    println!("{}\n{}", held.tally, held.shifts);
+    println!("{}\n{}\n{}", held.tally, held.shifts, held.hours);
     println!("{} calls, {} of them held to the model: all as it says", held.made, held.held);
     end(missing(&held));
 }

@@ -3,13 +3,14 @@
 // seed, and the name of a fault that the model is to have all the time.
 use std::env::args;
 use std::process::Command;
+use tests::counted::followed::Followed;
+use tests::counted::shifts::MOST_SHIFT;
+use tests::counted::tally::Tally;
 use tests::demand_3::Lists;
 use tests::model::session::{call_and_answer, read, session, widths_out, Answered, SEGMENT};
 use tests::model::{Fault, FAULTS, KINDS};
 use tests::program::{end, fail, run, seed};
 use tests::random::{self, Random};
-use tests::shifts::{Waiting, MOST_SHIFT};
-use tests::tally::Tally;
 
 const SESSIONS: u64 = 3_000;
 
@@ -22,7 +23,7 @@ const LISTS: u64 = 5_000;
 const LISTS_OF_A_KIND: u64 = 2_000;
 
 // The others cannot occur in a session this short.
-const REFUSALS: [u64; 7] = [1, 2, 3, 4, 6, 7, 10];
+const REFUSALS: [u64; 10] = [1, 2, 3, 13, 14, 4, 6, 7, 15, 10];
 
 // The first characters up to a line feed, readable.
 fn shown(bytes: &[u8]) -> String {
@@ -79,7 +80,7 @@ struct Test {
     fault: Fault,
     answers: usize,
     tally: Tally,
-    waiting: Waiting,
+    followed: Followed,
     lists: Lists,
 }
 
@@ -91,7 +92,7 @@ impl Test {
             fault,
             answers: 0,
             tally: Tally::default(),
-            waiting: Waiting::default(),
+            followed: Followed::default(),
             lists: Lists::default(),
         }
     }
@@ -115,20 +116,25 @@ impl Test {
 
     fn follow(&mut self, line: &[u8], printed: &[u8]) -> Result<(), String> {
         let lines = printed.split(|&byte| byte == b'\n');
-        lines
-            .filter_map(|line| read(line, widths_out))
-            .for_each(|answer| self.tally.count(&answer));
+        let answers: Vec<Vec<u64>> = lines.filter_map(|line| read(line, widths_out)).collect();
+        answers.iter().for_each(|answer| self.tally.count(answer));
         let Some((call, answer)) = call_and_answer(line, printed) else {
             return Ok(());
         };
-        self.waiting.take(&call, &answer)?;
+        let segments = answers.iter().filter_map(|answer| match answer[..] {
+            [SEGMENT, left, right] => Some((left, right)),
+            _ => None,
+        });
+        self.followed.take(&call, &answer, &segments.collect::<Vec<_>>())?;
         self.lists.follow(&call, &answer)
     }
 
     // What has to have occurred and has not.
     fn missing(&self) -> Vec<String> {
         let mut missing = self.tally.missing(&[&KINDS[..], &[SEGMENT]].concat(), &REFUSALS);
-        missing.extend(self.waiting.shifts.missing(MOST_SHIFT));
+        missing.extend(self.followed.shifts.missing(MOST_SHIFT));
+        missing.extend(self.followed.hours.missing());
+        missing.extend(self.followed.hours.missing_opens());
         if self.answers < ANSWERS {
             missing.push(format!("fewer than {ANSWERS} answers"));
         }
@@ -142,7 +148,7 @@ impl Test {
     }
 
     fn print(&self) {
-        println!("{}\n{}", self.tally, self.waiting.shifts);
+        println!("{}\n{}\n{}", self.tally, self.followed.shifts, self.followed.hours);
         println!("{SESSIONS} sessions, {} answers: all as the model says", self.answers);
         println!("{}", self.lists);
     }

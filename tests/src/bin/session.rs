@@ -1,7 +1,7 @@
-// Holds the session program, whose path is the argument, to "Session lines" of document 01, with the shifts of document 02. What it
-// writes is held byte by byte to what each session expects, which is written out or comes by simple arithmetic.
+// Holds the session program, whose path is the argument, to "Session lines" of document 01, with the shifts and the inspection hours
+// of document 02. What it writes is held byte by byte to what each session expects, which is written out or comes by simple arithmetic.
 //
-// Refusals 1 to 4, 6, 7 and 10 are shown. Five cannot be: a session's tables are always sound (5) and its chart has room for
+// Refusals 1 to 4, 6, 7, 10 and 13 to 15 are shown. Five cannot be: a session's tables are always sound (5) and its chart has room for
 // every waiting record (12); a client has submitted its most (8) only after 2 to the 28th calls, and the last number is given
 // (9) and the clock at its end (11) only after 2 to the 48th.
 use std::env::{args, current_exe};
@@ -14,7 +14,7 @@ use std::path::PathBuf;
 use std::process::{exit, Child, Command, ExitStatus, Stdio};
 use std::thread::{sleep, spawn, JoinHandle};
 use std::time::{Duration, Instant};
-use tests::frames;
+use tests::frames::{self, Week};
 
 const MOST_PERIOD: u32 = 4_294_967_295;
 
@@ -43,6 +43,10 @@ impl Session {
 
     fn open(&mut self, clients: u16, period: u32, records: u16) -> &mut Session {
         self.line(frames::open(clients, period, records))
+    }
+
+    fn open_with(&mut self, clients: u16, period: u32, records: u16, week: &Week) -> &mut Session {
+        self.line(frames::open_with(clients, period, records, week))
     }
 
     fn submit(&mut self, client: u16, deadline: u64) -> &mut Session {
@@ -91,6 +95,10 @@ impl Session {
         self.answer(format!("85{slot:016X}"));
     }
 
+    fn closed(&mut self, slot: u64) {
+        self.answer(format!("89{slot:016X}"));
+    }
+
     // Submitted, served, dropped, waiting.
     fn reported(&mut self, client: u16, [submitted, served, dropped, waiting]: [u32; 4]) {
         self.answer(format!("86{client:04X}{submitted:08X}{served:08X}{dropped:08X}{waiting:04X}"));
@@ -108,8 +116,9 @@ impl Session {
     }
 }
 
+// "In document 01's cases and session all hours are open; what open takes later is set there so that they stand."
 const DOCUMENT_IN: &str = "\
-010002000000640008
+01000200000064000800000001FFFFFFFFFFFFFFFFFFFFFFFFFFFFFFFFFFFFFFFFFF
 0200000000000000000001
 0200010000000000000002
 0200010000000000000001
@@ -168,12 +177,15 @@ fn before_an_open(s: &mut Session) {
     s.tick().idle(0);
 }
 
+// An open has the most digits.
+const LONGEST: usize = 68;
+
 // Each kind byte with zeros behind it, so many digits in all. Before an open no call does anything.
 fn kinds_and_lengths(s: &mut Session) {
     for kind in 0..=255 {
-        for digits in 2..=24 {
+        for digits in (2..=24).chain(LONGEST - 2..=LONGEST + 4) {
             let refusal = match (kind, digits) {
-                (0x01, 18) => 2,
+                (0x01, LONGEST) => 2,
                 (0x02, 22) | (0x03, 2) | (0x04, 6) | (0x05, 2) => 4,
                 _ => 1,
             };
@@ -181,6 +193,22 @@ fn kinds_and_lengths(s: &mut Session) {
                 .refused(refusal);
         }
     }
+}
+
+// Lines of as many digits as an open has, and of one and two digits more and less, the first of which are an open that would be
+// accepted: one refusal 1 each, but for the open itself.
+fn around_the_longest(s: &mut Session) {
+    let open = frames::open(1, 100, 4);
+    for digits in LONGEST - 2..=LONGEST + 300 {
+        let line: String = open.chars().chain("03".chars().cycle()).take(digits).collect();
+        let answered = s.line(line);
+        if digits == LONGEST {
+            answered.opened();
+        } else {
+            answered.refused(1);
+        }
+    }
+    s.tick().idle(0);
 }
 
 // Frames that would be accepted, a digit or a byte longer or shorter; then the session is as it was.
@@ -271,9 +299,9 @@ fn other_characters(s: &mut Session) {
 
 fn odd_digits(s: &mut Session) {
     s.open(1, 100, 4).opened();
-    for digits in (1..=43).step_by(2) {
+    for digits in (1..=89).step_by(2) {
         s.line("1".repeat(digits)).refused(1);
-        s.line(&"03".repeat(22)[..digits]).refused(1);
+        s.line(&"03".repeat(45)[..digits]).refused(1);
     }
     s.tick().idle(0);
 }
@@ -285,7 +313,7 @@ fn ticks_in_one(characters: usize) -> String {
 
 fn lines_a_little_too_long(s: &mut Session) {
     s.open(1, 1_000, 4).opened();
-    for (slot, characters) in (0..).zip(23..=60) {
+    for (slot, characters) in (0..).zip(23..=LONGEST + 40) {
         s.line(ticks_in_one(characters)).refused(1);
         s.tick().idle(slot);
     }
@@ -293,12 +321,12 @@ fn lines_a_little_too_long(s: &mut Session) {
 
 fn long_lines(s: &mut Session) {
     s.open(1, 1_000_000, 4).opened();
-    let around = |n: usize| n - 25..=n + 2;
-    let lengths = (23..=70)
+    let around = |n: usize| n - LONGEST - 3..=n + 2;
+    let lengths = (23..=LONGEST + 50)
         .chain([100, 4_095, 4_096, 8_192])
         .chain(around(BUFFER))
         .chain(around(2 * BUFFER));
-    for (slot, characters) in (0..).zip(lengths.chain([100_000, 5_000_000, 23, 24])) {
+    for (slot, characters) in (0..).zip(lengths.chain([100_000, 5_000_000, LONGEST + 1, LONGEST + 2])) {
         s.line(ticks_in_one(characters)).refused(1);
         s.tick().idle(slot);
     }
@@ -324,17 +352,18 @@ fn behind(characters: usize, fill: fn(&mut Session, usize)) -> Session {
     s.line(&open).opened();
     fill(&mut s, characters - open.len() - 1);
     s.submit(0, 5).kept(1, 0, 0);
-    s.line(ticks_in_one(23)).refused(1);
+    s.line(ticks_in_one(LONGEST + 1)).refused(1);
     s.submit(0, 9).kept(2, 1, 0);
-    s.line(ticks_in_one(24)).refused(1);
+    s.line(ticks_in_one(LONGEST + 2)).refused(1);
     s.tick().served(0, 1, 0);
-    s.line(ticks_in_one(60)).refused(1);
+    s.line(ticks_in_one(LONGEST + 38)).refused(1);
+    s.open(0, 1, 1).refused(2);
     s.report(0).reported(0, [2, 1, 0, 1]);
     s
 }
 
 // How many characters the lines of `behind` have.
-const BEHIND: usize = 23 + 24 + 23 + 25 + 3 + 61 + 7;
+const BEHIND: usize = 23 + (LONGEST + 2) + 23 + (LONGEST + 3) + 3 + (LONGEST + 39) + (LONGEST + 1) + 7;
 
 fn one_line(s: &mut Session, characters: usize) {
     s.line(ticks_in_one(characters - 1)).refused(1);
@@ -366,6 +395,174 @@ fn refused_opens(s: &mut Session) {
         s.open(2, 100, records).refused(4);
         s.open(256, MOST_PERIOD, records).refused(4);
     }
+}
+
+// An hour's slots and the marks at their bounds and past them. 14 comes after 13, and both between 3 and 4.
+fn refused_hours(s: &mut Session) {
+    let closed = [0; 21];
+    for marks in [closed, [0xFF; 21], [0xAA; 21]] {
+        for slots_per_hour in [0, 360_001, 1 << 31, u32::MAX] {
+            let week = Week { slots_per_hour, marks };
+            s.open_with(0, 0, 0, &week).refused(2);
+            s.open_with(2, 0, 0, &week).refused(3);
+            s.open_with(2, 100, 0, &week).refused(13);
+            s.open_with(2, 100, 8, &week).refused(13);
+        }
+    }
+    for slots_per_hour in [1, 2, 360_000] {
+        let week = Week {
+            slots_per_hour,
+            marks: closed,
+        };
+        s.open_with(257, 100, 8, &week).refused(2);
+        s.open_with(2, 0, 8, &week).refused(3);
+        s.open_with(2, 100, 2_049, &week).refused(14);
+        s.open_with(2, 100, 8, &week).refused(14);
+    }
+}
+
+fn refused_hours_between(s: &mut Session) {
+    let week = weekly(2, [0, 2]);
+    refused_hours(s);
+    s.open_with(2, 100, 4, &week).opened();
+    s.submit(1, 5).kept(1, 0, 0);
+    refused_hours(s);
+    s.tick().served(0, 1, 1);
+    s.tick().idle(1);
+    refused_hours(s);
+    s.tick().closed(2);
+    s.report(1).reported(1, [1, 1, 0, 0]);
+}
+
+// Of so many slots an hour, with these hours open.
+fn weekly(slots_per_hour: u32, open: impl IntoIterator<Item = usize>) -> Week {
+    let mut marks = [0; 21];
+    open.into_iter().for_each(|hour| marks[hour / 8] |= 0x80 >> (hour % 8));
+    Week { slots_per_hour, marks }
+}
+
+// Two slots an hour, hours 0 and 2 open: slots 0, 1, 4 and 5 of the first 336.
+const HOURS_IN: &str = "\
+01000100000064000800000002A00000000000000000000000000000000000000000
+0200000000000000000003
+0200000000000000000005
+05
+0200000000000000000006
+05
+0200000000000000000005
+03
+03
+03
+0200000000000000000004
+0200000000000000000009
+05
+03
+03
+03
+03
+";
+
+const HOURS_OUT: &str = "\
+81
+82000000000000000100000000
+82000000000000000200010000
+8700000000000000010000000000000005
+880001
+82000000000000000300020000
+8700000000000000010000000000000006
+880001
+82000000000000000400020001
+84000000000000000000000000000000010000
+84000000000000000100000000000000020000
+890000000000000002
+FF0F
+830000000000000005000000000000000500000000
+8700000000000000040000000000000006
+880001
+890000000000000003
+84000000000000000400000000000000040000
+84000000000000000500000000000000030000
+890000000000000006";
+
+fn small_with_hours(s: &mut Session) {
+    s.raw(HOURS_IN).answer(HOURS_OUT);
+}
+
+// Every hour by itself, of one slot and of three, through two weeks: only its slots are open.
+fn each_hour(s: &mut Session) {
+    for (slots_per_hour, hour) in [1, 3]
+        .into_iter()
+        .flat_map(|n| [0, 1, 7, 8, 63, 64, 127, 128, 160, 166, 167].map(|hour| (n, hour)))
+    {
+        s.open_with(1, MOST_PERIOD, 1, &weekly(slots_per_hour, [hour])).opened();
+        for slot in 0..2 * 168 * u64::from(slots_per_hour) {
+            let tick = s.tick();
+            if slot / u64::from(slots_per_hour) % 168 == hour as u64 {
+                tick.idle(slot);
+            } else {
+                tick.closed(slot);
+            }
+        }
+    }
+}
+
+// With the most slots an hour nothing but hour 0 comes into reach.
+fn longest_hours(s: &mut Session) {
+    s.open_with(1, 2, 4, &weekly(360_000, [0])).opened();
+    s.submit(0, 65_535).kept(1, 0, 0);
+    s.submit(0, 65_536).refused(7);
+    s.chart().drawn(&[(65_534, 65_535)]);
+    s.tick().served(0, 1, 0);
+    s.open_with(1, 2, 4, &weekly(360_000, 1..168)).opened();
+    for deadline in [1, 2, 65_535] {
+        s.submit(0, deadline).refused(15);
+    }
+    s.submit(0, 0).refused(7);
+    s.submit(0, 65_536).refused(7);
+    s.submit(1, 1).refused(6);
+    s.chart().drawn(&[]);
+    s.tick().closed(0);
+    s.tick().closed(1);
+    s.report(0).reported(0, [0; 4]);
+}
+
+// A closed slot's tick starts a period like any other: what waits stays counted as submitted.
+fn periods_with_hours(s: &mut Session) {
+    s.open_with(2, 3, 8, &weekly(1, [0, 3])).opened();
+    s.submit(0, 1).kept(1, 0, 0);
+    s.submit(1, 3).dropped(2, 2, 1, 0);
+    s.submit(1, 4).kept(3, 1, 0);
+    s.chart().drawn(&[(0, 4)]);
+    s.tick().served(0, 1, 0);
+    s.report(0).reported(0, [1, 1, 0, 0]);
+    s.report(1).reported(1, [2, 0, 1, 1]);
+    s.tick().closed(1);
+    s.tick().closed(2);
+    s.report(0).reported(0, [0; 4]);
+    s.report(1).reported(1, [1, 0, 0, 1]);
+    s.tick().served(3, 3, 1);
+    s.tick().closed(4);
+    s.tick().closed(5);
+    s.report(1).reported(1, [0; 4]);
+}
+
+// Segments over closed slots, and parted by open ones. Slots 0, 2, 4 and so on are open.
+fn segments_with_hours(s: &mut Session) {
+    s.open_with(1, 100, 8, &weekly(1, (0..168).step_by(2))).opened();
+    s.submit(0, 10).kept(1, 0, 0);
+    s.chart().drawn(&[(8, 9)]);
+    s.submit(0, 12).kept(2, 1, 0);
+    s.chart().drawn(&[(8, 11)]);
+    s.submit(0, 3).kept(3, 0, 2);
+    s.chart().drawn(&[(2, 3), (8, 11)]);
+    s.submit(0, 12).kept(4, 3, 0);
+    s.chart().drawn(&[(2, 3), (6, 11)]);
+    s.submit(0, 6).kept(5, 1, 3);
+    s.chart().drawn(&[(2, 11)]);
+    s.submit(0, 169).kept(6, 5, 0);
+    s.submit(0, 168).kept(7, 5, 1);
+    // from the end of one week to the beginning of the next
+    s.chart().drawn(&[(2, 11), (166, 169)]);
 }
 
 fn refused_opens_between(s: &mut Session) {
@@ -663,13 +860,14 @@ fn one_segment(s: &mut Session) {
 
 type Case = (&'static str, fn(&mut Session));
 
-const CASES: [Case; 27] = [
+const CASES: [Case; 34] = [
     ("document 01's session", document),
     ("empty input", nothing),
     ("a line feed", line_feed),
     ("before an open", before_an_open),
     ("kinds and lengths", kinds_and_lengths),
     ("wrong lengths", wrong_lengths),
+    ("around the longest frame", around_the_longest),
     ("every byte", every_byte),
     ("other characters", other_characters),
     ("odd digits", odd_digits),
@@ -679,6 +877,12 @@ const CASES: [Case; 27] = [
     ("refused opens", refused_opens),
     ("refused opens between", refused_opens_between),
     ("opens again", opens_again),
+    ("refused hours between", refused_hours_between),
+    ("a small session with hours", small_with_hours),
+    ("each hour by itself", each_hour),
+    ("the longest hours", longest_hours),
+    ("period starts with hours", periods_with_hours),
+    ("segments with hours", segments_with_hours),
     ("first match wins: submit and report", first_match_of_submit_and_report),
     ("worked reads", worked_reads),
     ("charts", charts),
@@ -705,7 +909,7 @@ const LIMIT: Duration = Duration::from_secs(60);
 const SHORT: usize = 2_000;
 
 // In turn, until the input is all fed.
-const PIECES: [&[usize]; 9] = [
+const PIECES: [&[usize]; 12] = [
     &[1],
     &[2],
     &[3],
@@ -715,6 +919,9 @@ const PIECES: [&[usize]; 9] = [
     &[22],
     &[23],
     &[24],
+    &[LONGEST],
+    &[LONGEST + 1],
+    &[LONGEST + 2],
 ];
 
 fn fail(message: String) -> ! {
@@ -938,7 +1145,7 @@ impl Program {
 
     fn try_last_lines(&mut self) {
         let around_the_buffer = BUFFER - 2..=BUFFER + 2;
-        for characters in [1, 2, 6, 18, 21, 22, 23, 24, 100]
+        for characters in [1, 2, 6, 21, 22, 23, LONGEST - 1, LONGEST, LONGEST + 1, LONGEST + 2, 100]
             .into_iter()
             .chain(around_the_buffer)
             .chain([100_000])

@@ -2,8 +2,8 @@
 //! and its words. In no answer but a first read's are two values the same, so that none can stand for another.
 use std::fmt::Debug;
 use std::process::exit;
-use tests::tables::setup;
-use welsbell::{version, Answer, Client, Refusal, Tables, END, MOST_COUNTED, VERSION};
+use tests::tables::{setup, setup_with};
+use welsbell::{version, Answer, Client, Hours, Refusal, Tables, END, MOST_COUNTED, MOST_PER_HOUR, VERSION};
 
 #[derive(Default)]
 struct Held {
@@ -53,7 +53,7 @@ fn submits(held: &mut Held, t: &mut Tables<8, 8>) {
 
 fn answers(held: &mut Held) {
     let mut t = Tables::<8, 8>::new();
-    held.answer("opened", Answer::Opened, t.queue().open(setup(8, 1_000)));
+    held.answer("opened", Answer::Opened, t.queue().open(setup(8, 1_000), Hours::ALL_OPEN));
     (t.head.clock, t.head.last) = (4, 20);
     t.clients[7] = Client {
         submitted: 10,
@@ -88,32 +88,83 @@ fn answers(held: &mut Held) {
     held.same("start slots", [6, 8, 29, 30, 99], starts);
 }
 
+// Hours as they are written and read by name, in the place that document 02 gives each: "first hour in the highest bit".
+fn hours(held: &mut Held) {
+    held.same("all hours open", [0xFF; 21], Hours::ALL_OPEN.marks);
+    for hour in 0..168 {
+        let mut marks = [0; 21];
+        marks[hour / 8] = 1 << (7 - hour % 8);
+        let mut hours = Hours::default();
+        hours.mark(hour, true);
+        held.same("an hour that is marked", marks, hours.marks);
+        let found: Vec<usize> = (0..168).filter(|&hour| hours.is_open(hour)).collect();
+        held.same("the hours that are open", vec![hour], found);
+        hours.mark(hour, false);
+        held.same("an hour that is closed again", Hours::default(), hours);
+        let mut others = Hours::ALL_OPEN;
+        others.mark(hour + 168, false);
+        held.same("an hour of the second week", marks.map(|byte| !byte), others.marks);
+        held.same("an hour of the second week", false, others.is_open(hour + 168));
+    }
+}
+
+// Two slots an hour; only hour 1 is open.
+fn closed(held: &mut Held) {
+    let mut hours = Hours::default();
+    hours.mark(1, true);
+    let mut t = Tables::<2, 2>::new();
+    held.same("an open", Answer::Opened, t.queue().open(setup_with(2, 100, 2), hours));
+    held.same("the hours that are lent", hours, t.hours);
+    held.answer("slot 0 is closed", Answer::Closed { slot: 0 }, t.queue().tick());
+    held.same("a read", kept(1, 0, 0), t.queue().submit(1, 4));
+    held.answer("slot 1 is closed", Answer::Closed { slot: 1 }, t.queue().tick());
+    let mut starts = [99; 2];
+    held.same("a chart", Answer::Charted { count: 1 }, t.queue().chart(&mut starts));
+    held.same("start slots", [3, 99], starts);
+}
+
 // Tables that are opened, and a call on them that is refused.
 type Refused = fn(&mut Tables<2, 2>) -> Answer;
 
 fn open_with(t: &mut Tables<2, 2>, clients: u64, period: u64) -> Answer {
-    t.queue().open(setup(clients, period))
+    t.queue().open(setup(clients, period), Hours::ALL_OPEN)
 }
 
 // Each refusal with a call that gives it and the words.
-const REFUSALS: [(Refusal, Refused, &str); 11] = [
+const REFUSALS: [(Refusal, u64, Refused, &str); 14] = [
     (
         Refusal::Clients,
+        2,
         |t| open_with(t, 0, 1),
         "refused, number 2: clients are not 1 to 256",
     ),
     (
         Refusal::Period,
+        3,
         |t| open_with(t, 2, 0),
         "refused, number 3: the period is not 1 to 4294967295 slots",
     ),
     (
+        Refusal::PerHour,
+        13,
+        |t| t.queue().open(setup_with(2, 1, MOST_PER_HOUR + 1), Hours::ALL_OPEN),
+        "refused, number 13: slots per hour are not 1 to 360000",
+    ),
+    (
+        Refusal::AllClosed,
+        14,
+        |t| t.queue().open(setup(2, 1), Hours::default()),
+        "refused, number 14: all hours are closed",
+    ),
+    (
         Refusal::Lengths,
+        4,
         |t| open_with(t, 1, 1),
         "refused, number 4: the tables do not have the lengths that are needed",
     ),
     (
         Refusal::Unsound,
+        5,
         |t| {
             t.head.setup.period = 0;
             t.queue().tick()
@@ -122,16 +173,28 @@ const REFUSALS: [(Refusal, Refused, &str); 11] = [
     ),
     (
         Refusal::Client,
+        6,
         |t| t.queue().report(2),
         "refused, number 6: the client does not exist",
     ),
     (
         Refusal::Deadline,
+        7,
         |t| t.queue().submit(0, 0),
         "refused, number 7: the deadline is not 1 to 65535 slots after the clock",
     ),
     (
+        Refusal::NoOpenSlot,
+        15,
+        |t| {
+            t.hours.mark(0, false);
+            t.queue().submit(0, 1)
+        },
+        "refused, number 15: no slot from the clock to the deadline is open",
+    ),
+    (
         Refusal::Count,
+        8,
         |t| {
             (t.clients[0].submitted, t.clients[0].served) = (MOST_COUNTED, MOST_COUNTED);
             t.queue().submit(0, 1)
@@ -140,6 +203,7 @@ const REFUSALS: [(Refusal, Refused, &str); 11] = [
     ),
     (
         Refusal::Number,
+        9,
         |t| {
             t.head.last = END;
             t.queue().submit(0, 1)
@@ -148,6 +212,7 @@ const REFUSALS: [(Refusal, Refused, &str); 11] = [
     ),
     (
         Refusal::Full,
+        10,
         |t| {
             let answers = [7, 8, 9].map(|deadline| t.queue().submit(0, deadline));
             answers[2]
@@ -156,6 +221,7 @@ const REFUSALS: [(Refusal, Refused, &str); 11] = [
     ),
     (
         Refusal::Clock,
+        11,
         |t| {
             t.head.clock = END;
             t.queue().tick()
@@ -164,6 +230,7 @@ const REFUSALS: [(Refusal, Refused, &str); 11] = [
     ),
     (
         Refusal::Output,
+        12,
         |t| {
             let _ = t.queue().submit(0, 1);
             t.queue().chart(&mut [])
@@ -173,19 +240,21 @@ const REFUSALS: [(Refusal, Refused, &str); 11] = [
 ];
 
 fn refusals(held: &mut Held) {
-    for (number, (refusal, call, words)) in (2..).zip(REFUSALS) {
+    for (refusal, number, call, words) in REFUSALS {
         let mut t = Tables::new();
         held.same("an open", Answer::Opened, open_with(&mut t, 2, 100));
         held.answer(words, Answer::Refused(refusal), call(&mut t));
         held.same(words, number, refusal.number());
     }
-    held.same("all refusals", REFUSALS.map(|(refusal, _, _)| refusal), Refusal::ALL);
+    held.same("all refusals", REFUSALS.map(|(refusal, ..)| refusal), Refusal::ALL);
 }
 
 fn main() {
     let mut held = Held::default();
     held.same("the archive's version", VERSION, version());
+    hours(&mut held);
     answers(&mut held);
+    closed(&mut held);
     refusals(&mut held);
     if held.failed > 0 {
         eprintln!("{} of {} facts of the Rust wrapper are not so", held.failed, held.facts);

@@ -1,5 +1,6 @@
 //! "Calls".
 use super::chart::{can_all_finish, starts, victim};
+use super::hours::Hours;
 use super::refusals::refusal;
 use super::shift::{behind, faulty};
 use super::tables::{stands_before, Counts, Head, Queue, Request, Setup};
@@ -7,7 +8,7 @@ use super::Fault;
 
 #[derive(Clone, Copy, Debug)]
 pub enum Call {
-    Open { clients: u64, period: u64 },
+    Open { setup: Setup, hours: Hours },
     Submit { client: u64, deadline: u64 },
     Tick,
     Report { client: u64 },
@@ -17,7 +18,7 @@ pub enum Call {
 
 // An answer's kind and its values: "81 opened; 82 kept, number, place; 83 dropped, new number, victim, victim's client; 84
 // served, slot, number, client; 85 idle, slot; 86 report, client, submitted, served, dropped, waiting; ... FF refusal, number".
-// "Frames 82 and 83 end with" the shift. A chart's answer has the number of the frame that ends it, 88.
+// "Frames 82 and 83 end with" the shift. "A closed slot serves nobody and tick answers 89 with the slot". A chart's answer has the number of the frame that ends it, 88.
 pub type Answer = Vec<u64>;
 
 pub const OPENED: u64 = 0x81;
@@ -27,10 +28,11 @@ pub const SERVED: u64 = 0x84;
 pub const IDLE: u64 = 0x85;
 pub const REPORT: u64 = 0x86;
 pub const CHART: u64 = 0x88;
+pub const CLOSED: u64 = 0x89;
 pub const REFUSED: u64 = 0xFF;
 
 // The kinds of all answers but refusals.
-pub const KINDS: [u64; 7] = [OPENED, KEPT, DROPPED, SERVED, IDLE, REPORT, CHART];
+pub const KINDS: [u64; 8] = [OPENED, KEPT, DROPPED, SERVED, IDLE, REPORT, CHART, CLOSED];
 
 impl Queue {
     // The output is what a chart writes into; other calls leave it.
@@ -40,7 +42,7 @@ impl Queue {
             return vec![REFUSED, number];
         }
         match *call {
-            Call::Open { clients, period } => self.open(clients, period),
+            Call::Open { setup, hours } => self.open(setup, hours),
             Call::Submit { client, deadline } => self.submit(client, deadline),
             Call::Tick => self.tick(),
             Call::Report { client } => self.report(client),
@@ -48,10 +50,12 @@ impl Queue {
         }
     }
 
-    // "Open takes clients and period, sets clock, last number and waiting count to 0 and every record to zero."
-    fn open(&mut self, clients: u64, period: u64) -> Answer {
+    // "Open takes clients and period, sets clock, last number and waiting count to 0 and every record to zero." Document 02: it
+    // "takes slots per hour and 168 open-or-closed marks".
+    fn open(&mut self, setup: Setup, hours: Hours) -> Answer {
+        self.hours = hours;
         self.head = Head {
-            setup: Setup { clients, period },
+            setup,
             clock: 0,
             last: 0,
             waiting: 0,
@@ -82,7 +86,7 @@ impl Queue {
             requests.insert(place, new);
         }
         // "If every request can still finish, the answer is kept, with number and place (from 0)."
-        let mut answer = if can_all_finish(self.head.clock, requests.iter()) {
+        let mut answer = if can_all_finish(&self.slots_for(&requests), requests.iter()) {
             vec![KEPT, number, place as u64]
         } else {
             self.drop_one(number, &mut requests)
@@ -111,20 +115,36 @@ impl Queue {
     // served; with none waiting it answers idle. Then the clock rises by 1."
     fn tick(&mut self) -> Answer {
         let slot = self.head.clock;
-        let mut requests = self.waiting().to_vec();
-        let answer = if requests.is_empty() {
-            vec![IDLE, slot]
-        } else {
-            let first = requests.remove(0);
-            self.clients[first.client as usize].served += 1;
-            vec![SERVED, slot, first.number, first.client]
-        };
-        self.hold(&requests);
+        let is_open = self.week().is_open(slot);
+        let answer = if is_open { self.serve(slot) } else { self.closed(slot) };
         self.head.clock += 1;
-        if self.head.clock.is_multiple_of(self.head.setup.period) {
+        let is_lost = self.fault == Fault::ClosedWithoutPeriod && !is_open;
+        if self.head.clock.is_multiple_of(self.head.setup.period) && !is_lost {
             self.start_period();
         }
         answer
+    }
+
+    // The first waiting record, if there is one.
+    fn serve(&mut self, slot: u64) -> Answer {
+        let mut requests = self.waiting().to_vec();
+        if requests.is_empty() {
+            return vec![IDLE, slot];
+        }
+        let first = requests.remove(0);
+        self.clients[first.client as usize].served += 1;
+        self.hold(&requests);
+        vec![SERVED, slot, first.number, first.client]
+    }
+
+    // "A closed slot serves nobody and tick answers 89 with the slot".
+    fn closed(&self, slot: u64) -> Answer {
+        let kind = match self.fault {
+            Fault::IdleInClosed => IDLE,
+            Fault::ClosedWhereReadsWait if self.waiting().is_empty() => IDLE,
+            _ => CLOSED,
+        };
+        vec![kind, slot]
     }
 
     // "If it is now a multiple of the period, each client's submitted becomes its waiting count, served and dropped become 0."
@@ -149,7 +169,7 @@ impl Queue {
     // "Chart writes one start slot a waiting record, in chart order, into a lent output table and answers their count; entries
     // beyond are untouched."
     fn chart(&self, output: &mut [u64]) -> Answer {
-        let starts = starts(self.waiting());
+        let starts = starts(self.week(), self.waiting());
         output[..starts.len()].copy_from_slice(&starts);
         vec![CHART, starts.len() as u64]
     }

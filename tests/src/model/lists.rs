@@ -1,10 +1,10 @@
 //! "Lists and plans": what is read off a list of calls and their answers, and nothing else.
-use super::calls::{Call, DROPPED, IDLE, KEPT, REFUSED, SERVED};
+use super::calls::{Call, CLOSED, DROPPED, IDLE, KEPT, REFUSED, SERVED};
+use super::hours::Week;
 use super::plan::Plan;
 use std::collections::BTreeSet;
 
 // "The list starts from the head and tables that an accepted open left".
-#[derive(Default)]
 pub struct List {
     // by number: "The list's requests are its submits that were not refused, whether answered kept or dropped."
     pub requests: BTreeSet<u64>,
@@ -14,10 +14,25 @@ pub struct List {
     named_served: BTreeSet<u64>,
     pub plan: Plan,
     pub idle: u64,
+    pub closed: u64,
     pub refused: u64,
 }
 
 impl List {
+    // After an open with these hours.
+    pub fn within(week: Week) -> List {
+        List {
+            requests: BTreeSet::new(),
+            clock: 0,
+            victims: BTreeSet::new(),
+            named_served: BTreeSet::new(),
+            plan: Plan::within(week),
+            idle: 0,
+            closed: 0,
+            refused: 0,
+        }
+    }
+
     // One call more, and its answer.
     pub fn take(&mut self, call: &Call, answer: &[u64]) {
         match (call, answer) {
@@ -44,6 +59,7 @@ impl List {
                 self.named_served.insert(*number);
             }
             [IDLE, _] => self.idle += 1,
+            [CLOSED, _] => self.closed += 1,
             _ => {}
         }
     }

@@ -3,6 +3,7 @@
 //! sentence above it.
 pub mod calls;
 pub mod chart;
+pub mod hours;
 pub mod lists;
 pub mod plan;
 pub mod refusals;
@@ -12,6 +13,7 @@ pub mod sound;
 pub mod tables;
 
 pub use calls::{Answer, Call, KINDS, REFUSED};
+pub use hours::Week;
 pub use tables::{Counts, Queue};
 
 // A fault that the model can be made to have, to show that a comparison with it finds faults.
@@ -35,10 +37,28 @@ pub enum Fault {
     WaitingAsShift,
     // records with the new one's own deadline are counted as behind it
     EqualsBehind,
+    // refusal 15 is looked for before 7
+    NoOpenSlotFirst,
+    // a deadline may be past the clock by 65,535 open slots
+    ReachInOpenSlots,
+    // a closed slot is idle where none waits
+    ClosedWhereReadsWait,
+    // a closed slot is idle
+    IdleInClosed,
+    // no period starts with a closed slot's end
+    ClosedWithoutPeriod,
+    // the first of eight hours has the lowest bit
+    FirstHourLowest,
+    // a closed slot parts two segments
+    CutAtClosed,
+    // a segment ends at the open slot behind it
+    RightAtNextOpen,
+    // behind the first week every hour is open
+    OneWeek,
 }
 
 // Each by the name that a test program takes.
-pub const FAULTS: [(&str, Fault); 8] = [
+pub const FAULTS: [(&str, Fault); 17] = [
     ("wrong-tie", Fault::WrongTie),
     ("lost-record", Fault::LostRecord),
     ("forgetful-period", Fault::ForgetfulPeriod),
@@ -47,6 +67,15 @@ pub const FAULTS: [(&str, Fault); 8] = [
     ("place-as-shift", Fault::PlaceAsShift),
     ("waiting-as-shift", Fault::WaitingAsShift),
     ("equals-behind", Fault::EqualsBehind),
+    ("no-open-slot-first", Fault::NoOpenSlotFirst),
+    ("reach-in-open-slots", Fault::ReachInOpenSlots),
+    ("closed-where-reads-wait", Fault::ClosedWhereReadsWait),
+    ("idle-in-closed", Fault::IdleInClosed),
+    ("closed-without-period", Fault::ClosedWithoutPeriod),
+    ("first-hour-lowest", Fault::FirstHourLowest),
+    ("cut-at-closed", Fault::CutAtClosed),
+    ("right-at-next-open", Fault::RightAtNextOpen),
+    ("one-week", Fault::OneWeek),
 ];
 
 impl Fault {

@@ -1,7 +1,8 @@
 //! "Session lines": bytes in, bytes out.
-use super::calls::{Answer, Call, CHART, DROPPED, IDLE, KEPT, OPENED, REFUSED, REPORT, SERVED};
+use super::calls::{Answer, Call, CHART, CLOSED, DROPPED, IDLE, KEPT, OPENED, REFUSED, REPORT, SERVED};
 use super::chart::segments;
-use super::tables::{Queue, RECORDS};
+use super::hours::Hours;
+use super::tables::{Queue, Setup, RECORDS};
 use super::Fault;
 
 pub const SEGMENT: u64 = 0x87;
@@ -9,11 +10,14 @@ pub const SEGMENT: u64 = 0x87;
 // The widths in bytes of the values that follow a kind.
 type Widths = fn(u64) -> Option<&'static [usize]>;
 
+// The bytes of the marks.
+const MARKS: usize = 21;
+
 // "Kinds in: 01 open, clients (2), period (4), waiting records (2); 02 submit, client (2), deadline (8); 03 tick; 04 report,
-// client (2); 05 chart."
+// client (2); 05 chart." Document 02: open's "frame carries them after the waiting records, as 4 bytes and 21 bytes".
 pub fn widths_in(kind: u64) -> Option<&'static [usize]> {
     match kind {
-        0x01 => Some(&[2, 4, 2]),
+        0x01 => Some(&[2, 4, 2, 4, MARKS]),
         0x02 => Some(&[2, 8]),
         0x03 => Some(&[]),
         0x04 => Some(&[2]),
@@ -25,7 +29,7 @@ pub fn widths_in(kind: u64) -> Option<&'static [usize]> {
 // "Kinds out: 81 opened; 82 kept, number (8), place (2); 83 dropped, new number (8), victim (8), victim's client (2); 84
 // served, slot (8), number (8), client (2); 85 idle, slot (8); 86 report, client (2), submitted (4), served (4), dropped (4),
 // waiting (2); 87 segment, left (8), right (8), one line each from the left, then 88, segment count (2); FF refusal, number
-// (1)." Document 02: "Frames 82 and 83 end with" the shift, "in 2 bytes".
+// (1)." Document 02: "Frames 82 and 83 end with" the shift, "in 2 bytes"; "89 with the slot (8)".
 pub fn widths_out(kind: u64) -> Option<&'static [usize]> {
     match kind {
         OPENED => Some(&[]),
@@ -36,6 +40,7 @@ pub fn widths_out(kind: u64) -> Option<&'static [usize]> {
         REPORT => Some(&[2, 4, 4, 4, 2]),
         SEGMENT => Some(&[8, 8]),
         CHART => Some(&[2]),
+        CLOSED => Some(&[8]),
         REFUSED => Some(&[1]),
         _ => None,
     }
@@ -60,15 +65,19 @@ fn bytes_of(line: &[u8]) -> Option<Vec<u64>> {
 }
 
 // The kind and the values of a frame. "An empty line, an unknown kind, a wrong length" is none. "A line with more digits than
-// the longest frame whose values are in bounds" has a wrong length too.
+// the longest frame whose values are in bounds" has a wrong length too. The marks are given byte by byte.
 pub fn read(line: &[u8], widths: Widths) -> Option<Vec<u64>> {
     let bytes = bytes_of(line)?;
     let (&kind, mut rest) = bytes.split_first()?;
     let mut frame = vec![kind];
     for &width in widths(kind)? {
         let (value, behind) = rest.split_at_checked(width)?;
-        // "Numbers are big-endian"
-        frame.push(value.iter().fold(0, |number, byte| 256 * number + byte));
+        if width == MARKS {
+            frame.extend(value);
+        } else {
+            // "Numbers are big-endian"
+            frame.push(value.iter().fold(0, |number, byte| 256 * number + byte));
+        }
         rest = behind;
     }
     rest.is_empty().then_some(frame)
@@ -87,13 +96,26 @@ fn line_of(answer: &Answer) -> String {
 // The call that a frame asks for. A chart's output has as many entries as a waiting table can have records.
 pub fn call_of(frame: &[u64]) -> Option<Call> {
     match *frame {
-        [0x01, clients, period, _] => Some(Call::Open { clients, period }),
+        [0x01, clients, period, _, slots_per_hour, ref marks @ ..] => open_of(clients, period, slots_per_hour, marks),
         [0x02, client, deadline] => Some(Call::Submit { client, deadline }),
         [0x03] => Some(Call::Tick),
         [0x04, client] => Some(Call::Report { client }),
         [0x05] => Some(Call::Chart { entries: *RECORDS.end() }),
         _ => None,
     }
+}
+
+fn open_of(clients: u64, period: u64, slots_per_hour: u64, marks: &[u64]) -> Option<Call> {
+    let bytes: Vec<u8> = marks.iter().map(|&byte| byte as u8).collect();
+    let setup = Setup {
+        clients,
+        period,
+        slots_per_hour,
+    };
+    let hours = Hours {
+        marks: bytes.try_into().ok()?,
+    };
+    Some(Call::Open { setup, hours })
 }
 
 // The call that a line asks for, with the last line that was printed for it as its answer. What is no frame is no call.
@@ -118,7 +140,7 @@ impl Session {
     fn answer(&mut self, line: &[u8]) -> Vec<Answer> {
         let frame = read(line, widths_in).unwrap_or_default();
         match call_of(&frame) {
-            Some(open @ Call::Open { clients, .. }) => vec![self.open(&open, clients, frame[3])],
+            Some(open @ Call::Open { setup, .. }) => vec![self.open(&open, setup.clients, frame[3])],
             Some(chart @ Call::Chart { .. }) => self.chart(&chart),
             Some(call) => vec![self.queue.make(&call, &mut [])],
             // "A session line is no frame as described below."
@@ -144,7 +166,7 @@ impl Session {
         if answer[0] == REFUSED {
             return vec![answer];
         }
-        let segments = segments(&output[..answer[1] as usize]);
+        let segments = segments(self.queue.week(), &output[..answer[1] as usize]);
         let count = vec![CHART, segments.len() as u64];
         let lines = segments.into_iter().map(|(left, right)| vec![SEGMENT, left, right]);
         lines.chain([count]).collect()

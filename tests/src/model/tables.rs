@@ -1,8 +1,9 @@
 //! "Tables and bounds".
+use super::hours::{Hours, Week};
 use super::Fault;
 use std::ops::RangeInclusive;
 // "A record has a deadline, a request number and a client." "The head, passed and handed back: clients, period, clock, last
-// request number, waiting count." The same as they are lent.
+// request number, waiting count." Document 02: "Open takes slots per hour and 168 open-or-closed marks". The same as they are lent.
 pub use welsbell::{Head, Request, Setup};
 
 // "Clients: 1 to 256, numbered from 0."
@@ -35,6 +36,7 @@ pub struct Counts {
 #[derive(Clone, Debug, Default, PartialEq)]
 pub struct Queue {
     pub head: Head,
+    pub hours: Hours,
     pub records: Vec<Request>,
     pub clients: Vec<Counts>,
     // The client table is lent as its numbers: how many come behind the last whole record, one or two or none.
@@ -47,6 +49,7 @@ impl Queue {
     pub fn zero(records: usize, clients: usize, fault: Fault) -> Queue {
         Queue {
             head: Head::default(),
+            hours: Hours::default(),
             records: vec![Request::default(); records],
             clients: vec![Counts::default(); clients],
             odd_numbers: 0,
@@ -73,9 +76,25 @@ impl Queue {
         self.waiting().iter().filter(|request| request.client == client).count() as u64
     }
 
-    // A deadline, or anything that stands in its place, less the clock.
-    pub fn past_the_clock(&self, deadline: u64) -> i128 {
-        i128::from(deadline) - i128::from(self.head.clock)
+    // Which slots are open.
+    pub fn week(&self) -> Week {
+        Week::new(self.head.setup.slots_per_hour, self.hours, self.fault)
+    }
+
+    // "past the clock by 1 to 65,535, all slots counted", of a deadline or of anything that stands in its place
+    pub fn is_in_reach(&self, deadline: u64) -> bool {
+        let clock = self.head.clock;
+        if self.fault == Fault::ReachInOpenSlots {
+            return self.week().is_within_open(*AHEAD.end(), clock, deadline);
+        }
+        AHEAD.contains(&(i128::from(deadline) - i128::from(clock)))
+    }
+
+    // "Wherever document 01 counts slots up to a deadline, only open ones count": the first open slots from the clock on, as many
+    // as there are requests, but none behind the last of their deadlines. More are never needed.
+    pub fn slots_for(&self, requests: &[Request]) -> Vec<u64> {
+        let last = requests.iter().map(|request| request.deadline).max().unwrap_or_default();
+        self.week().open_slots(self.head.clock, last).take(requests.len()).collect()
     }
 }
 

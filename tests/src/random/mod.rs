@@ -1,4 +1,5 @@
 //! Numbers that look random and are the same in every run with one seed; sessions and tables made of them.
+pub mod hours;
 pub mod session;
 pub mod tables;
 

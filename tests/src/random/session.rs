@@ -1,6 +1,7 @@
 //! Random sessions, with lines of every kind, good and bad. What is answered is for the model to say: the clock is followed
 //! here only so that deadlines lie near it.
-use crate::frames;
+use crate::frames::{self, Week};
+use crate::random::hours::{end_of_hour, hours, PER_HOUR};
 use crate::random::Random;
 
 // What the calls of one list are like.
@@ -8,6 +9,7 @@ struct Style {
     records: u16,
     clients: u16,
     period: u32,
+    week: Week,
     // how far ahead of the clock the deadlines lie, at least and at most
     ahead: (u64, u64),
     // how many of a hundred submits and ticks are submits
@@ -58,6 +60,7 @@ fn small_list(random: &mut Random) -> Style {
         records,
         clients: random.one_of(&[1, 2, 5, 256]),
         period: random.one_of(&[1, 2, 3, 10, 100, u32::MAX]),
+        week: week(random),
         ahead: random.one_of(&[
             (1, 2),
             (1, 4),
@@ -72,11 +75,23 @@ fn small_list(random: &mut Random) -> Style {
     }
 }
 
+fn week(random: &mut Random) -> Week {
+    Week {
+        slots_per_hour: random.one_of(&PER_HOUR) as u32,
+        marks: hours(random).marks,
+    }
+}
+
 fn large_list(random: &mut Random) -> Style {
+    let every_second = Week {
+        slots_per_hour: random.one_of(&[1, 2, 16, 360]),
+        marks: [0xAA; 21],
+    };
     Style {
         records: 2_048,
         clients: random.one_of(&[1, 5, 256]),
         period: random.one_of(&[3, 100, u32::MAX]),
+        week: random.one_of(&[frames::ALL_OPEN, frames::ALL_OPEN, every_second]),
         ahead: random.one_of(&[(1, 1_500), (1, 2_100), (1_000, 3_000), (1, 65_535)]),
         submits: 95,
         calls: 3_300,
@@ -96,6 +111,7 @@ impl Writer {
                 0..=3 => self.bad_line(),
                 4 => self.refused_open(),
                 5 => self.reports_of_all(),
+                _ if self.random.below(900) == 0 => self.ticks(),
                 6..=9 => self.report(),
                 10..=14 => self.line(frames::CHART),
                 _ if self.random.below(100) < self.style.submits => self.submit(),
@@ -106,7 +122,7 @@ impl Writer {
 
     fn open(&mut self) {
         let style = &self.style;
-        self.line(frames::open(style.clients, style.period, style.records));
+        self.line(frames::open_with(style.clients, style.period, style.records, &style.week));
         self.clock = 0;
     }
 
@@ -118,6 +134,14 @@ impl Writer {
     fn tick(&mut self) {
         self.line(frames::TICK);
         self.clock += 1;
+    }
+
+    // Through some hours, if they are short.
+    fn ticks(&mut self) {
+        let most = 3 * u64::from(self.style.week.slots_per_hour);
+        for _ in 0..self.random.between(1, most.clamp(200, 500)) {
+            self.tick();
+        }
     }
 
     fn report(&mut self) {
@@ -137,7 +161,11 @@ impl Writer {
         let clients = self.random.one_of(&[0, 1, 2, 256, 257, 65_535]);
         let period = self.random.one_of(&[0, 1, 7]);
         let records = self.random.one_of(&[0, 2_049, 65_535]);
-        self.line(frames::open(clients, period, records));
+        let week = Week {
+            slots_per_hour: self.random.one_of(&[0, 1, 360_000, 360_001, u32::MAX]),
+            marks: self.random.one_of(&[[0; 21], [0xFF; 21], self.style.week.marks]),
+        };
+        self.line(frames::open_with(clients, period, records, &week));
     }
 
     fn client(&mut self) -> u16 {
@@ -151,8 +179,10 @@ impl Writer {
         let clock = self.clock;
         let (least, most) = self.style.ahead;
         let usual = clock + self.random.between(least, most);
+        let end_of_hour = end_of_hour(&mut self.random, self.style.week.slots_per_hour.into(), clock);
         let bounds = [0, clock, clock + 1, clock + 65_535, clock + 65_536, 1 << 48, u64::MAX];
-        let other = self.random.one_of(&bounds);
+        let bound = self.random.one_of(&bounds);
+        let other = self.random.one_of(&[bound, end_of_hour]);
         self.random.mostly(usual, other)
     }
 }
@@ -186,7 +216,7 @@ impl Writer {
     fn frame(&mut self) -> Vec<u8> {
         let (client, deadline) = (self.client(), self.deadline());
         let frame = match self.random.below(5) {
-            0 => frames::open(client, 7, 7),
+            0 => frames::open_with(client, 7, 7, &self.style.week),
             1 => frames::submit(client, deadline),
             2 => frames::TICK.into(),
             3 => frames::report(client),
@@ -207,20 +237,20 @@ impl Writer {
 
     fn unknown_kind(&mut self) -> Vec<u8> {
         let kind = self.random.one_of(&[0x00, 0x07, 0x10, 0x7F, 0x81, 0x88, 0xFF]);
-        let digits = self.random.one_of(&[0, 4, 16, 20]);
+        let digits = self.random.one_of(&[0, 4, 16, 20, 66]);
         [format!("{kind:02X}").into(), self.digits(digits)].concat()
     }
 
     // A little, more than the frames of a few lines, and seldom more than a reader's buffer may have. Its parts would be
     // frames.
     fn too_long(&mut self) -> Vec<u8> {
-        let little = self.random.between(12, 40) as usize;
+        let little = self.random.between(12, 60) as usize;
         let much = self.random.one_of(&[300, 5_000, 40_000]);
         b"03".repeat(self.random.mostly(little, much))
     }
 
     fn any_bytes(&mut self) -> Vec<u8> {
-        let count = self.random.between(1, 30);
+        let count = self.random.between(1, 80);
         (0..count).map(|_| self.random.next() as u8).collect()
     }
 

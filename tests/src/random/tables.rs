@@ -1,26 +1,40 @@
 //! Random tables that are sound, many of them at the bounds, and calls on them.
-use crate::model::Call;
+use crate::model::{Call, Fault, Week};
+use crate::random::hours::{edge, end_of_hour, hours, PER_HOUR};
 use crate::random::Random;
 use crate::tables::{head, request, Head, Request, Tables, END, MOST_AHEAD, MOST_COUNTED, MOST_PERIOD};
 use std::collections::BTreeSet;
 
-// Tables of so many records, of which so many wait.
+// Tables of so many records, of which so many wait, or as many as there are open slots as far ahead as a deadline can be.
 pub fn sound(random: &mut Random, records: usize, waiting: usize) -> Tables {
+    sound_with(random, records, waiting, &PER_HOUR)
+}
+
+// The same, with as many slots an hour as one of these.
+pub fn sound_with(random: &mut Random, records: usize, waiting: usize, per_hour: &[u64]) -> Tables {
     let clients = random.one_of(&[1, 2, 5, 256]);
-    let clock = clock(random);
+    let slots_per_hour = random.one_of(per_hour);
+    let hours = hours(random);
+    let clock = clock(random, slots_per_hour);
+    let week = Week::new(slots_per_hour, hours, Fault::None);
+    let slots: Vec<u64> = week.open_slots(clock, clock + MOST_AHEAD).take(waiting).collect();
+    let waiting = slots.len();
     let last = last(random, waiting as u64);
     let ahead = random.one_of(&[1, 4, 2 * waiting as u64 + 1, MOST_AHEAD]);
     let mut tables = Tables::zero(head(clients, period(random, clock), clock, last, waiting as u64), records);
-    let requests = requests(random, &tables.head, ahead);
+    (tables.head.setup.slots_per_hour, tables.hours) = (slots_per_hour, hours);
+    let earliest = earliest(random, &slots);
+    let requests = requests(random, &tables.head, ahead, &earliest);
     tables.waiting[..waiting].copy_from_slice(&requests);
     count(random, &mut tables);
     tables
 }
 
-fn clock(random: &mut Random) -> u64 {
+fn clock(random: &mut Random, slots_per_hour: u64) -> u64 {
     let any = random.between(0, END);
     let near = END - random.between(0, 9);
-    random.one_of(&[0, 1, 99, any, near, END - 1, END])
+    let edge = edge(random, slots_per_hour);
+    random.one_of(&[0, 1, 99, any, near, END - 1, END, edge, edge, edge])
 }
 
 // With the next clock as the period, the next tick starts one.
@@ -35,11 +49,20 @@ fn last(random: &mut Random, waiting: u64) -> u64 {
     random.one_of(&[waiting, waiting + 5, any, END - 1, END])
 }
 
-// In chart order, with room for each. Deadlines lie at most so far ahead of the clock, or as near as there is room.
-fn requests(random: &mut Random, head: &Head, ahead: u64) -> Vec<Request> {
+// Deadlines with which each has to have the slot of its place: the slot's end, or later but not behind the next open slot's start.
+fn earliest(random: &mut Random, slots: &[u64]) -> Vec<u64> {
+    let is_late = random.below(2) == 0;
+    let next = slots.iter().skip(1).copied().chain(slots.last().map(|last| last + 1));
+    let ends = slots.iter().map(|slot| slot + 1).zip(next);
+    ends.map(|(end, next)| if is_late { random.between(end, next) } else { end })
+        .collect()
+}
+
+// In chart order. Deadlines lie at most so far ahead of the clock, or as near as there is room, which are these.
+fn requests(random: &mut Random, head: &Head, ahead: u64, earliest: &[u64]) -> Vec<Request> {
     let mut aheads: Vec<u64> = (0..head.waiting).map(|_| random.between(1, ahead)).collect();
     aheads.sort();
-    let with_room = (1..).zip(aheads).map(|(count, ahead)| head.clock + ahead.max(count));
+    let with_room = earliest.iter().zip(aheads).map(|(&end, ahead)| (head.clock + ahead).max(end));
     let mut numbers = numbers(random, head.waiting as usize, head.last);
     let client = |random: &mut Random| random.below(head.setup.clients as usize) as u64;
     let mut requests: Vec<Request> = with_room
@@ -91,8 +114,13 @@ pub fn call(random: &mut Random, tables: &Tables, ahead: u64) -> Call {
     let Head { setup, clock, .. } = tables.head;
     let client = random.next() % setup.clients.max(1);
     let deadline = clock.saturating_add(random.between(1, ahead));
+    let end_of_hour = end_of_hour(random, setup.slots_per_hour, clock);
     match random.below(20) {
-        0..=8 => Call::Submit { client, deadline },
+        0..=7 => Call::Submit { client, deadline },
+        8 => Call::Submit {
+            client,
+            deadline: random.one_of(&[deadline, end_of_hour]),
+        },
         9..=16 => Call::Tick,
         17 => Call::Report { client },
         18 => Call::Chart {

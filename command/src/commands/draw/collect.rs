@@ -30,6 +30,7 @@ pub struct Collected {
     pub columns: Columns,
     pub charts: Evenly<Chart>,
     pub idle: u64,
+    pub closed: u64,
     pub refused: u64,
     /// Whether a read was submitted since the last slot passed.
     is_slot_begun: bool,
@@ -69,6 +70,7 @@ impl Collected {
             columns: Columns::of(clients),
             charts: Evenly::default(),
             idle: 0,
+            closed: 0,
             refused: 0,
             is_slot_begun: false,
         }
@@ -92,9 +94,11 @@ impl Collected {
                 self.idle += 1;
                 self.columns.at(*slot).idle += 1;
             }
+            Event::Closed { slot } => self.close(*slot),
             Event::Charted(segments) => self.charts.take(Chart {
                 line,
                 clock: after.clock,
+                hours: after.hours,
                 segments: segments.clone(),
                 reads: after.chart_order(),
             }),
@@ -112,6 +116,12 @@ impl Collected {
     fn serve(&mut self, slot: u64, read: Read) {
         self.columns.at(slot).served[read.client as usize] += 1;
         self.recent.at(slot).served.push(read);
+    }
+
+    fn close(&mut self, slot: u64) {
+        self.closed += 1;
+        self.columns.at(slot).closed += 1;
+        self.recent.at(slot).is_closed = true;
     }
 
     fn end(mut self, followed: &Followed) -> Ended {
@@ -197,7 +207,7 @@ pub mod tests {
     }
 
     pub const DOCUMENT_01: [(&str, &[&str]); 7] = [
-        ("010002000000640008", &["81"]),
+        ("01000200000064000800000001FFFFFFFFFFFFFFFFFFFFFFFFFFFFFFFFFFFFFFFFFF", &["81"]),
         ("0200000000000000000001", &["82000000000000000100000000"]),
         ("0200010000000000000002", &["82000000000000000200010000"]),
         ("0200010000000000000001", &["830000000000000003000000000000000300010001"]),
@@ -205,6 +215,38 @@ pub mod tests {
         ("03", &["84000000000000000000000000000000010000"]),
         ("040001", &["8600010000000200000000000000010001"]),
     ];
+
+    /// Two slots an hour, and hours 0 and 2 open: reads in slots 0, 1, 4 and 5, and closed slots between them.
+    pub const SMALL: [(&str, &[&str]); 14] = [
+        ("01000100000064000800000002A00000000000000000000000000000000000000000", &["81"]),
+        ("0200000000000000000003", &["82000000000000000100000000"]),
+        ("0200000000000000000005", &["82000000000000000200010000"]),
+        ("05", &["8700000000000000010000000000000005", "880001"]),
+        ("0200000000000000000006", &["82000000000000000300020000"]),
+        ("0200000000000000000005", &["82000000000000000400020001"]),
+        ("03", &["84000000000000000000000000000000010000"]),
+        ("03", &["84000000000000000100000000000000020000"]),
+        ("03", &["890000000000000002"]),
+        ("0200000000000000000009", &["830000000000000005000000000000000500000000"]),
+        ("03", &["890000000000000003"]),
+        ("03", &["84000000000000000400000000000000040000"]),
+        ("03", &["84000000000000000500000000000000030000"]),
+        ("03", &["890000000000000006"]),
+    ];
+
+    #[test]
+    fn closed_slots_are_collected() {
+        let collector = collected(&SMALL);
+        let Ended { collected, followed, .. } = &collector.ended[0];
+        assert_eq!((followed.clock, collected.closed, collected.idle), (7, 3, 0));
+        let closed: Vec<usize> = (0..7).filter(|&slot| collected.recent.slots[slot].is_closed).collect();
+        assert_eq!(closed, [2, 3, 6]);
+        let columns: Vec<u64> = collected.columns.columns.iter().map(|column| column.closed).collect();
+        assert_eq!(columns, [0, 0, 1, 1, 0, 0, 1]);
+        let chart = collected.charts.chosen(1)[0];
+        let placed: Vec<(u64, u64)> = chart.placed().map(|(slot, read)| (slot, read.number)).collect();
+        assert_eq!(placed, [(1, 1), (4, 2)]);
+    }
 
     #[test]
     fn document_01s_session_is_collected() {

@@ -20,9 +20,10 @@ pub fn outcome(session: &Ended) -> String {
     let reads = counted(counts.submitted, "read");
     let [served, dropped] = [counts.served, counts.dropped].map(grouped);
     let (slots, idle) = (counted(followed.clock, "slot"), grouped(collected.idle));
+    let closed = say::closed(collected.closed, followed);
     let waiting = grouped(followed.waiting.len() as u64);
     let refused = refused(collected.refused);
-    format!("{slots} passed, {idle} idle; {reads}: {served} served, {dropped} dropped, {waiting} waiting.{refused}")
+    format!("{slots} passed, {idle} idle{closed}; {reads}: {served} served, {dropped} dropped, {waiting} waiting.{refused}")
 }
 
 /// How many lines were refused, where some were, to stand behind another sentence.

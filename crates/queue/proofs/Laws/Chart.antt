@@ -5,8 +5,7 @@ use mathlib.Core.Bool.{Bool, true, false, cond}
 use mathlib.Core.List.{List, _++_}
 use mathlib.Core.Logic.{_≢_}
 use lib.Dec.{eqb}
-use lib.ListN.{length, take, drop, length-map}
-use lib.Seq.{take-at, drop-at, length-take-le}
+use lib.ListN.{length, take, drop}
 use Rattle.slots.proofs.Laws.Tests.{Same, same-yes, same-no, same}
 use Rattle.spec.specs.declared.types.Head.{Head}
 use Rattle.spec.specs.declared.types.Request.{Request}
@@ -44,50 +43,37 @@ module _ (head : Head) (ws : List Request) (xs : List ℕ) where
 
   module _ (output : List ℕ) (tables refusal n : ℕ) (found : tables ≡ tablesRefusal s)
       (refuses : refusal ≡ chartMatch tables head (length output))
-      (copied : n ≡ cond (eqb refusal 0) (head .waiting) 0) where
+      (counts : n ≡ cond (eqb refusal 0) (head .waiting) 0) where
     told : refusal ≡ firstMatch (chartRefusals output s)
     told = refuses ∙ chart-told s found output
 
-    -- how much is copied and written: all that wait, or nothing
+    -- how many are written: all that wait, or none
     pub within : (n ≤ length ws) × (n ≤ length output)
     within = (
-      unless-within refusal (head .waiting) n (length ws) copied (λ z. ready z .ready .shape .waits),
-      unless-within refusal (head .waiting) n (length output) copied (λ z. ready z .long),
+      unless-within refusal (head .waiting) n (length ws) counts (λ z. ready z .ready .shape .waits),
+      unless-within refusal (head .waiting) n (length output) counts (λ z. ready z .long),
     )
       where
         ready : refusal ≡ 0 → ChartReady output s
         ready z = chart-ready output s (sym told ∙ z)
 
-    module _ (out₁ out₂ : List ℕ) (first : out₁ ≡ deadlinesOf (take n ws) ++ drop n output)
-        (second : out₂ ≡ startSlots (head .setup) (take n out₁) ++ drop n out₁) where
-      abbrev front : List ℕ
-      front = deadlinesOf (take n ws)
+    untouched-output : refusal ≢ 0 → {l : List ℕ} → Written output s l → output ≡ l
+    untouched-output z (untouched h) = refl
+    untouched-output z (written e) = absurd (z (told ∙ e))
 
-      front-long : length front ≡ n
-      front-long = length-map (take n ws) (λ (w : Request). w .deadline) ∙ length-take-le n ws (within .0)
-
-      slots : out₂ ≡ startSlots (head .setup) front ++ drop n output
-      slots =
-          second
-          ∙ ap (λ (l : List ℕ). startSlots (head .setup) (take n l) ++ drop n l) first
-          ∙ rw (take-at front (drop n output) n front-long, drop-at front (drop n output) n front-long)
-
-      untouched-output : refusal ≢ 0 → {l : List ℕ} → Written output s l → output ≡ l
-      untouched-output z (untouched h) = refl
-      untouched-output z (written e) = absurd (z (told ∙ e))
-
-      pub output-charted : out₂ ≡ chartOutput output s
-      unfolding startSlots
-      output-charted = slots ∙ go (eqb refusal 0) (same refusal 0) copied
-        where
-          go : (b : Bool) → Same refusal 0 b → n ≡ cond b (head .waiting) 0
-              → startSlots (head .setup) front ++ drop n output ≡ chartOutput output s
-          go true (same-yes z) e =
-              subst (λ (m : ℕ). startSlots (head .setup) (deadlinesOf (take m ws)) ++ drop m output ≡ chartOutput output s) (sym e)
-              (charted output s (sym told ∙ z))
-          go false (same-no z) e =
-              subst (λ (m : ℕ). startSlots (head .setup) (deadlinesOf (take m ws)) ++ drop m output ≡ chartOutput output s) (sym e)
-              (untouched-output z (output-written output s))
+    pub output-charted : (out : List ℕ) → out ≡ startSlots (head .setup) (deadlinesOf (take n ws)) ++ drop n output
+        → out ≡ chartOutput output s
+    unfolding startSlots
+    output-charted out drawn = drawn ∙ go (eqb refusal 0) (same refusal 0) counts
+      where
+        go : (b : Bool) → Same refusal 0 b → n ≡ cond b (head .waiting) 0
+            → startSlots (head .setup) (deadlinesOf (take n ws)) ++ drop n output ≡ chartOutput output s
+        go true (same-yes z) e =
+            subst (λ (m : ℕ). startSlots (head .setup) (deadlinesOf (take m ws)) ++ drop m output ≡ chartOutput output s) (sym e)
+            (charted output s (sym told ∙ z))
+        go false (same-no z) e =
+            subst (λ (m : ℕ). startSlots (head .setup) (deadlinesOf (take m ws)) ++ drop m output ≡ chartOutput output s) (sym e)
+            (untouched-output z (output-written output s))
 
     pub chart-gives : (r : Reply) → r ≡ chartReply refusal head → Gives (chart output) s r (stateOf (r .head) ws xs)
     unfolding chartAccepted

@@ -41,11 +41,14 @@ module _ (head : Head) (ws : List Request) (xs : List ℕ) (client deadline : �
   pub waits : n ≤ length ws
   waits = ready .ready .shape .waits
 
-  pub few : n ≤ mostRecords
-  few = omega (arith, waits, ready .ready .shape .most-records)
+  pub few : n < mostRecords
+  few = omega (arith, waits, ready .free, ready .ready .shape .most-records)
 
   pub clock : head .clock ≤ clockEnd
   clock = ready .ready .sound .headed .clock
+
+  pub some-slots : 1 ≤ head .setup .hour
+  some-slots = ready .ready .sound .headed .setup .some-slots
 
   pub clients : head .setup .clients ≤ mostClients
   clients = ready .ready .sound .headed .setup .most-clients

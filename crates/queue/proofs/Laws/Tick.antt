@@ -17,8 +17,9 @@ use Rattle.spec.specs.Tables.{zeroRequest, zeroCounts, State, waiting, behind, 
 use Rattle.spec.specs.Tables.{numbersOf, change, oneMoreServed}
 use Rattle.spec.specs.Setup.{firstMatch}
 use Rattle.spec.specs.Order.{removeAt}
+use Rattle.spec.specs.Hours.{isOpen}
 use Rattle.spec.specs.Calls.Outcomes.{Outcome}
-use Rattle.spec.specs.Calls.Tick.{tickRefusals, restarted, countsAfter, oneLater, tickAccepted}
+use Rattle.spec.specs.Calls.Tick.{tickRefusals, restarted, countsAfter, oneLater, tickOpen, tickClosed, tickAccepted}
 use Rattle.spec.specs.Calls.{tick, outcomeOf}
 use Rattle.spec.proofs.Laws.Every.{length-mapFrom, getD-mapFrom}
 use Rattle.spec.proofs.Laws.Clients.{counts-path}
@@ -32,7 +33,8 @@ use Rattle.table.specs.declared.clients.Count.the-variants as count
 use Rattle.table.specs.Records.{removed, removedOut}
 use Rattle.table.proofs.ChangedCounts.{restartedAt, restarted-numbers, more-numbers}
 use Rattle.sound.specs.Checks.{tablesRefusal}
-use Rattle.decide.specs.Tick.{tickMatch, servedNumbers, slotNumbers, tickNumbers, headAfterTick, tickAnswer, tickReply}
+use Rattle.decide.specs.Tick.{tickMatch, waitingFor, servedNumbers, slotNumbers, tickNumbers, waitingAfter, headAfterTick}
+use Rattle.decide.specs.Tick.{tickAnswer, tickReply}
 use Rattle.queue.specs.Gives.{Reply, Gives}
 use Rattle.queue.proofs.Laws.Refusals.{tick-told}
 use Rattle.queue.proofs.Laws.Replies.{whole, bounded, next-fits, ReplyMatches, answers, unless-answers, given}
@@ -66,20 +68,20 @@ module _ (s : State) (r : TickReady s) (gone : Request) where
   abbrev clock : ℕ
   clock = s .head .clock
 
-  -- what is handed back, and the client table's numbers
-  abbrev accepted : Reply
-  accepted = record { head = headAfterTick (s .head); answer = tickAnswer (s .head) gone }
+  -- what is handed back, and the client table's numbers, by whether the slot is open
+  abbrev accepted : Bool → Reply
+  accepted serves = record { head = headAfterTick serves (s .head); answer = tickAnswer serves (s .head) gone }
 
-  abbrev numbers : List ℕ
-  numbers = slotNumbers (s .head) (servedNumbers (s .head) gone (s .clientNumbers))
+  abbrev numbers : Bool → List ℕ
+  numbers serves = slotNumbers (s .head) (servedNumbers serves (s .head) gone (s .clientNumbers))
 
   rises : saturatingNext largest64 clock ≡ suc clock
   rises = next-fits clock (omega (arith, r .ready .sound .headed .clock))
 
-  later-head : (ws : List Request) (cs : List Counts) → s .head .waiting - 1 ≡ length ws
-      → headAfterTick (s .head) ≡ oneLater ws cs s .head
+  later-head : (serves : Bool) (ws : List Request) (cs : List Counts) → waitingAfter serves (s .head) ≡ length ws
+      → headAfterTick serves (s .head) ≡ oneLater ws cs s .head
   unfolding nextState
-  later-head ws cs e = rw (rises, e)
+  later-head serves ws cs e = rw (rises, e)
 
   -- the numbers of a table that balances, one slot later
   later-numbers : (ws : List Request) (cs : List Counts) → Tidy clock (s .head .last) (s .head .setup .clients) ws cs
@@ -90,10 +92,9 @@ module _ (s : State) (r : TickReady s) (gone : Request) where
       ∙ ap numbersOf
       (rw rises (restarted-after (s .head .setup .period) (suc clock) (r .ready .sound .headed .setup .some-period) t))
 
-  idle-answers : waiting s ≡ [] → ReplyMatches (tickAccepted [] s) accepted numbers
-  unfolding tickAccepted
+  idle-answers : waiting s ≡ [] → ReplyMatches (tickOpen [] s) (accepted true) (numbers true)
   idle-answers e =
-      answers (rw none) (later-head [] (clientTable s) (omega (arith, no-one)))
+      answers (rw none) (later-head true [] (clientTable s) (omega (arith, no-one)))
       (rw none (ap (restartedNumbers (s .head .setup .period) (saturatingNext largest64 clock)) (whole s (r .ready .shape))
       ∙ later-numbers [] (clientTable s) (rw e at (tidy s (r .ready)))))
     where
@@ -104,10 +105,10 @@ module _ (s : State) (r : TickReady s) (gone : Request) where
       none = eq-eqb (s .head .waiting) 0 no-one
 
   served-answers : (w : Request) (ws : List Request) → waiting s ≡ w ∷ ws → gone ≡ w
-      → ReplyMatches (tickAccepted (w ∷ ws) s) accepted numbers
-  unfolding tickAccepted removeAt
+      → ReplyMatches (tickOpen (w ∷ ws) s) (accepted true) (numbers true)
+  unfolding removeAt
   served-answers w ws e same-one =
-      answers (rw (some, same-one)) (later-head ws cs (omega (arith, many)))
+      answers (rw (some, same-one)) (later-head true ws cs (omega (arith, many)))
       (rw (some, same-one) (ap (restartedNumbers (s .head .setup .period) (saturatingNext largest64 clock)) counted
       ∙ later-numbers ws cs
       (tidy-remove oneMoreServed ends 0 clock (s .head .last) (s .head .setup .clients) (w ∷ ws) (clientTable s) (omega arith) all)))
@@ -132,21 +133,34 @@ module _ (s : State) (r : TickReady s) (gone : Request) where
           ap (changedAt (oneMoreUnlessFull count.Served) (w .client)) (whole s (r .ready .shape))
           ∙ more-numbers count.Served (w .client) (clientTable s) (bounded all (w .client) (all .owned .0) .1)
 
-  accepted-answers : (ws : List Request) → waiting s ≡ ws → gone ≡ getD ws 0 gone → ReplyMatches (tickAccepted ws s) accepted numbers
-  accepted-answers [] e g = idle-answers e
-  accepted-answers (w ∷ ws) e g = served-answers w ws e g
+  open-answers : (ws : List Request) → waiting s ≡ ws → gone ≡ getD ws 0 gone
+      → ReplyMatches (tickOpen ws s) (accepted true) (numbers true)
+  open-answers [] e g = idle-answers e
+  open-answers (w ∷ ws) e g = served-answers w ws e g
+
+  closed-answers : ReplyMatches (tickClosed (waiting s) s) (accepted false) (numbers false)
+  closed-answers =
+      answers refl (later-head false (waiting s) (clientTable s) (sym (waiting-length s (r .ready .shape))))
+      (ap (restartedNumbers (s .head .setup .period) (saturatingNext largest64 clock)) (whole s (r .ready .shape))
+      ∙ later-numbers (waiting s) (clientTable s) (tidy s (r .ready)))
+
+  accepted-answers : (serves : Bool) → (serves ≡ true → gone ≡ getD (waiting s) 0 gone)
+      → ReplyMatches (cond serves (tickOpen (waiting s) s) (tickClosed (waiting s) s)) (accepted serves) (numbers serves)
+  accepted-answers true g = open-answers (waiting s) refl (g refl)
+  accepted-answers false g = closed-answers
 
 -- refused ones too
-tick-answers : (s : State) {gone : Request} {refusal : ℕ} {r : Reply} {xs : List ℕ}
+tick-answers : (s : State) {serves : Bool} {gone : Request} {refusal : ℕ} {r : Reply} {xs : List ℕ}
+    → serves ≡ isOpen (s .head .setup) (s .head .clock)
     → refusal ≡ firstMatch (tickRefusals s)
-    → (refusal ≡ 0 → gone ≡ getD (waiting s) 0 gone)
-    → r ≡ tickReply refusal (s .head) gone
-    → xs ≡ tickNumbers refusal (s .head) gone (s .clientNumbers)
+    → (refusal ≡ 0 → serves ≡ true → gone ≡ getD (waiting s) 0 gone)
+    → r ≡ tickReply refusal serves (s .head) gone
+    → xs ≡ tickNumbers refusal serves (s .head) gone (s .clientNumbers)
     → ReplyMatches (outcomeOf tick s) r xs
-unfolding outcomeOf
-tick-answers s {gone} found g a b =
+unfolding outcomeOf tickAccepted
+tick-answers s {serves} {gone} opens found g a b =
     unless-answers (tickRefusals s) s (tickAccepted (waiting s) s) found
-    (λ z. accepted-answers s (tick-ready s (sym found ∙ z)) gone (waiting s) refl (g z)) a b
+    (λ z. rw (← opens) (accepted-answers s (tick-ready s (sym found ∙ z)) gone serves (g z))) a b
 
 -- ---- the waiting table
 module _ (s : State) (w : Request) (ws : List Request) (first : waiting s ≡ w ∷ ws) (ready : Ready s) where
@@ -181,25 +195,36 @@ none-removed : (ys : List Request) → removed 0 0 ys ≡ ys
 unfolding removed
 none-removed ys = refl
 
--- of an accepted tick the first goes, where one waits
-accepted-table : (s : State) → Ready s → (ws : List Request) → waiting s ≡ ws
-    → removed (s .head .waiting) 0 (s .waitingTable) ≡ tickAccepted ws s .after .waitingTable
-unfolding tickAccepted nextState
-accepted-table s ready [] e =
+-- in an open slot the first goes, where one waits; in a closed one none does
+open-table : (s : State) → Ready s → (ws : List Request) → waiting s ≡ ws
+    → removed (s .head .waiting) 0 (s .waitingTable) ≡ tickOpen ws s .after .waitingTable
+unfolding nextState
+open-table s ready [] e =
     let none : s .head .waiting ≡ 0 = sym (waiting-length s (ready .shape)) ∙ ap length e in
     ap (λ (n : ℕ). removed n 0 (s .waitingTable)) none
     ∙ none-removed (s .waitingTable)
     ∙ table-held s ready
     ∙ ap (holding (length (s .waitingTable))) e
-accepted-table s ready (w ∷ ws) e = served-table s w ws e ready
+open-table s ready (w ∷ ws) e = served-table s w ws e ready
 
-tick-table : (s : State) (refusal : ℕ) → refusal ≡ firstMatch (tickRefusals s)
-    → removed (cond (eqb refusal 0) (s .head .waiting) 0) 0 (s .waitingTable) ≡ outcomeOf tick s .after .waitingTable
-tick-table s refusal found = rw found (go (outcome-decided tick s))
+accepted-table : (s : State) → Ready s → (serves : Bool)
+    → removed (waitingFor serves (s .head)) 0 (s .waitingTable)
+    ≡ cond serves (tickOpen (waiting s) s) (tickClosed (waiting s) s) .after .waitingTable
+unfolding nextState
+accepted-table s ready true = open-table s ready (waiting s) refl
+accepted-table s ready false = none-removed (s .waitingTable) ∙ table-held s ready
+
+tick-table : (s : State) {serves : Bool} (refusal : ℕ) → serves ≡ isOpen (s .head .setup) (s .head .clock)
+    → refusal ≡ firstMatch (tickRefusals s)
+    → removed (cond (eqb refusal 0) (waitingFor serves (s .head)) 0) 0 (s .waitingTable) ≡ outcomeOf tick s .after .waitingTable
+unfolding tickAccepted
+tick-table s {serves} refusal opens found = rw found (go (outcome-decided tick s))
   where
     go : {o : Outcome} → Decided (tickRefusals s) s (tickAccepted (waiting s) s) o
-        → removed (cond (eqb (firstMatch (tickRefusals s)) 0) (s .head .waiting) 0) 0 (s .waitingTable) ≡ o .after .waitingTable
-    go (accepts e) = rw (eq-eqb (firstMatch (tickRefusals s)) 0 e) (accepted-table s (tick-ready s e .ready) (waiting s) refl)
+        → removed (cond (eqb (firstMatch (tickRefusals s)) 0) (waitingFor serves (s .head)) 0) 0 (s .waitingTable)
+        ≡ o .after .waitingTable
+    go (accepts e) =
+        rw (eq-eqb (firstMatch (tickRefusals s)) 0 e, ← opens) (accepted-table s (tick-ready s e .ready) serves)
     go (refuses n) = rw (ne-eqb (firstMatch (tickRefusals s)) 0 n) (none-removed (s .waitingTable))
 
 first-gone : (s : State) → Ready s → (ws : List Request) → waiting s ≡ ws → (gone : Request)
@@ -208,21 +233,22 @@ first-gone s ready [] e gone g = refl
 first-gone s ready (w ∷ ws) e gone g = g ∙ served-gone s w ws e ready
 
 -- ---- together
-pub ticked : (head : Head) (ws : List Request) (xs : List ℕ) (tables refusal n : ℕ) (gone : Request) (ws′ : List Request) (r : Reply)
-    (xs′ : List ℕ)
+pub ticked : (head : Head) (ws : List Request) (xs : List ℕ) (tables refusal : ℕ) (serves : Bool) (n : ℕ) (gone : Request)
+    (ws′ : List Request) (r : Reply) (xs′ : List ℕ)
     → tables ≡ tablesRefusal (stateOf head ws xs)
     → refusal ≡ tickMatch tables head
-    → n ≡ cond (eqb refusal 0) (head .waiting) 0
+    → serves ≡ isOpen (head .setup) (head .clock)
+    → n ≡ cond (eqb refusal 0) (waitingFor serves head) 0
     → (gone ≡ removedOut n 0 ws) × (ws′ ≡ removed n 0 ws)
-    → xs′ ≡ tickNumbers refusal head gone xs
-    → r ≡ tickReply refusal head gone
+    → xs′ ≡ tickNumbers refusal serves head gone xs
+    → r ≡ tickReply refusal serves head gone
     → Gives tick (stateOf head ws xs) r (stateOf (r .head) ws′ xs′)
-ticked head ws xs tables refusal n gone ws′ r xs′ found refused counts moved a b =
-    given tick s (moved .1 ∙ ap (λ (k : ℕ). removed k 0 ws) counts ∙ tick-table s refusal told)
-    (tick-answers s told
-    (λ z.
+ticked head ws xs tables refusal serves n gone ws′ r xs′ found refused opens counts moved a b =
+    given tick s (moved .1 ∙ ap (λ (k : ℕ). removed k 0 ws) counts ∙ tick-table s refusal opens told)
+    (tick-answers s opens told
+    (λ z o.
     first-gone s (tick-ready s (sym told ∙ z) .ready) (waiting s) refl gone
-    (moved .0 ∙ ap (λ (k : ℕ). removedOut k 0 ws) (counts ∙ rw (eq-eqb refusal 0 z))))
+    (moved .0 ∙ ap (λ (k : ℕ). removedOut k 0 ws) (counts ∙ rw (eq-eqb refusal 0 z, o))))
     b a)
   where
     s : State

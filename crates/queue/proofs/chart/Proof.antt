@@ -1,4 +1,4 @@
--- `queue::chart` meets its contract: a walk of six calls. The deadlines are copied into the output, which then takes their start slots.
+-- `queue::chart` meets its contract: a walk of five calls.
 -- Assumes nothing.
 use Rattle.walk.proofs.Prelude.{ℕ, _≤_, refl, sym, _∙_, subst, List, [], _∷_, length, URA, w64, SProp, Memory, Routine, Heap, Tables, Atoms, Fun, tables, Given, _$_, !, of-opd, and-then, no-more, first, u32, u64, tripleOf, id⊢}
 use Rattle.walk.proofs.Prelude.{drop, number, lent, shown, so, Shape, Walk, proved, var, vars, field-var, sets, relends, gives, mut-of, passed-on, made, fit, of-number, of-nothing, taken, given, calls-for}
@@ -10,7 +10,6 @@ use Rattle.queue.proofs.Laws.Chart.{within, chart-gives, output-charted
 use Rattle.sound.proofs.check.tables_refusal as tables-refusal
 use Rattle.decide.proofs.chart.refusal as chart-refusal
 use Rattle.decide.proofs.reply.unless_refused as unless-refused
-use Rattle.occupancy.proofs.starts.deadlines as deadlines
 use Rattle.occupancy.proofs.starts.write_starts as write-starts
 use Rattle.decide.proofs.chart.reply as chart-reply
 use Rattle.queue.proofs.chart as f
@@ -27,14 +26,13 @@ module _ {M : Type 1} (𝓤 : URA M) (H : Heap 𝓤) (A : Atoms 𝓤) (W : Given
         (tables-refusal.Symbol.name, tripleOf 𝓤 H A tables-refusal.signature (tables-refusal.spec 𝓤 H A mem run))
         ∷ (chart-refusal.Symbol.name, tripleOf 𝓤 H A chart-refusal.signature (chart-refusal.spec 𝓤 H A mem run))
         ∷ (unless-refused.Symbol.name, tripleOf 𝓤 H A unless-refused.signature (unless-refused.spec 𝓤 H A mem run))
-        ∷ (deadlines.Symbol.name, tripleOf 𝓤 H A deadlines.signature (deadlines.spec 𝓤 H A mem run))
         ∷ (write-starts.Symbol.name, tripleOf 𝓤 H A write-starts.signature (write-starts.spec 𝓤 H A mem run))
         ∷ (chart-reply.Symbol.name, tripleOf 𝓤 H A chart-reply.signature (chart-reply.spec 𝓤 H A mem run))
         ∷ [];
   }
 
   walk : (𝓣 : Tables 𝓤 H) → Walk shape 𝓣
-  walk 𝓣 known-tables-refusal known-chart-refusal known-unless-refused known-deadlines known-write-starts known-chart-reply κs qs head head-is s₀ s₁ s₂ g Q leaves bs =
+  walk 𝓣 known-tables-refusal known-chart-refusal known-unless-refused known-write-starts known-chart-reply κs qs head head-is s₀ s₁ s₂ g Q leaves bs =
       let ws : List Request = s₀ .list in
       let xs : List ℕ = s₁ .list in
       let output : List ℕ = s₂ .list in
@@ -45,18 +43,14 @@ module _ {M : Type 1} (𝓤 : URA M) (H : Heap 𝓤) (A : Atoms 𝓤) (W : Given
       -- let refusal = decide::chart::refusal(tables, head, output.len());
       calls-for ! 𝓣 [] (number W tables (tables-is .1) ∷ the-head W head head-is ∷ number W (length output) (s₂ .room .0) ∷ []) (of-number w64) (λ c. known-chart-refusal) (λ c h. h) (id⊢ 𝓤 _) refl (λ c. vars ! (refl, (refl, (refl, tt)))) (λ _. refl) (λ refusal last₂ refuses kept₂ refusal-is.
       -- let n = unless_refused(refusal, head.waiting);
-      calls-for ! 𝓣 [] (number W refusal (refusal-is .1) ∷ number W (head .waiting) (waiting-fits head head-is) ∷ []) (of-number w64) (λ c. known-unless-refused) (λ c h. h) (id⊢ 𝓤 _) refl (λ c. and-then ! (var ! refl) (and-then ! (field-var ! refl refl refl) (no-more !))) (λ _. refl) (λ n last₃ copied kept₃ n-is.
+      calls-for ! 𝓣 [] (number W refusal (refusal-is .1) ∷ number W (head .waiting) (waiting-fits head head-is) ∷ []) (of-number w64) (λ c. known-unless-refused) (λ c h. h) (id⊢ 𝓤 _) refl (λ c. and-then ! (var ! refl) (and-then ! (field-var ! refl refl refl) (no-more !))) (λ _. refl) (λ n last₃ counts kept₃ n-is.
       relends ! s₂ refl $
-      -- starts::deadlines(waiting, output, n);
-      calls-for ! 𝓣 (0 ∷ 2 ∷ []) (passed-on W s₀ ∷ mut-of W s₂ output refl ∷ number W n (n-is .1) ∷ []) of-nothing (λ c. known-deadlines) (λ c h. h) (so 𝓤 (within head ws xs output tables refusal n found refuses copied)) refl (λ c. vars ! (refl, (refl, (refl, tt)))) (λ _. refl) (λ u last₄ first kept₄ _.
-      let out₁ : List ℕ = last₄ .1 .0 in
-      relends ! s₂ refl $
-      -- starts::write_starts(head.setup, output, n);
-      calls-for ! 𝓣 (2 ∷ []) (given W a-setup (head .setup) (setup-is head head-is) ∷ mut-of W s₂ (last₄ .1 .0) (kept₄ .1 .0) ∷ number W n (n-is .1) ∷ []) of-nothing (λ c. known-write-starts) (λ c h. h) (so 𝓤 (subst (λ (m : ℕ). n ≤ m) (sym (kept₄ .1 .0)) (within head ws xs output tables refusal n found refuses copied .1))) refl (λ c. and-then ! (field-var ! refl refl refl) (vars ! (refl, (refl, tt)))) (λ _. refl) (λ u last₅ second kept₅ _.
-      let out₂ : List ℕ = last₅ .1 .0 in
+      -- starts::write_starts(head.setup, waiting, output, n);
+      calls-for ! 𝓣 (0 ∷ 2 ∷ []) (given W a-setup (head .setup) (setup-is head head-is) ∷ passed-on W s₀ ∷ mut-of W s₂ output refl ∷ number W n (n-is .1) ∷ []) of-nothing (λ c. known-write-starts) (λ c h. h) (so 𝓤 (within head ws xs output tables refusal n found refuses counts)) refl (λ c. and-then ! (field-var ! refl refl refl) (vars ! (refl, (refl, (refl, tt))))) (λ _. refl) (λ u last₄ drawn kept₄ _.
+      let out : List ℕ = last₄ .1 .1 .0 in
       -- decide::chart::reply(head, refusal)
-      calls-for ! 𝓣 [] (the-head W head head-is ∷ number W refusal (refusal-is .1) ∷ []) a-reply (λ c. known-chart-reply) (λ c h. h) (id⊢ 𝓤 _) refl (λ c. vars ! (refl, (refl, tt))) (λ _. refl) (λ r last₆ told kept₆ r-is.
-      gives ! refl refl $ leaves (a-reply .val r) r (last₅ .1 .0, tt) ((kept₅ .0) ∙ (kept₄ .1 .0), tt) (made W a-reply r r-is) (so 𝓤 (chart-gives head ws xs output tables refusal n found refuses copied r told, output-charted head ws xs output tables refusal n found refuses copied out₁ out₂ first second))))))))
+      calls-for ! 𝓣 [] (the-head W head head-is ∷ number W refusal (refusal-is .1) ∷ []) a-reply (λ c. known-chart-reply) (λ c h. h) (id⊢ 𝓤 _) refl (λ c. vars ! (refl, (refl, tt))) (λ _. refl) (λ r last₅ told kept₅ r-is.
+      gives ! refl refl $ leaves (a-reply .val r) r (last₄ .1 .1 .0, tt) (kept₄ .1 .0, tt) (made W a-reply r r-is) (so 𝓤 (chart-gives head ws xs output tables refusal n found refuses counts r told, output-charted head ws xs output tables refusal n found refuses counts out drawn)))))))
 
 pub chart-spec : {M : Type 1} → f.Statement.statement M
 unfolding f.Code.routine
@@ -68,11 +62,8 @@ chart-spec 𝓤 H 𝓜 𝓖 𝓡 =
         (
           (unless-refused.Symbol.routine, f.Code.calls-decide·reply·unless-refused, unless-refused.Met.met 𝓤 H 𝓜 𝓖 𝓡),
           (
-            (deadlines.Symbol.routine, f.Code.calls-occupancy·starts·deadlines, deadlines.Met.met 𝓤 H 𝓜 𝓖 𝓡),
-            (
-              (write-starts.Symbol.routine, f.Code.calls-occupancy·starts·write-starts, write-starts.Met.met 𝓤 H 𝓜 𝓖 𝓡),
-              ((chart-reply.Symbol.routine, f.Code.calls-decide·chart·reply, chart-reply.Met.met 𝓤 H 𝓜 𝓖 𝓡), tt),
-            ),
+            (write-starts.Symbol.routine, f.Code.calls-occupancy·starts·write-starts, write-starts.Met.met 𝓤 H 𝓜 𝓖 𝓡),
+            ((chart-reply.Symbol.routine, f.Code.calls-decide·chart·reply, chart-reply.Met.met 𝓤 H 𝓜 𝓖 𝓡), tt),
           ),
         ),
       ),

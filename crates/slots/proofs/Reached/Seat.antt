@@ -61,7 +61,7 @@ module _ (heads : ℕ → ℕ) where
     abbrev pub Roomy : ℕ → ℕ → List Entry → Type 0
     Roomy n lo ws = (x : ℕ) → lo ≤ x → n + upto x ws + opens heads t ≤ opens heads x
 
-    roomy-next : (n lo : ℕ) (w : Entry) (ws : List Entry) → Sorted lo (w ∷ ws) → Roomy n lo (w ∷ ws)
+    pub roomy-next : (n lo : ℕ) (w : Entry) (ws : List Entry) → Sorted lo (w ∷ ws) → Roomy n lo (w ∷ ws)
         → Roomy (suc n) (w .deadline) ws
     unfolding total
     roomy-next n lo w ws s f x h = omega (arith, s .0, f x (omega (arith, s .0)), due-yes x w h)
@@ -73,12 +73,12 @@ module _ (heads : ℕ → ℕ) where
         omega (arith, f D h, ends-low (suc n) (w .deadline) (w .deadline) ws (s .1) (omega arith) (roomy-next n lo w ws s f))
 
     -- ---- the place of the first
-    record Seat (n D E x s : ℕ) : Type 0 where
-      some : suc n + opens heads t ≤ E
-      mark : suc x ≡ E
-      spot : SeatOf D x s
+    pub record Seat (n D E x s : ℕ) : Type 0 where
+      pub some : suc n + opens heads t ≤ E
+      pub mark : suc x ≡ E
+      pub spot : SeatOf D x s
 
-    seat : (n lo : ℕ) (w : Entry) (ws : List Entry) → Sorted lo (w ∷ ws) → Roomy n lo (w ∷ ws)
+    pub seat : (n lo : ℕ) (w : Entry) (ws : List Entry) → Sorted lo (w ∷ ws) → Roomy n lo (w ∷ ws)
         → Seat n (w .deadline) (ends heads (w .deadline) ws) (place heads w ws) (slotOf heads (w .deadline) (place heads w ws))
     seat n lo w ws s f =
         record {

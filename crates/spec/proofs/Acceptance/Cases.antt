@@ -6,14 +6,14 @@ use mathlib.Core.List.{List, [], _∷_, map, reverse}
 use lib.ListN.{replicate}
 use Rattle.spec.specs.declared.types.Counts.{Counts}
 use Rattle.spec.specs.declared.types.Answer.{Answer}
-use Rattle.spec.specs.declared.types.Answer.the-variants.{Kept, Dropped, Served, Idle, Refused}
+use Rattle.spec.specs.declared.types.Answer.the-variants.{Kept, Dropped, Served, Idle, Reported, Closed, Refused}
 use Rattle.spec.specs.Every.{gather}
 use Rattle.spec.specs.Tables.{clockEnd, mostPeriod, State, waiting, holding, zeroRequest, zeroCounts, openHead}
 use Rattle.spec.specs.Tables.{clientTable, numbersOf}
 use Rattle.spec.specs.Chart.{Segment, startsOf, segmentsOf}
-use Rattle.spec.specs.Calls.{Call, submit, tick, outcomeOf, opening}
+use Rattle.spec.specs.Calls.{Call, submit, tick, report, outcomeOf, opening}
 use Rattle.spec.specs.Lists.{run, history, Event}
-use Rattle.spec.proofs.Acceptance.Computed.{setting, calls}
+use Rattle.spec.proofs.Acceptance.Computed.{hourly, setting, calls}
 
 -- a state to begin with, calls from the first to the last, and what they come to: the answers, or the start slots and the segments
 -- of those that wait then
@@ -29,6 +29,22 @@ fresh clients records =
       waitingTable = replicate records zeroRequest;
       clientNumbers = numbersOf (replicate clients zeroCounts);
     }) .after
+
+-- the same with hours of so many slots, of which these are open, a client and eight records
+abbrev freshHours : ℕ → ℕ → List ℕ → State
+freshHours period hour marks =
+    outcomeOf (opening (hourly 1 period hour marks)) (record {
+      head = openHead (setting 0 0);
+      waitingTable = replicate 8 zeroRequest;
+      clientNumbers = numbersOf (zeroCounts ∷ []);
+    }) .after
+
+-- hours 0 and 2 of the week are open; hour 0 alone
+abbrev twoOpen : List ℕ
+twoOpen = 0xA000000000000000 ∷ 0 ∷ 0 ∷ 0 ∷ []
+
+abbrev oneOpen : List ℕ
+oneOpen = 0x8000000000000000 ∷ 0 ∷ 0 ∷ 0 ∷ []
 
 abbrev counts : ℕ → ℕ → ℕ → Counts
 counts submitted served dropped = record { submitted = submitted; served = served; dropped = dropped }
@@ -89,6 +105,21 @@ cases =
     (Kept 1 0 0 ∷ Dropped 2 2 1 0 ∷ Kept 3 1 0 ∷ Kept 4 2 0 ∷ Dropped 5 3 0 1 ∷ Dropped 6 6 1 2 ∷ [])
     -- the last free record of a table, put in before all others: no shift is larger
     ∷ answering (fresh 1 3) (submit 0 3 ∷ submit 0 2 ∷ submit 0 1 ∷ submit 0 1 ∷ []) (Kept 1 0 0 ∷ Kept 2 0 1 ∷ Kept 3 0 2 ∷ Refused 10 ∷ [])
+    -- document 02, 2.2: "the chart uses the latest open slots .. and two of them touch if no open slot lies between": slots 0, 1, 4 and 5
+    -- are open
+    ∷ drawing (freshHours 100 2 twoOpen) (submit 0 3 ∷ submit 0 5 ∷ []) (1 ∷ 4 ∷ []) (segment 1 5 ∷ [])
+    ∷ drawing (freshHours 100 2 twoOpen) (submit 0 1 ∷ submit 0 9 ∷ []) (0 ∷ 5 ∷ []) (segment 0 1 ∷ segment 5 6 ∷ [])
+    -- document 02, 2.2: "A closed slot serves nobody and tick answers 89 with the slot", with reads waiting and with none; a period starts
+    -- all the same
+    ∷ answering (freshHours 2 1 twoOpen) (submit 0 1 ∷ submit 0 3 ∷ tick ∷ report 0 ∷ tick ∷ report 0 ∷ tick ∷ tick ∷ [])
+    (Kept 1 0 0 ∷ Kept 2 1 0 ∷ Served 0 1 0 ∷ Reported 0 2 1 0 1 ∷ Closed 1 ∷ Reported 0 1 0 0 1 ∷ Served 2 2 0 ∷ Closed 3 ∷ [])
+    -- document 02, 2.2: "no open slot from the clock to the deadline": at clock 3 none before slot 4; three reads by 9 have two slots
+    ∷ answering (freshHours 100 2 twoOpen)
+    (submit 0 6 ∷ submit 0 6 ∷ tick ∷ tick ∷ tick ∷ submit 0 4 ∷ submit 0 9 ∷ submit 0 9 ∷ submit 0 9 ∷ [])
+    (Kept 1 0 0 ∷ Kept 2 1 0 ∷ Served 0 1 0 ∷ Served 1 2 0 ∷ Closed 2 ∷ Refused 15 ∷ Kept 3 0 0 ∷ Kept 4 1 0 ∷ Dropped 5 5 0 0 ∷ [])
+    -- document 02, 2.2: "the marks repeating after hour 167": slots 0 and 168 are open
+    ∷ answering (freshHours 100 1 oneOpen) (submit 0 169 ∷ submit 0 169 ∷ submit 0 169 ∷ [])
+    (Kept 1 0 0 ∷ Kept 2 1 0 ∷ Dropped 3 3 0 0 ∷ [])
     ∷ []
 
 -- a case with what the definitions give

@@ -1,12 +1,13 @@
 -- The definitions to be computed, chapter by chapter: `unfolding calls` opens all that the calls need. And setups. Assumes nothing.
 use Prim.Native.Nat.{ℕ}
-use mathlib.Core.List.{[], _∷_}
+use mathlib.Core.List.{List, [], _∷_}
 use Rattle.spec.specs.declared.types.Setup.{Setup}
 use Rattle.spec.specs.Every.{every, everyFrom, countIf, mapFrom}
 use Rattle.spec.specs.Tables.{setupOf, recordsOf, numbersOf, nextState, change}
 use Rattle.spec.specs.Setup.{firstMatch, setupRefusals}
 use Rattle.spec.specs.Order.{comesBefore, isInOrder, placeOf, putInOrder, removeAt}
-use Rattle.spec.specs.Chart.{room, startsOf, segmentsOf, dueBy, isOverfull, hasNoOverfull, isCandidate, candidatesFrom}
+use Rattle.spec.specs.Chart.{latestFree, startsOf, segmentsOf, dueBy, isOverfull, hasNoOverfull, isCandidate, candidatesFrom}
+use Rattle.spec.specs.Hours.{markOf, capacityOf, sumFrom, room}
 use Rattle.spec.specs.Chart.{hasSmallerRatio, smallestOf, victimOf}
 use Rattle.spec.specs.Sound.{isHeadWithin, isZeroRequest, waitingOf, isBalanced, isSound}
 use Rattle.spec.specs.Calls.Open.{openRefusals, openAccepted}
@@ -16,12 +17,19 @@ use Rattle.spec.specs.Calls.Report.{reportRefusals, reportAccepted}
 use Rattle.spec.specs.Calls.Chart.{chartRefusals, chartAccepted}
 use Rattle.spec.specs.Calls.{outcomeOf}
 
--- what open sets: clients and period
+-- what open sets: clients, period, slots per hour, and the marks as four numbers
+abbrev pub hourly : ℕ → ℕ → ℕ → List ℕ → Setup
+hourly clients period hour marks = setupOf (clients ∷ period ∷ hour ∷ marks)
+
+-- document 02, 2.2: "In document 01's cases and session all hours are open"
+abbrev pub allOpen : List ℕ
+allOpen = 18446744073709551615 ∷ 18446744073709551615 ∷ 4294967295 ∷ 255 ∷ []
+
 abbrev pub setting : ℕ → ℕ → Setup
-setting clients period = setupOf (clients ∷ period ∷ [])
+setting clients period = hourly clients period 1 allOpen
 
 unfoldable pub charts : Unit {0}
-unfolding room every countIf startsOf segmentsOf dueBy isOverfull hasNoOverfull
+unfolding markOf capacityOf sumFrom room every countIf latestFree startsOf segmentsOf dueBy isOverfull hasNoOverfull
 charts = tt
 
 unfoldable pub victims : Unit {0}

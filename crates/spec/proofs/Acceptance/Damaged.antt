@@ -16,10 +16,11 @@ use Rattle.spec.specs.Tables.{clientTable, numbersOf, clientWidth}
 use Rattle.spec.specs.Setup.{firstMatch, setupRefusals}
 use Rattle.spec.specs.Order.{isInOrder}
 use Rattle.spec.specs.Chart.{hasNoOverfull}
+use Rattle.spec.specs.Hours.{markOf, sumFrom}
 use Rattle.spec.specs.Sound.{isHeadWithin, isAhead, isGiven, isClient, isZeroRequest, isBalanced, isSound}
 use Rattle.spec.specs.Calls.Refusals.{refusal4}
 use Rattle.spec.specs.Calls.Tick.{tickRefusals}
-use Rattle.spec.proofs.Acceptance.Computed.{setting, refusals}
+use Rattle.spec.proofs.Acceptance.Computed.{hourly, allOpen, setting, refusals}
 
 -- ---- clauses
 -- the three of refusal 4, and the eight of "Tables are sound when", each named for what it speaks of
@@ -218,6 +219,10 @@ within h = record { head = h; isWithinBounds = true }
 abbrev beyond : Head → HeadRow
 beyond h = record { head = h; isWithinBounds = false }
 
+-- one with these slots per hour and marks
+abbrev hourHead : ℕ → List ℕ → Head
+hourHead hour marks = record { setup = hourly 1 10 hour marks; clock = 5; last = 4; waiting = 0 }
+
 abbrev heads : List HeadRow
 heads =
     -- "Clients: 1 to 256"
@@ -230,6 +235,16 @@ heads =
     ∷ within (head 1 1 5 4 0)
     ∷ within (head 1 4294967295 5 4 0)
     ∷ beyond (head 1 4294967296 5 4 0)
+    -- document 02, 2.2: "slots per hour outside 1 to 360,000", and "all hours closed": the first hour's mark or the last one's is enough
+    ∷ beyond (hourHead 0 allOpen)
+    ∷ within (hourHead 1 allOpen)
+    ∷ within (hourHead 360000 allOpen)
+    ∷ beyond (hourHead 360001 allOpen)
+    ∷ beyond (hourHead 1 (0 ∷ 0 ∷ 0 ∷ 0 ∷ []))
+    ∷ within (hourHead 1 (9223372036854775808 ∷ 0 ∷ 0 ∷ 0 ∷ []))
+    ∷ within (hourHead 1 (0 ∷ 1 ∷ 0 ∷ 0 ∷ []))
+    ∷ within (hourHead 1 (0 ∷ 0 ∷ 1 ∷ 0 ∷ []))
+    ∷ within (hourHead 1 (0 ∷ 0 ∷ 0 ∷ 1 ∷ []))
     -- "Clock and request numbers end at 281,474,976,710,655."
     ∷ within (head 1 10 281474976710655 4 0)
     ∷ beyond (head 1 10 281474976710656 4 0)
@@ -238,5 +253,5 @@ heads =
     ∷ []
 
 pub heads-within : map (λ (r : HeadRow). isHeadWithin (r .head)) heads ≡ map (λ (r : HeadRow). r .isWithinBounds) heads
-unfolding isHeadWithin firstMatch setupRefusals
+unfolding isHeadWithin firstMatch setupRefusals markOf sumFrom
 heads-within = refl

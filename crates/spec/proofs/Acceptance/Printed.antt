@@ -8,7 +8,7 @@ use Rattle.spec.specs.declared.types.Setup.{Setup}
 use Rattle.spec.specs.declared.types.Answer.{Answer}
 use Rattle.spec.specs.declared.types.Answer.the-variants.{Kept, Dropped, Served, Reported, Charted, Refused}
 use Rattle.spec.specs.Every.{exists, select}
-use Rattle.spec.specs.Calls.Readings.{field}
+use Rattle.spec.specs.Calls.Readings.{Field, field}
 use Rattle.spec.specs.Calls.Chart.{chartOutput}
 use Rattle.spec.specs.Calls.{Call, opening, submit, tick, report, chart}
 use Rattle.spec.specs.Lists.{Event, isOpened, ticks, Asked, asked, bookings, victims, servedRequests, waitingRequests}
@@ -19,13 +19,18 @@ use Rattle.spec.specs.Lines.Printed.{answerWith, answersIn, eventsFrom, 
 use Rattle.spec.proofs.Acceptance.Computed.{setting, calls}
 
 -- ---- the input
+-- one slot an hour, every hour open
+abbrev hoursOpen : List Field
+hoursOpen =
+    field 4 1 ∷ field 8 18446744073709551615 ∷ field 8 18446744073709551615 ∷ field 4 4294967295 ∷ field 1 255 ∷ []
+
 abbrev openLine : ℕ → ℕ → ℕ → List ℕ
-openLine clients period records = lineOf 0x01 (field 2 clients ∷ field 4 period ∷ field 2 records ∷ [])
+openLine clients period records = lineOf 0x01 (field 2 clients ∷ field 4 period ∷ field 2 records ∷ hoursOpen)
 
 abbrev submitLine : ℕ → ℕ → List ℕ
 submitLine client deadline = lineOf 0x02 (field 2 client ∷ field 8 deadline ∷ [])
 
--- a session of its own first; the line 010002000000640801 and one of kind 7F between two submits; "a last line without its line feed"
+-- a session of its own first; an open that names 2,049 records and one of kind 7F between two submits; "a last line without its line feed"
 abbrev input : List ℕ
 input =
     openLine 1 7 2

@@ -15,7 +15,7 @@ use Rattle.spec.specs.Tables.{mostCounted, clockEnd, numberEnd, State, h
 use Rattle.spec.specs.Setup.{Refusal}
 use Rattle.spec.specs.Calls.Readings.{isRefused}
 use Rattle.spec.specs.Calls.{Call, opening, submit, tick, report, chart, outcomeOf, refusalsOf}
-use Rattle.spec.proofs.Acceptance.Computed.{setting, calls}
+use Rattle.spec.proofs.Acceptance.Computed.{hourly, setting, calls}
 
 -- a call on a state, the numbers of its refusals whose conditions hold, and the answer
 pub record Row : Type 0 where
@@ -34,11 +34,15 @@ counts submitted served dropped = record { submitted = submitted; served = serve
 abbrev full : List Request
 full = record { deadline = 281474976710660; number = 1; client = 0 } ∷ []
 
+-- one slot an hour, and of the hours that one closed in which the clock's end lies
+abbrev lastClosed : List ℕ
+lastClosed = 18446744073709551614 ∷ 18446744073709551615 ∷ 4294967295 ∷ 255 ∷ []
+
 -- one client: clock, last number, waiting count, and the two tables
 abbrev state : ℕ → ℕ → ℕ → List Request → List Counts → State
 state clock last waits rs cs =
     record {
-      head = record { setup = setting 1 10; clock = clock; last = last; waiting = waits };
+      head = record { setup = hourly 1 10 1 lastClosed; clock = clock; last = last; waiting = waits };
       waitingTable = rs;
       clientNumbers = numbersOf cs;
     }
@@ -47,20 +51,27 @@ state clock last waits rs cs =
 abbrev oneClient : ℕ → ℕ → ℕ → List Counts
 oneClient submitted served dropped = counts submitted served dropped ∷ []
 
+-- every hour closed
+abbrev allClosed : List ℕ
+allClosed = 0 ∷ 0 ∷ 0 ∷ 0 ∷ []
+
 abbrev rows : List Row
 rows =
-    row (opening (setting 0 0)) (state 0 0 0 [] (oneClient 0 0 0)) (2 ∷ 3 ∷ 4 ∷ []) (Refused 2)
-    ∷ row (opening (setting 1 0)) (state 0 0 0 [] (oneClient 0 0 0)) (3 ∷ 4 ∷ []) (Refused 3)
+    row (opening (hourly 0 0 0 allClosed)) (state 0 0 0 [] (oneClient 0 0 0)) (2 ∷ 3 ∷ 13 ∷ 14 ∷ 4 ∷ []) (Refused 2)
+    ∷ row (opening (hourly 1 0 0 allClosed)) (state 0 0 0 [] (oneClient 0 0 0)) (3 ∷ 13 ∷ 14 ∷ 4 ∷ []) (Refused 3)
+    ∷ row (opening (hourly 1 10 0 allClosed)) (state 0 0 0 [] (oneClient 0 0 0)) (13 ∷ 14 ∷ 4 ∷ []) (Refused 13)
+    ∷ row (opening (hourly 1 10 1 allClosed)) (state 0 0 0 [] (oneClient 0 0 0)) (14 ∷ 4 ∷ []) (Refused 14)
     ∷ row (opening (setting 1 10)) (state 0 0 0 [] (oneClient 0 0 0)) (4 ∷ []) (Refused 4)
     ∷ row (opening (setting 1 10)) (state 0 0 0 full (oneClient 0 0 0)) [] Opened
     -- 8 holds beside 6 only where the client table is too long, for else a client that does not exist has no record; 10 holds beside 4
     -- only where the waiting count is not too large. So 4 is given in two rows; 10 comes back when 4 is taken away, and 8 when 6 is
-    ∷ row (submit 9 0) (state clockEnd numberEnd 1 full (replicate 10 (counts mostCounted 0 0))) (4 ∷ 5 ∷ 6 ∷ 7 ∷ 8 ∷ 9 ∷ 10 ∷ [])
+    ∷ row (submit 9 0) (state clockEnd numberEnd 1 full (replicate 10 (counts mostCounted 0 0))) (4 ∷ 5 ∷ 6 ∷ 7 ∷ 15 ∷ 8 ∷ 9 ∷ 10 ∷ [])
     (Refused 4)
-    ∷ row (submit 9 0) (state clockEnd numberEnd 2 full (oneClient mostCounted 0 0)) (4 ∷ 5 ∷ 6 ∷ 7 ∷ 9 ∷ []) (Refused 4)
-    ∷ row (submit 9 0) (state clockEnd numberEnd 1 full (oneClient mostCounted 0 0)) (5 ∷ 6 ∷ 7 ∷ 9 ∷ 10 ∷ []) (Refused 5)
-    ∷ row (submit 9 0) (state clockEnd numberEnd 1 full (oneClient mostCounted 268435454 0)) (6 ∷ 7 ∷ 9 ∷ 10 ∷ []) (Refused 6)
-    ∷ row (submit 0 0) (state clockEnd numberEnd 1 full (oneClient mostCounted 268435454 0)) (7 ∷ 8 ∷ 9 ∷ 10 ∷ []) (Refused 7)
+    ∷ row (submit 9 0) (state clockEnd numberEnd 2 full (oneClient mostCounted 0 0)) (4 ∷ 5 ∷ 6 ∷ 7 ∷ 15 ∷ 9 ∷ []) (Refused 4)
+    ∷ row (submit 9 0) (state clockEnd numberEnd 1 full (oneClient mostCounted 0 0)) (5 ∷ 6 ∷ 7 ∷ 15 ∷ 9 ∷ 10 ∷ []) (Refused 5)
+    ∷ row (submit 9 0) (state clockEnd numberEnd 1 full (oneClient mostCounted 268435454 0)) (6 ∷ 7 ∷ 15 ∷ 9 ∷ 10 ∷ []) (Refused 6)
+    ∷ row (submit 0 0) (state clockEnd numberEnd 1 full (oneClient mostCounted 268435454 0)) (7 ∷ 15 ∷ 8 ∷ 9 ∷ 10 ∷ []) (Refused 7)
+    ∷ row (submit 0 281474976710656) (state clockEnd numberEnd 1 full (oneClient mostCounted 268435454 0)) (15 ∷ 8 ∷ 9 ∷ 10 ∷ []) (Refused 15)
     ∷ row (submit 0 281474976710661) (state clockEnd numberEnd 1 full (oneClient mostCounted 268435454 0)) (8 ∷ 9 ∷ 10 ∷ []) (Refused 8)
     ∷ row (submit 0 281474976710661) (state clockEnd numberEnd 1 full (oneClient 268435454 268435453 0)) (9 ∷ 10 ∷ []) (Refused 9)
     ∷ row (submit 0 281474976710661) (state clockEnd 281474976710654 1 full (oneClient 268435454 268435453 0)) (10 ∷ []) (Refused 10)

@@ -16,8 +16,8 @@ use Rattle.spec.specs.Lines.Frames.{answerLine, digitOf, characterOf, nu
 use Rattle.spec.specs.Lines.Frames.{fieldDigits, lineOf, segmentLines, fieldAt, FrameKind, frameKinds}
 use Rattle.spec.specs.Lines.Session.{textOf, atStart, lineOutcome, replies, session}
 use Rattle.spec.specs.declared.types.Answer.{Answer}
-use Rattle.spec.specs.declared.types.Answer.the-variants.{Opened, Kept, Dropped, Served, Idle, Reported, Charted, Refused}
-use Rattle.spec.proofs.Acceptance.Computed.{setting, calls}
+use Rattle.spec.specs.declared.types.Answer.the-variants.{Opened, Kept, Dropped, Served, Idle, Reported, Charted, Closed, Refused}
+use Rattle.spec.proofs.Acceptance.Computed.{hourly, calls}
 
 -- an input's lines, what stands behind its last line feed, and the lines of the output
 pub record Dialogue : Type 0 where
@@ -50,7 +50,7 @@ dialogues =
     -- 01's session too."
     dialogue
     (
-    "010002000000640008"
+    "01000200000064000800000001FFFFFFFFFFFFFFFFFFFFFFFFFFFFFFFFFFFFFFFFFF"
     ∷ "0200000000000000000001"
     ∷ "0200010000000000000002"
     ∷ "0200010000000000000001"
@@ -77,12 +77,12 @@ dialogues =
     ∷ dialogue ("" ∷ "7F" ∷ "81" ∷ "0300" ∷ "0500" ∷ "04" ∷ "0" ∷ "030" ∷ []) "03"
     ("FF01" ∷ "FF01" ∷ "FF01" ∷ "FF01" ∷ "FF01" ∷ "FF01" ∷ "FF01" ∷ "FF01" ∷ "FF01" ∷ [])
     -- "pairs of upper-case hexadecimal digits"
-    ∷ dialogue (" 03" ∷ "03 " ∷ "03\r" ∷ "01000100000f640008" ∷ []) "" ("FF01" ∷ "FF01" ∷ "FF01" ∷ "FF01" ∷ [])
+    ∷ dialogue (" 03" ∷ "03 " ∷ "03\r" ∷ "01000100000f64000800000001FFFFFFFFFFFFFFFFFFFFFFFFFFFFFFFFFFFFFFFFFF" ∷ []) "" ("FF01" ∷ "FF01" ∷ "FF01" ∷ "FF01" ∷ [])
     -- after an open: the characters beside the digits; every byte of a client's number, a deadline and a period counts, for client 0
     -- exists, a deadline of 5 would be kept, and with a period of 1 the tick would start one
     ∷ dialogue
     (
-    "010001010000010008"
+    "01000101000001000800000001FFFFFFFFFFFFFFFFFFFFFFFFFFFFFFFFFFFFFFFFFF"
     ∷ "04000/"
     ∷ "04000:"
     ∷ "04000@"
@@ -109,25 +109,48 @@ dialogues =
     ∷ []
     )
     -- "A line with more digits than the longest frame whose values are in bounds is read past and gets one refusal 1."
+    -- document 02, 2.2: an open is the longest
     ∷ dialogue
-    ("02000000000000000000010" ∷ "020000000000000000000100" ∷ "0000000000000000000000000000000000000000000000000000" ∷ []) ""
-    ("FF01" ∷ "FF01" ∷ "FF01" ∷ [])
+    (
+    "02000000000000000000010"
+    ∷ "020000000000000000000100"
+    ∷ "01000100000064000800000001FFFFFFFFFFFFFFFFFFFFFFFFFFFFFFFFFFFFFFFFFFF"
+    ∷ "01000100000064000800000001FFFFFFFFFFFFFFFFFFFFFFFFFFFFFFFFFFFFFFFFFFFF"
+    ∷ "000000000000000000000000000000000000000000000000000000000000000000000000000000000000"
+    ∷ []
+    )
+    ""
+    ("FF01" ∷ "FF01" ∷ "FF01" ∷ "FF01" ∷ "FF01" ∷ [])
     -- "Before an accepted open the two tables have no records, so frames 02 to 05 meet refusal 4."
     ∷ dialogue ("0200000000000000000001" ∷ "03" ∷ "040000" ∷ "05" ∷ []) "" ("FF04" ∷ "FF04" ∷ "FF04" ∷ "FF04" ∷ [])
+    -- document 02, 2.2: refusals 13 and 14 of open, and an open without its hours
+    ∷ dialogue
+    (
+    "01000100000064000800000000FFFFFFFFFFFFFFFFFFFFFFFFFFFFFFFFFFFFFFFFFF"
+    ∷ "01000100000064000800057E41FFFFFFFFFFFFFFFFFFFFFFFFFFFFFFFFFFFFFFFFFF"
+    ∷ "01000100000064000800057E40000000000000000000000000000000000000000000"
+    ∷ "01000100000064000000057E41000000000000000000000000000000000000000000"
+    ∷ "010001000000640008"
+    ∷ "01000100000064000800057E40000000000000000000000000000000000000000001"
+    ∷ "03"
+    ∷ []
+    )
+    ""
+    ("FF0D" ∷ "FF0D" ∷ "FF0E" ∷ "FF0D" ∷ "FF01" ∷ "81" ∷ "890000000000000000" ∷ [])
     -- refusals 2, 3 and 4 of open; one "naming more waiting records" than 2,048 stands in `Printed`
     ∷ dialogue
-    ("010000000000640008" ∷ "010101000000640008" ∷ "010001000000000008" ∷ "010001000000640000" ∷ "010000000000000000" ∷ []) ""
+    ("01000000000064000800000001FFFFFFFFFFFFFFFFFFFFFFFFFFFFFFFFFFFFFFFFFF" ∷ "01010100000064000800000001FFFFFFFFFFFFFFFFFFFFFFFFFFFFFFFFFFFFFFFFFF" ∷ "01000100000000000800000001FFFFFFFFFFFFFFFFFFFFFFFFFFFFFFFFFFFFFFFFFF" ∷ "01000100000064000000000001FFFFFFFFFFFFFFFFFFFFFFFFFFFFFFFFFFFFFFFFFF" ∷ "01000000000000000000000001FFFFFFFFFFFFFFFFFFFFFFFFFFFFFFFFFFFFFFFFFF" ∷ []) ""
     ("FF02" ∷ "FF02" ∷ "FF03" ∷ "FF04" ∷ "FF02" ∷ [])
     -- "one line each from the left, then 88, segment count"; a refused open leaves the session as it was; "An accepted open starts a new
     -- session."
     ∷ dialogue
     (
-    "010001000000640002"
+    "01000100000064000200000001FFFFFFFFFFFFFFFFFFFFFFFFFFFFFFFFFFFFFFFFFF"
     ∷ "0200000000000000000009"
     ∷ "0200000000000000000005"
-    ∷ "010001000000000002"
+    ∷ "01000100000000000200000001FFFFFFFFFFFFFFFFFFFFFFFFFFFFFFFFFFFFFFFFFF"
     ∷ "05"
-    ∷ "010001000000640002"
+    ∷ "01000100000064000200000001FFFFFFFFFFFFFFFFFFFFFFFFFFFFFFFFFFFFFFFFFF"
     ∷ "05"
     ∷ "0200000000000000000009"
     ∷ []
@@ -144,6 +167,52 @@ dialogues =
     ∷ "81"
     ∷ "880000"
     ∷ "82000000000000000100000000"
+    ∷ []
+    )
+    -- document 02, 2.2: two slots an hour, hours 0 and 2 of the week open
+    ∷ dialogue
+    (
+    "01000100000064000800000002A00000000000000000000000000000000000000000"
+    ∷ "0200000000000000000003"
+    ∷ "0200000000000000000005"
+    ∷ "05"
+    ∷ "0200000000000000000006"
+    ∷ "05"
+    ∷ "0200000000000000000005"
+    ∷ "03"
+    ∷ "03"
+    ∷ "03"
+    ∷ "0200000000000000000004"
+    ∷ "0200000000000000000009"
+    ∷ "05"
+    ∷ "03"
+    ∷ "03"
+    ∷ "03"
+    ∷ "03"
+    ∷ []
+    )
+    ""
+    (
+    "81"
+    ∷ "82000000000000000100000000"
+    ∷ "82000000000000000200010000"
+    ∷ "8700000000000000010000000000000005"
+    ∷ "880001"
+    ∷ "82000000000000000300020000"
+    ∷ "8700000000000000010000000000000006"
+    ∷ "880001"
+    ∷ "82000000000000000400020001"
+    ∷ "84000000000000000000000000000000010000"
+    ∷ "84000000000000000100000000000000020000"
+    ∷ "890000000000000002"
+    ∷ "FF0F"
+    ∷ "830000000000000005000000000000000500000000"
+    ∷ "8700000000000000040000000000000006"
+    ∷ "880001"
+    ∷ "890000000000000003"
+    ∷ "84000000000000000400000000000000040000"
+    ∷ "84000000000000000500000000000000030000"
+    ∷ "890000000000000006"
     ∷ []
     )
     ∷ []
@@ -165,7 +234,10 @@ pub record LineIn : Type 0 where
 abbrev linesIn : List LineIn
 linesIn =
     -- "Numbers are big-endian, widths in bytes in brackets.": every byte in its place
-    record { text = "01012389ABCDEF4567"; frame = Open (setting 0x0123 0x89ABCDEF) 0x4567 }
+    record {
+      text = "01012389ABCDEF456701234567FEDCBA9876543210F0E1D2C3B4A596870123ABCD5A";
+      frame = Open (hourly 0x0123 0x89ABCDEF 0x01234567 (0xFEDCBA9876543210 ∷ 0xF0E1D2C3B4A59687 ∷ 0x0123ABCD ∷ 0x5A ∷ [])) 0x4567;
+    }
     ∷ record { text = "02CDEF0123456789ABFEDC"; frame = Submit 0xCDEF 0x0123456789ABFEDC }
     ∷ record { text = "03"; frame = Tick }
     ∷ record { text = "0489AB"; frame = Report 0x89AB }
@@ -209,7 +281,8 @@ linesOut =
     ∷ record { answer = Idle 0xFEDCBA987654; text = "850000FEDCBA987654" }
     ∷ record { answer = Reported 0x00FD 0x0FEDCBA9 0x08765432 0x01234567 0x07FE; text = "8600FD0FEDCBA9087654320123456707FE" }
     ∷ record { answer = Charted 0x07FE; text = "8807FE" }
-    ∷ record { answer = Refused 12; text = "FF0C" }
+    ∷ record { answer = Closed 0xFEDCBA987654; text = "890000FEDCBA987654" }
+    ∷ record { answer = Refused 15; text = "FF0F" }
     ∷ []
 
 pub answer-lines : map (λ (l : LineOut). answerLine (l .answer)) linesOut ≡ map (λ (l : LineOut). bytes (l .text) (10 ∷ [])) linesOut

@@ -33,9 +33,9 @@ use Rattle.spec.specs.declared.types.Frame.the-variants.{Open, Submit, T
 use Rattle.spec.specs.Lines.Frames.{Task, taskBy, task}
 use Rattle.spec.proofs.types.Frame.{the-type}
 
--- a number of the paper's list of refusals
+-- a number of the papers' list of refusals
 abbrev pub Listed : ℕ → Type 0
-Listed n = (1 ≤ n) × (n ≤ 12)
+Listed n = (1 ≤ n) × (n ≤ 15)
 
 -- ---- calls that change nothing
 pub record ReadsOnly (c : Call) (s : State) : Type 0 where

@@ -20,7 +20,8 @@ use Rattle.spec.specs.declared.types.Head.{Head}
 use Rattle.spec.specs.declared.types.Request.{Request}
 use Rattle.spec.specs.Tables.{zeroRequest, State, waiting, deadlinesOf}
 use Rattle.spec.specs.Order.{placeOf, removeAt}
-use Rattle.spec.specs.Chart.{capacityOf, roomTo, dueBy, hasNoOverfull, isCandidate}
+use Rattle.spec.specs.Chart.{roomTo, dueBy, hasNoOverfull, isCandidate}
+use Rattle.spec.specs.Hours.{capacityOf}
 use Rattle.spec.specs.Calls.Submit.{newRequest, newShift, withNew, kept, droppedAt, victimPlace, submitAccepted}
 use Rattle.spec.proofs.Demands.Words.{CanFinish}
 use Rattle.spec.proofs.Laws.Room.{room-capacity}

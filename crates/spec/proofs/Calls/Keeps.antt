@@ -17,17 +17,18 @@ use Rattle.spec.specs.Tables.{mostCounted, clockEnd, numberEnd, zeroRequ
 use Rattle.spec.specs.Tables.{clientTable, clientWidth, nextState, change, oneMoreSubmitted, oneMoreServed, oneMoreDropped}
 use Rattle.spec.specs.Setup.{firstMatch}
 use Rattle.spec.specs.Order.{putInOrder, removeAt}
+use Rattle.spec.specs.Hours.{capacityOf, isOpen, room}
 use Rattle.spec.specs.Chart.{dueBy, hasNoOverfull, isCandidate}
 use Rattle.spec.specs.Calls.Readings.{isRefused}
 use Rattle.spec.specs.Calls.Outcomes.{Outcome}
 use Rattle.spec.specs.Calls.Open.{openAccepted}
 use Rattle.spec.specs.Calls.Submit.{newRequest, countedIn, withNew, kept, requestAt, droppedAt, victimPlace}
 use Rattle.spec.specs.Calls.Submit.{submitAccepted}
-use Rattle.spec.specs.Calls.Tick.{isPeriodStart, restarted, countsAfter, oneLater, tickAccepted}
+use Rattle.spec.specs.Calls.Tick.{isPeriodStart, restarted, countsAfter, oneLater, tickAccepted, tickOpen, tickClosed}
 use Rattle.spec.specs.Calls.{Call, outcomeOf, acceptedOf, refusalsOf}
 use Rattle.spec.proofs.Laws.Clients.{of-yes, of-no, waitingOf-none, waitingOf-put, waitingOf-remove, Changed, changes}
 use Rattle.spec.proofs.Laws.Clients.{stays, changed, length-change}
-use Rattle.spec.proofs.Laws.Room.{capacity-one, room-back, room-step, room-split, room-next}
+use Rattle.spec.proofs.Laws.Room.{capacity-open, capacity-closed, room-back, room-step, room-split, room-next}
 use Rattle.spec.proofs.Laws.Every.{all-two, Value, is-true, is-false, value, length-mapFrom, getD-mapFrom, all-remove}
 use Rattle.spec.proofs.Laws.Every.{length-remove}
 use Rattle.spec.proofs.Laws.Order.{InOrder, Before, before-deadline, order-remove, all-put, length-put}
@@ -297,24 +298,25 @@ tidy-restart period start clock last clients ws cs t = go (isPeriodStart period 
         }
     go false = t
 
--- the first waiting request served in the slot at the clock, there is room for the others from the next slot on
-pub feasible-later : (head : Head) (w : Request) (ws : List Request) → InOrder (w ∷ ws) → Feasible head (w ∷ ws)
-    → FeasibleAt head (suc (head .clock)) ws
-feasible-later head w ws o f D =
+-- the room from the next slot on, with what the slot at the clock can take
+room-later : (head : Head) (D : ℕ) → head .clock < D
+    → capacityOf (head .setup) (head .clock) + room (head .setup) (suc (head .clock)) D ≡ room (head .setup) (head .clock) D
+room-later head D g =
+    omega (
+      arith,
+      room-split (head .setup) (head .clock) (suc (head .clock)) D (omega arith) g,
+      room-step (head .setup) (head .clock),
+    )
+
+-- the first waiting request served in the slot at the clock, which is open, there is room for the others from the next slot on
+pub feasible-later : (head : Head) (w : Request) (ws : List Request) → capacityOf (head .setup) (head .clock) ≡ 1 → InOrder (w ∷ ws)
+    → Feasible head (w ∷ ws) → FeasibleAt head (suc (head .clock)) ws
+feasible-later head w ws one o f D =
     elim (order (w .deadline) D) [
       | le h ↦
           elim (order D (head .clock)) [
             | le g ↦ absurd (omega (arith, f D, dueBy-cons D w ws, due-yes D w h, room-back (head .setup) (head .clock) D g))
-            | gt g ↦
-                omega (
-                  arith,
-                  f D,
-                  dueBy-cons D w ws,
-                  due-yes D w h,
-                  room-split (head .setup) (head .clock) (suc (head .clock)) D (omega arith) g,
-                  room-step (head .setup) (head .clock),
-                  capacity-one (head .setup) (head .clock),
-                )
+            | gt g ↦ omega (arith, f D, dueBy-cons D w ws, due-yes D w h, room-later head D g, one)
           ]
       | gt h ↦
           omega (
@@ -322,6 +324,15 @@ feasible-later head w ws o f D =
             dueBy-none D ws
                 (all-imp (Before w) (λ (v : Request). D < v .deadline) ws (λ v b. omega (arith, before-deadline w v b)) (o .0)),
           )
+    ]
+
+-- a closed slot has no room, so that there is as much for all from the next slot on
+pub feasible-closed : (head : Head) (ws : List Request) → capacityOf (head .setup) (head .clock) ≡ 0 → Feasible head ws
+    → FeasibleAt head (suc (head .clock)) ws
+feasible-closed head ws none f D =
+    elim (order D (head .clock)) [
+      | le g ↦ omega (arith, f D, room-back (head .setup) (head .clock) D g)
+      | gt g ↦ omega (arith, f D, room-later head D g, none)
     ]
 
 later-ready : (ws : List Request) (cs : List Counts) (s : State) → TickReady s → length ws ≤ length (s .waitingTable)
@@ -337,18 +348,24 @@ later-ready ws cs s r n t f =
 pub tick-keeps : (s : State) → TickReady s → Ready (tickAccepted (waiting s) s .after)
 unfolding tickAccepted removeAt
 tick-keeps s r =
-    go (waiting s) (omega (arith, waiting-length s (r .ready .shape), r .ready .shape .waits)) (tidy s (r .ready))
-    (r .ready .sound .feasible)
+    go (value (isOpen (s .head .setup) (s .head .clock))) (waiting s)
+    (omega (arith, waiting-length s (r .ready .shape), r .ready .shape .waits)) (tidy s (r .ready)) (r .ready .sound .feasible)
   where
-    go : (ws : List Request) → length ws ≤ length (s .waitingTable)
+    slot : Bool
+    slot = isOpen (s .head .setup) (s .head .clock)
+
+    go : Value slot → (ws : List Request) → length ws ≤ length (s .waitingTable)
         → Tidy (s .head .clock) (s .head .last) (s .head .setup .clients) ws (clientTable s) → Feasible (s .head) ws
-        → Ready (tickAccepted ws s .after)
-    go [] n t f = later-ready [] (clientTable s) s r n t (λ D. omega (arith, dueBy-none D [] tt))
-    go (w ∷ ws) n t f =
-        later-ready ws (change oneMoreServed (w .client) (clientTable s)) s r (omega arith)
+        → Ready (cond slot (tickOpen ws s) (tickClosed ws s) .after)
+    go (is-true e) [] n t f = rw e (later-ready [] (clientTable s) s r n t (λ D. omega (arith, dueBy-none D [] tt)))
+    go (is-true e) (w ∷ ws) n t f =
+        rw e (later-ready ws (change oneMoreServed (w .client) (clientTable s)) s r (omega arith)
         (tidy-remove oneMoreServed served-ends 0 (s .head .clock) (s .head .last) (s .head .setup .clients) (w ∷ ws) (clientTable s)
         (omega arith) t)
-        (feasible-later (s .head) w ws (t .ordered) f)
+        (feasible-later (s .head) w ws (capacity-open (s .head .setup) (s .head .clock) e) (t .ordered) f))
+    go (is-false e) ws n t f =
+        rw e (later-ready ws (clientTable s) s r n t
+        (feasible-closed (s .head) ws (capacity-closed (s .head .setup) (s .head .clock) e) f))
 
 -- ---- every call
 accepted-keeps : (c : Call) (s : State) → firstMatch (refusalsOf c s) ≡ 0 → Ready (acceptedOf c s .after)
@@ -398,7 +415,8 @@ submit-lengths client deadline s r = go (hasNoOverfull (s .head) (withNew client
 
 tick-lengths : (s : State) → Ready s → SameLengths s (tickAccepted (waiting s) s .after)
 unfolding tickAccepted
-tick-lengths s r = go (waiting s) (omega (arith, waiting-length s (r .shape), r .shape .waits))
+tick-lengths s r =
+    go (isOpen (s .head .setup) (s .head .clock)) (waiting s) (omega (arith, waiting-length s (r .shape), r .shape .waits))
   where
     after : List Request → List Counts → List Counts
     after ws cs = countsAfter (s .head .setup .period) (suc (s .head .clock)) ws cs
@@ -410,13 +428,16 @@ tick-lengths s r = go (waiting s) (omega (arith, waiting-length s (r .shape), r 
         which true = length-mapFrom (restarted ws) 0 cs
         which false = refl
 
-    go : (ws : List Request) → length ws ≤ length (s .waitingTable) → SameLengths s (tickAccepted ws s .after)
-    go [] h =
+    go : (x : Bool) (ws : List Request) → length ws ≤ length (s .waitingTable)
+        → SameLengths s (cond x (tickOpen ws s) (tickClosed ws s) .after)
+    go true [] h =
         next-lengths (suc (s .head .clock)) (s .head .last) [] (after [] (clientTable s)) s (r .shape) h (counted [] (clientTable s))
-    go (w ∷ ws) h =
+    go true (w ∷ ws) h =
         let cs = change oneMoreServed (w .client) (clientTable s) in
         next-lengths (suc (s .head .clock)) (s .head .last) ws (after ws cs) s (r .shape) (omega arith)
         (counted ws cs ∙ length-change oneMoreServed (w .client) (clientTable s))
+    go false ws h =
+        next-lengths (suc (s .head .clock)) (s .head .last) ws (after ws (clientTable s)) s (r .shape) h (counted ws (clientTable s))
 
 open-lengths : (setup : Setup) (s : State) → OpenReady setup s → SameLengths s (openAccepted setup s .after)
 unfolding openAccepted

@@ -1,142 +1,198 @@
--- The occupancy chart: its slots are the latest in chart order, and what its segments are. Document 01, "Chart and victim".
--- Assumes nothing.
+-- The occupancy chart: its slots are the latest open ones in chart order. Document 01, "Chart and victim", and document 02, 2.2. Assumes
+-- nothing.
 use Prim.Native.Nat.{ℕ, zero, suc, _+_, _-_, _≤_, _<_, min}
-use mathlib.Core.Path.{_≡_, refl, sym, ap, _∙_}
+use mathlib.Core.Path.{_≡_, refl, sym, ap, _∙_, subst₂}
 use mathlib.Core.Bool.{Bool, true, false, cond}
-use mathlib.Core.List.{List, [], _∷_, _++_, map}
-use mathlib.Core.Logic.{_↔_}
+use mathlib.Core.List.{List, [], _∷_, map, map-map}
+use mathlib.Core.Logic.{_↔_, _≢_}
 use native.Mathlib.Omega.{arith}
-use lib.Dec.{eqb}
-use borrow.Author.Tests.{eq-eqb}
+use borrow.Author.Tests.{lt-ltb, eq-eqb}
+use lib.Dec.{leb, ltb, eqb}
 use lib.ListN.{length, getD, drop}
-use Rattle.slots.specs.Plan.{at, EndedBy, Fits, uses, since, size, CanAllFinish}
-use Rattle.slots.proofs.Laws.Count.{isAt-no}
+use Rattle.slots.specs.Plan.{Slot, at, EndedBy, Fits, uses, since, Plan, size, CanAllFinish}
 use Rattle.slots.proofs.Laws.Tests.{Same, same-yes, same-no, same}
-use Rattle.slots.proofs.Laws.Sums.{All, all-each, all-imp}
+use Rattle.slots.proofs.Laws.Sums.{All, all-imp, one, one-yes, one-no, total, total-split}
+use Rattle.slots.proofs.Laws.Sorted.{Sorted, sorted-low, upto}
+use Rattle.slots.proofs.Queue.{Entry, Booking}
+use Rattle.slots.proofs.Room.{room as roomOf, room-back, fits-opens}
+use Rattle.slots.proofs.Reached.Chart.{chart}
+use Rattle.slots.proofs.Reached.Seat.{Roomy}
+use Rattle.slots.proofs.Reached.Words.{taken as takenOf, limit, latestFree as latestOf, starts, starts-chart as places-chart}
+use Rattle.slots.proofs.Reached.Rivals.{First, Rival, NotLater, not-later}
+use Rattle.slots.proofs.Largest.{room-placing}
 use Rattle.spec.specs.declared.types.Setup.{Setup}
 use Rattle.spec.specs.declared.types.Head.{Head}
 use Rattle.spec.specs.declared.types.Request.{Request}
+use Rattle.spec.specs.Every.{toNumber, countIf}
 use Rattle.spec.specs.Tables.{State, waiting, deadlinesOf}
-use Rattle.spec.specs.Chart.{capacityOf, room, startBefore, startsOf, Segment, joinLeft, segmentsOf, dueBy}
-use Rattle.spec.proofs.Demands.Words.{Ascending, Pairs, Finish, ChartFits, from, slotsOfAll, Proper, Apart, LongestRuns}
-use Rattle.spec.proofs.Laws.Order.{order-drop, before-deadline, InOrder}
-use Rattle.spec.proofs.Laws.Feasible.{FeasibleAt, due-yes, dueBy-cons}
-use Rattle.spec.proofs.Laws.Room.{capacity-one}
+use Rattle.spec.specs.Chart.{taken, limitOf, latestFree, startBefore, startsOf}
+use Rattle.spec.specs.Hours.{capacityOf, isOpen}
+use Rattle.spec.proofs.Demands.Words.{IsStart, Ascending, NotDescending, Pairs, Finish, WithinCapacity, ChartFits}
+use Rattle.spec.proofs.Laws.Every.{number-yes, all-two}
+use Rattle.spec.proofs.Laws.Order.{order-drop, InOrder}
+use Rattle.spec.proofs.Laws.Feasible.{FeasibleAt, due, dueBy-total}
+use Rattle.spec.proofs.Laws.Entries.{entryOf, upto-entries, sorted-entries}
+use Rattle.spec.proofs.Laws.Room.{room-capacity, capacity-most}
+use Rattle.spec.proofs.Laws.Accepted.{Ready}
 use Rattle.spec.proofs.Calls.Refused.{length-starts}
 use Rattle.spec.proofs.Calls.Fair.{finish-feasible-at}
-use Rattle.spec.proofs.Laws.Accepted.{Ready}
 
--- ---- the latest slot before a deadline and before a later start
-latest-slot : (s deadline start : ℕ) → s < deadline → s < start → s ≤ min deadline start - 1
-latest-slot s deadline start d l = omega arith
-
--- it is before both, where a slot s is
-latest-within : (s deadline start : ℕ) → s < deadline → s < start
-    → (min deadline start - 1 < deadline) × (min deadline start - 1 < start) × (s ≤ min deadline start - 1)
-latest-within s deadline start d l = (omega arith, omega arith, latest-slot s deadline start d l)
-
--- ---- the chart of requests that have room from the clock on
-module _ (head : Head) (clock : ℕ) where
-  -- w and those behind it have room besides n requests that come before
-  abbrev RoomBehind : ℕ → Request → List Request → Type 0
-  RoomBehind n w ws = (D : ℕ) → w .deadline ≤ D → n + dueBy D (w ∷ ws) ≤ room (head .setup) clock D
-
-  own-room : (n : ℕ) (w : Request) (ws : List Request) → RoomBehind n w ws → suc (clock + n) ≤ w .deadline
-  unfolding room
-  own-room n w ws f =
-      omega (arith, f (w .deadline) (omega arith), dueBy-cons (w .deadline) w ws, due-yes (w .deadline) w (omega arith))
-
-  next-room : (n : ℕ) (w v : Request) (vs : List Request) → w .deadline ≤ v .deadline → RoomBehind n w (v ∷ vs) → RoomBehind (suc n) v vs
-  next-room n w v vs l f D h = omega (arith, f D (omega arith), dueBy-cons D w (v ∷ vs), due-yes D w (omega arith))
-
-  -- a slot in front of the first one, before it and early enough for its request
-  chart-front : (n : ℕ) (w v : Request) (vs : List Request) (s x : ℕ) (xs : List ℕ) → s < w .deadline → s < x → clock + n ≤ s
-      → ChartFits (clock + suc n) (v ∷ vs) (x ∷ xs) → ChartFits (clock + n) (w ∷ v ∷ vs) (s ∷ x ∷ xs)
-  chart-front n w v vs s x xs d b l c =
-      record {
-        ended = (d, c .ended);
-        ahead = (
-          l,
-          all-imp (λ (y : ℕ). clock + suc n ≤ y) (λ (y : ℕ). clock + n ≤ y) (x ∷ xs) (λ y g. omega arith) (c .ahead),
-        );
-        ascending = ((b, all-imp (λ (y : ℕ). x < y) (λ (y : ℕ). s < y) xs (λ y g. omega arith) (c .ascending .0)), c .ascending);
-      }
-
-  -- the first starts n slots after the clock at the earliest, and the rest in order behind it
-  chart-from : (n : ℕ) (w : Request) (ws : List Request) → InOrder (w ∷ ws) → RoomBehind n w ws
-      → ChartFits (clock + n) (w ∷ ws) (startsOf (head .setup) (w ∷ ws))
-  unfolding startsOf
-  chart-from n w [] o f =
-      let h = own-room n w [] f in
-      record { ended = (omega arith, tt); ahead = (omega arith, tt); ascending = (tt, tt) }
-  chart-from n w (v ∷ vs) o f =
-      go (startsOf (head .setup) (v ∷ vs)) (own-room n w (v ∷ vs) f)
-      (chart-from (suc n) v vs (o .1) (next-room n w v vs (before-deadline w v (o .0 .0)) f))
-    where
-      go : (slots : List ℕ) → suc (clock + n) ≤ w .deadline → ChartFits (clock + suc n) (v ∷ vs) slots
-          → ChartFits (clock + n) (w ∷ v ∷ vs) (startBefore (head .setup) w slots)
-      go [] h c = absurd (c .ended)
-      go (x ∷ xs) h c =
-          let b = latest-within (clock + n) (w .deadline) x h (omega (arith, c .ahead .0)) in
-          chart-front n w v vs (min (w .deadline) x - 1) x xs (b .0) (b .1) (b .2) c
-
-pub starts-chart : (head : Head) (clock : ℕ) (ws : List Request) → InOrder ws → FeasibleAt head clock ws
-    → ChartFits clock ws (startsOf (head .setup) ws)
-unfolding startsOf
-starts-chart head clock [] o f = record { ended = tt; ahead = tt; ascending = tt }
-starts-chart head clock (w ∷ ws) o f =
-    let e : clock + 0 ≡ clock = omega arith in
-    rw e at (chart-from head clock 0 w ws o (λ D h. omega (arith, f D)))
-
--- so in sound tables
-pub ready-chart : (s : State) → Ready s → ChartFits (s .head .clock) (waiting s) (startsOf (s .head .setup) (waiting s))
-ready-chart s r = starts-chart (s .head) (s .head .clock) (waiting s) (r .sound .ordered) (r .sound .feasible)
-
--- "From the last record to the first, a request ends at the smaller of its deadline and the start of the record behind it, and
--- starts one slot earlier.": each starts at the latest slot at which it and all later ones finish, in chart order
-pub starts-latest : (setup : Setup) (ws : List Request) (slots : List ℕ) → Ascending slots → Finish ws slots
-    → Pairs (λ s start. s ≤ start) slots (startsOf setup ws)
-unfolding startsOf
-starts-latest setup [] [] a f = tt
-starts-latest setup [] (s ∷ slots) a f = absurd f
-starts-latest setup (w ∷ ws) [] a f = absurd f
-starts-latest setup (w ∷ ws) (s ∷ slots) a f = go slots (startsOf setup ws) (a .0) (starts-latest setup ws slots (a .1) (f .1))
+-- ---- the start slots are the chart of crate slots
+-- how many of these starts are s, counted here and there
+pub taken-same : (s : ℕ) (later : List ℕ) → taken s later ≡ takenOf s later
+unfolding countIf total
+taken-same s [] = refl
+taken-same s (x ∷ later) = go (eqb s x) (same s x) (taken-same s later)
   where
-    go : (later starts : List ℕ) → All (λ (y : ℕ). s < y) later → Pairs (λ s start. s ≤ start) later starts
-        → Pairs (λ s start. s ≤ start) (s ∷ later) (startBefore setup w starts)
-    go [] [] b p = (omega arith, tt)
-    go [] (y ∷ starts) b p = absurd p
-    go (x ∷ later) [] b p = absurd p
-    go (x ∷ later) (y ∷ starts) b p = (latest-slot s (w .deadline) y (f .0) (omega (arith, b .0, p .0)), p)
+    go : (b : Bool) → Same s x b → taken s later ≡ takenOf s later
+        → toNumber b + countIf (eqb s) later ≡ one s x + total (one s) later
+    go true (same-yes e) r = omega (arith, one-yes s x e)
+    go false (same-no n) r = omega (arith, one-no s x n)
 
--- the chart of some last requests is the last part of the chart
-pub starts-drop : (setup : Setup) (k : ℕ) (ws : List Request) → startsOf setup (drop k ws) ≡ drop k (startsOf setup ws)
+limit-same : (deadline : ℕ) (later : List ℕ) → limitOf deadline later ≡ limit deadline later
+limit-same deadline [] = refl
+limit-same deadline (s ∷ later) = refl
+
+latest-same : (setup : Setup) (later : List ℕ) (e : ℕ) → latestFree setup later e ≡ latestOf (capacityOf setup) later e
+unfolding latestFree latestOf
+latest-same setup later zero = refl
+latest-same setup later (suc e) =
+    λ i. cond (leb (suc (taken-same e later i)) (capacityOf setup e)) e (latest-same setup later e i)
+
+starts-same : (setup : Setup) (ws : List Request) → startsOf setup ws ≡ starts (capacityOf setup) (map entryOf ws)
 unfolding startsOf
-starts-drop setup zero ws = refl
-starts-drop setup (suc k) [] = refl
-starts-drop setup (suc k) (w ∷ ws) = starts-drop setup k ws
+starts-same setup [] = refl
+starts-same setup (w ∷ ws) = λ i. first (starts-same setup ws) i ∷ starts-same setup ws i
+  where
+    heads : ℕ → ℕ
+    heads = capacityOf setup
+
+    first : startsOf setup ws ≡ starts heads (map entryOf ws)
+        → latestFree setup (startsOf setup ws) (limitOf (w .deadline) (startsOf setup ws))
+        ≡ latestOf heads (starts heads (map entryOf ws)) (limit (w .deadline) (starts heads (map entryOf ws)))
+    first e =
+        latest-same setup (startsOf setup ws) (limitOf (w .deadline) (startsOf setup ws))
+        ∙ ap (latestOf heads (startsOf setup ws)) (limit-same (w .deadline) (startsOf setup ws))
+        ∙ ap (λ (l : List ℕ). latestOf heads l (limit (w .deadline) l)) e
+
+-- of requests in order that have room from the clock on
+module _ (head : Head) (clock : ℕ) (ws : List Request) (o : InOrder ws) (f : FeasibleAt head clock ws) where
+  abbrev heads : ℕ → ℕ
+  heads = capacityOf (head .setup)
+
+  abbrev entries : List Entry
+  entries = map entryOf ws
+
+  entries-room : (D : ℕ) → upto D entries ≤ roomOf heads clock D
+  entries-room D = omega (arith, upto-entries D ws, room-capacity (head .setup) clock D, f D)
+
+  entries-late : Sorted (suc clock) entries
+  entries-late =
+      sorted-low clock 0 entries (sorted-entries ws o) (omega (arith, entries-room clock, room-back heads clock clock (omega arith)))
+
+  entries-roomy : Roomy heads clock 0 (suc clock) entries
+  entries-roomy D h = omega (arith, fits-opens heads (upto D entries) clock D (omega arith) (entries-room D))
+
+  -- "From the last record to the first": each start slot is that of the request's place, where places are numbered through all slots
+  pub starts-chart : startsOf (head .setup) ws ≡ map (λ (b : Booking). b .slot) (chart heads entries)
+  starts-chart =
+      starts-same (head .setup) ws ∙ places-chart heads clock 0 (suc clock) entries entries-late entries-roomy
+
+  -- so they are a plan of all these requests
+  starts-plan : Plan heads (map (since clock) (deadlinesOf ws)) (map at (startsOf (head .setup) ws))
+  starts-plan =
+      subst₂ (λ (ds : List ℕ) (P : List Slot). Plan heads (map (since clock) ds) P) (map-map (λ (e : Entry). e .deadline) entryOf ws)
+      (sym (map-map at (λ (b : Booking). b .slot) (chart heads entries)) ∙ ap (map at) (sym starts-chart))
+      (room-placing heads clock entries (sorted-entries ws o) entries-room .0)
+
+-- ---- how many requests have a slot
+taken-uses : (x : ℕ) (slots : List ℕ) → taken x slots ≡ uses x (map at slots)
+unfolding countIf uses
+taken-uses x [] = refl
+taken-uses x (s ∷ slots) = ap (λ (n : ℕ). toNumber (eqb x s) + n) (taken-uses x slots)
+
+pub taken-first : (x : ℕ) (slots : List ℕ) → taken x (x ∷ slots) ≡ suc (taken x slots)
+unfolding countIf
+taken-first x slots = omega (arith, number-yes (eqb x x) (eq-eqb x x refl))
+
+-- each of these slots is taken
+pub all-taken : (slots : List ℕ) → All (λ (s : ℕ). IsStart s slots) slots
+unfolding countIf
+all-taken [] = tt
+all-taken (x ∷ slots) = (
+  omega (arith, taken-first x slots),
+  all-imp (λ (s : ℕ). IsStart s slots) (λ (s : ℕ). IsStart s (x ∷ slots)) slots (λ s h. omega arith) (all-taken slots),
+)
+
+-- those that are behind are no more than all
+taken-behind : (x s : ℕ) (slots : List ℕ) → taken x slots ≤ taken x (s ∷ slots)
+unfolding countIf
+taken-behind x s slots = omega arith
+
+capacity-behind : (setup : Setup) (s : ℕ) (slots : List ℕ) → WithinCapacity setup (s ∷ slots) → WithinCapacity setup slots
+capacity-behind setup s slots c x = omega (arith, c x, taken-behind x s slots)
+
+capacity-drop : (setup : Setup) (k : ℕ) (slots : List ℕ) → WithinCapacity setup slots → WithinCapacity setup (drop k slots)
+capacity-drop setup zero slots c = c
+capacity-drop setup (suc k) [] c = c
+capacity-drop setup (suc k) (s ∷ slots) c = capacity-drop setup k slots (capacity-behind setup s slots c)
+
+-- a slot that is not given to more than it can take is open
+capacity-all-open : (setup : Setup) (slots : List ℕ) → WithinCapacity setup slots → All (λ (s : ℕ). isOpen setup s ≡ true) slots
+capacity-all-open setup slots c =
+    all-imp (λ (s : ℕ). IsStart s slots) (λ (s : ℕ). isOpen setup s ≡ true) slots
+    (λ s h. lt-ltb 0 (capacityOf setup s) (omega (arith, c s))) (all-taken slots)
+
+-- ---- start slots do not descend
+latest-below : (setup : Setup) (later : List ℕ) (e : ℕ) → latestFree setup later e ≤ e - 1
+unfolding latestFree
+latest-below setup later zero = omega arith
+latest-below setup later (suc e) = go (ltb (taken e later) (capacityOf setup e)) (latest-below setup later e)
+  where
+    go : (b : Bool) → latestFree setup later e ≤ e - 1 → cond b e (latestFree setup later e) ≤ suc e - 1
+    go true h = omega arith
+    go false h = omega arith
+
+pub starts-not-descending : (setup : Setup) (ws : List Request) → NotDescending (startsOf setup ws)
+unfolding startsOf
+starts-not-descending setup [] = tt
+starts-not-descending setup (w ∷ ws) = go (startsOf setup ws) (starts-not-descending setup ws)
+  where
+    go : (later : List ℕ) → NotDescending later → NotDescending (startBefore setup w later)
+    go [] a = (tt, tt)
+    go (x ∷ xs) a =
+        let s = latestFree setup (x ∷ xs) (min (w .deadline) (suc x)) in
+        let h : s ≤ x = omega (arith, latest-below setup (x ∷ xs) (min (w .deadline) (suc x))) in
+        ((h, all-imp (λ (y : ℕ). x ≤ y) (λ (y : ℕ). s ≤ y) xs (λ y g. omega arith) (a .0)), a)
+
+-- where no slot can take two, they ascend
+none-taken : (x : ℕ) (slots : List ℕ) → taken x slots ≡ 0 → All (λ (y : ℕ). x ≢ y) slots
+unfolding countIf
+none-taken x [] e = tt
+none-taken x (s ∷ slots) e = ((λ q. omega (arith, number-yes (eqb x s) (eq-eqb x s q))), none-taken x slots (omega arith))
+
+not-descending-once : (slots : List ℕ) → NotDescending slots → ((x : ℕ) → taken x slots ≤ 1) → Ascending slots
+not-descending-once [] a c = tt
+not-descending-once (s ∷ slots) a c = (
+  all-two (λ (y : ℕ). s ≤ y) (λ (y : ℕ). s ≢ y) (λ (y : ℕ). s < y) slots (λ y h n. omega arith) (a .0)
+      (none-taken s slots (omega (arith, c s, taken-first s slots))),
+  not-descending-once slots (a .1) (λ x. omega (arith, c x, taken-behind x s slots)),
+)
 
 -- ---- a chart is a plan that places all
-uses-none : (x : ℕ) (slots : List ℕ) → All (λ (s : ℕ). x < s) slots → uses x (map at slots) ≡ 0
-unfolding uses
-uses-none x [] a = refl
-uses-none x (s ∷ slots) a = omega (arith, isAt-no x s (λ e. omega (arith, a .0)), uses-none x slots (a .1))
+fits-chart : (t : ℕ) (ws : List Request) (slots : List ℕ) → Fits (map (since t) (deadlinesOf ws)) (map at slots)
+    → Finish ws slots × All (λ (s : ℕ). t ≤ s) slots
+fits-chart t [] [] f = (tt, tt)
+fits-chart t [] (s ∷ slots) f = absurd f
+fits-chart t (w ∷ ws) [] f = absurd f
+fits-chart t (w ∷ ws) (s ∷ slots) f = let r = fits-chart t ws slots (f .2) in ((f .1, r .0), (f .0, r .1))
 
-uses-once : (x : ℕ) (slots : List ℕ) → Ascending slots → uses x (map at slots) ≤ 1
-unfolding uses
-uses-once x [] a = omega arith
-uses-once x (s ∷ slots) a = go (eqb x s) (same x s) (uses-once x slots (a .1))
-  where
-    go : (b : Bool) → Same x s b → uses x (map at slots) ≤ 1 → cond b 1 0 + uses x (map at slots) ≤ 1
-    go true (same-yes e) r = omega (arith, uses-none x slots (rw (sym e) at (a .0)))
-    go false (same-no n) r = omega arith
-
-chart-fit : (t : ℕ) (ws : List Request) (slots : List ℕ) → Finish ws slots → All (λ (s : ℕ). t ≤ s) slots
+chart-fits : (t : ℕ) (ws : List Request) (slots : List ℕ) → Finish ws slots → All (λ (s : ℕ). t ≤ s) slots
     → Fits (map (since t) (deadlinesOf ws)) (map at slots)
-chart-fit t [] [] f a = tt
-chart-fit t [] (s ∷ slots) f a = absurd f
-chart-fit t (w ∷ ws) [] f a = absurd f
-chart-fit t (w ∷ ws) (s ∷ slots) f a = (a .0, f .0, chart-fit t ws slots (f .1) (a .1))
+chart-fits t [] [] f a = tt
+chart-fits t [] (s ∷ slots) f a = absurd f
+chart-fits t (w ∷ ws) [] f a = absurd f
+chart-fits t (w ∷ ws) (s ∷ slots) f a = (a .0, f .0, chart-fits t ws slots (f .1) (a .1))
 
 chart-size : (ws : List Request) (slots : List ℕ) → Finish ws slots → size (map at slots) ≡ length (deadlinesOf ws)
 unfolding size
@@ -145,18 +201,58 @@ chart-size [] (s ∷ slots) f = absurd f
 chart-size (w ∷ ws) [] f = absurd f
 chart-size (w ∷ ws) (s ∷ slots) f = omega (arith, chart-size ws slots (f .1))
 
-chart-finish : (head : Head) (t : ℕ) (ws : List Request) (slots : List ℕ) → ChartFits t ws slots
-    → CanAllFinish (capacityOf (head .setup)) t (deadlinesOf ws)
-chart-finish head t ws slots c = (
+-- slots from t on, one for each request and ended by its deadline, none given to more than it can take
+chart-finish : (setup : Setup) (t : ℕ) (ws : List Request) (slots : List ℕ) → Finish ws slots → All (λ (s : ℕ). t ≤ s) slots
+    → WithinCapacity setup slots → CanAllFinish (capacityOf setup) t (deadlinesOf ws)
+chart-finish setup t ws slots f a c = (
   map at slots,
   record {
-    fits = chart-fit t ws slots (c .ended) (c .ahead);
-    shared = λ x. omega (arith, uses-once x slots (c .ascending), capacity-one (head .setup) x);
+    fits = chart-fits t ws slots f a;
+    shared = λ x. omega (arith, c x, taken-uses x slots);
   },
-  chart-size ws slots (c .ended),
+  chart-size ws slots f,
 )
 
--- ---- the last part of a chart
+pub starts-fit : (head : Head) (clock : ℕ) (ws : List Request) → InOrder ws → FeasibleAt head clock ws
+    → ChartFits (head .setup) clock ws (startsOf (head .setup) ws)
+starts-fit head clock ws o f =
+    record {
+      ended = placed .0;
+      ahead = placed .1;
+      not-descending = starts-not-descending (head .setup) ws;
+      shared = within;
+      all-open = capacity-all-open (head .setup) (startsOf (head .setup) ws) within;
+    }
+  where
+    plan : Plan (capacityOf (head .setup)) (map (since clock) (deadlinesOf ws)) (map at (startsOf (head .setup) ws))
+    plan = starts-plan head clock ws o f
+
+    placed : Finish ws (startsOf (head .setup) ws) × All (λ (s : ℕ). clock ≤ s) (startsOf (head .setup) ws)
+    placed = fits-chart clock ws (startsOf (head .setup) ws) (plan .fits)
+
+    within : WithinCapacity (head .setup) (startsOf (head .setup) ws)
+    within x = omega (arith, plan .shared x, taken-uses x (startsOf (head .setup) ws))
+
+-- so in sound tables
+pub ready-chart : (s : State) → Ready s → ChartFits (s .head .setup) (s .head .clock) (waiting s) (startsOf (s .head .setup) (waiting s))
+ready-chart s r = starts-fit (s .head) (s .head .clock) (waiting s) (r .sound .ordered) (r .sound .feasible)
+
+-- with at most one request a slot, the slots of a chart ascend
+pub chart-ascends : (setup : Setup) (clock : ℕ) (ws : List Request) (slots : List ℕ) → ChartFits setup clock ws slots → Ascending slots
+chart-ascends setup clock ws slots c =
+    not-descending-once slots (c .not-descending) (λ x. omega (arith, c .shared x, capacity-most setup x))
+
+-- ---- the chart of some last requests is the last part of the chart
+pub starts-drop : (setup : Setup) (k : ℕ) (ws : List Request) → startsOf setup (drop k ws) ≡ drop k (startsOf setup ws)
+unfolding startsOf
+starts-drop setup zero ws = refl
+starts-drop setup (suc k) [] = refl
+starts-drop setup (suc k) (w ∷ ws) = starts-drop setup k ws
+
+feasible-drop : (head : Head) (clock k : ℕ) (ws : List Request) → FeasibleAt head clock ws → FeasibleAt head clock (drop k ws)
+feasible-drop head clock k ws f D =
+    omega (arith, f D, dueBy-total D ws, dueBy-total D (drop k ws), total-split (due D) k ws)
+
 pairs-drop : {A B : Type 0} (p : A → B → Type 0) (k : ℕ) (xs : List A) (ys : List B) → Pairs p xs ys
     → Pairs p (drop k xs) (drop k ys)
 pairs-drop p zero xs ys a = a
@@ -165,156 +261,84 @@ pairs-drop p (suc k) [] (y ∷ ys) a = absurd a
 pairs-drop p (suc k) (x ∷ xs) [] a = absurd a
 pairs-drop p (suc k) (x ∷ xs) (y ∷ ys) a = pairs-drop p k xs ys (a .1)
 
-ascending-drop : (k : ℕ) (xs : List ℕ) → Ascending xs → Ascending (drop k xs)
-ascending-drop zero xs a = a
-ascending-drop (suc k) [] a = tt
-ascending-drop (suc k) (x ∷ xs) a = ascending-drop k xs (a .1)
-
 -- what holds from t on holds of the first, and the other way round
 ahead-first : (t k d : ℕ) (xs : List ℕ) → k < length xs → All (λ (s : ℕ). t ≤ s) (drop k xs) → t ≤ getD xs k d
 ahead-first t k d [] h a = absurd (omega arith)
 ahead-first t zero d (x ∷ xs) h a = a .0
 ahead-first t (suc k) d (x ∷ xs) h a = ahead-first t k d xs (omega arith) a
 
-first-ahead : (t k d : ℕ) (xs : List ℕ) → k < length xs → Ascending xs → t ≤ getD xs k d → All (λ (s : ℕ). t ≤ s) (drop k xs)
+first-ahead : (t k d : ℕ) (xs : List ℕ) → k < length xs → NotDescending xs → t ≤ getD xs k d → All (λ (s : ℕ). t ≤ s) (drop k xs)
 first-ahead t k d [] h a l = absurd (omega arith)
-first-ahead t zero d (x ∷ xs) h a l = (l, all-imp (λ (y : ℕ). x < y) (λ (s : ℕ). t ≤ s) xs (λ y g. omega arith) (a .0))
+first-ahead t zero d (x ∷ xs) h a l = (l, all-imp (λ (y : ℕ). x ≤ y) (λ (s : ℕ). t ≤ s) xs (λ y g. omega arith) (a .0))
 first-ahead t (suc k) d (x ∷ xs) h a l = first-ahead t k d xs (omega arith) (a .1) l
 
--- the request at k and all later ones can finish from t on just where t is not after its start
-pub latest-start : (head : Head) (clock : ℕ) (ws : List Request) (k : ℕ) → InOrder ws → FeasibleAt head clock ws → k < length ws
-    → (t : ℕ) → CanAllFinish (capacityOf (head .setup)) t (deadlinesOf (drop k ws)) ↔ (t ≤ getD (startsOf (head .setup) ws) k 0)
-latest-start head clock ws k o f h t = (to, from-start)
-  where
-    c : ChartFits clock ws (startsOf (head .setup) ws)
-    c = starts-chart head clock ws o f
+-- ---- each start slot is the latest
+module _ (head : Head) (clock : ℕ) (ws : List Request) (k : ℕ) (o : InOrder ws) (f : FeasibleAt head clock ws) where
+  abbrev all : List ℕ
+  all = startsOf (head .setup) ws
 
-    inside : k < length (startsOf (head .setup) ws)
-    inside = omega (arith, length-starts (head .setup) ws)
+  -- the request at k and all later ones can finish from t on just where t is not after its start
+  pub latest-start : k < length ws → (t : ℕ) → CanAllFinish (capacityOf (head .setup)) t (deadlinesOf (drop k ws)) ↔ (t ≤ getD all k 0)
+  latest-start h t = (to, from-start)
+    where
+      c : ChartFits (head .setup) clock ws all
+      c = starts-fit head clock ws o f
 
-    to : CanAllFinish (capacityOf (head .setup)) t (deadlinesOf (drop k ws)) → t ≤ getD (startsOf (head .setup) ws) k 0
-    to g =
-        let later = starts-chart head t (drop k ws) (order-drop k ws o) (finish-feasible-at head t (drop k ws) g) .ahead in
-        ahead-first t k 0 (startsOf (head .setup) ws) inside (rw (starts-drop (head .setup) k ws) at later)
+      inside : k < length all
+      inside = omega (arith, length-starts (head .setup) ws)
 
-    from-start : t ≤ getD (startsOf (head .setup) ws) k 0 → CanAllFinish (capacityOf (head .setup)) t (deadlinesOf (drop k ws))
-    from-start l =
-        chart-finish head t (drop k ws) (drop k (startsOf (head .setup) ws))
-        (record {
-          ended = pairs-drop (λ (w : Request) (s : ℕ). EndedBy (w .deadline) s) k ws (startsOf (head .setup) ws) (c .ended);
-          ahead = first-ahead t k 0 (startsOf (head .setup) ws) inside (c .ascending) l;
-          ascending = ascending-drop k (startsOf (head .setup) ws) (c .ascending);
-        })
+      to : CanAllFinish (capacityOf (head .setup)) t (deadlinesOf (drop k ws)) → t ≤ getD all k 0
+      to g =
+          let later = starts-fit head t (drop k ws) (order-drop k ws o) (finish-feasible-at head t (drop k ws) g) .ahead in
+          ahead-first t k 0 all inside (rw (starts-drop (head .setup) k ws) at later)
 
--- ---- segments
--- a start slot in front of the segment g, whether they touch or not
-abbrev besideIf : Bool → ℕ → Segment → List Segment → List Segment
-besideIf x s g gs = cond x (record { left = s; right = g .right } ∷ gs) (record { left = s; right = suc s } ∷ g ∷ gs)
+      from-start : t ≤ getD all k 0 → CanAllFinish (capacityOf (head .setup)) t (deadlinesOf (drop k ws))
+      from-start l =
+          chart-finish (head .setup) t (drop k ws) (drop k all)
+          (pairs-drop (λ (w : Request) (s : ℕ). EndedBy (w .deadline) s) k ws all (c .ended))
+          (first-ahead t k 0 all inside (c .not-descending) l) (capacity-drop (head .setup) k all (c .shared))
 
--- what holds of one start's interval, and of a segment that is joined by the interval on its left, holds of all segments
-pub segments-all : (setup : Setup) (r : ℕ → Type 0) (p : Segment → Type 0) → ((s : ℕ) → r s → p (record { left = s; right = suc s }))
-    → ((s : ℕ) (g : Segment) → r s → suc s ≡ g .left → p g → p (record { left = s; right = g .right }))
-    → (starts : List ℕ) → All r starts → All p (segmentsOf setup starts)
-unfolding segmentsOf
-segments-all setup r p one more [] a = tt
-segments-all setup r p one more (s ∷ starts) a = join (segmentsOf setup starts) (segments-all setup r p one more starts (a .1))
-  where
-    join : (gs : List Segment) → All p gs → All p (joinLeft setup s gs)
-    join [] b = (one s (a .0), tt)
-    join (g ∷ gs) b = go (eqb (suc s) (g .left)) (same (suc s) (g .left))
-      where
-        go : (x : Bool) → Same (suc s) (g .left) x → All p (besideIf x s g gs)
-        go true (same-yes e) = (more s g (a .0) e (b .0), b .1)
-        go false (same-no e) = (one s (a .0), b)
+-- a list of slots is a rival of the chart, as crate slots has it
+first-of : (x : ℕ) (xs : List ℕ) → All (λ (y : ℕ). x ≤ y) xs → First x xs
+first-of x [] a = tt
+first-of x (y ∷ ys) a = a .0
 
-segments-proper : (setup : Setup) (starts : List ℕ) → All Proper (segmentsOf setup starts)
-segments-proper setup starts =
-    segments-all setup (λ s. Unit {0}) Proper (λ s u. omega arith) (λ s g u e h. omega arith) starts
-    (all-each (λ (s : ℕ). Unit {0}) starts (λ s. tt))
+rival : (setup : Setup) (ws : List Request) (slots : List ℕ) → NotDescending slots → WithinCapacity setup slots → Finish ws slots
+    → Rival (capacityOf setup) (map entryOf ws) slots
+rival setup [] [] a c f = tt
+rival setup [] (s ∷ slots) a c f = absurd f
+rival setup (w ∷ ws) [] a c f = absurd f
+rival setup (w ∷ ws) (s ∷ slots) a c f = (
+  f .0,
+  omega (arith, c s, taken-same s (s ∷ slots)),
+  first-of s slots (a .0),
+  rival setup ws slots (a .1) (capacity-behind setup s slots c) (f .1),
+)
 
-one-slot : (s : ℕ) → suc s - s ≡ 1
-one-slot s = omega arith
+rival-pairs : (heads : ℕ → ℕ) (es : List Entry) (slots : List ℕ) → NotLater heads es slots
+    → Pairs (λ s start. s ≤ start) slots (map (λ (b : Booking). b .slot) (chart heads es))
+rival-pairs heads [] [] n = tt
+rival-pairs heads [] (s ∷ slots) n = absurd n
+rival-pairs heads (e ∷ es) [] n = absurd n
+rival-pairs heads (e ∷ es) (s ∷ slots) n = (n .0, rival-pairs heads es slots (n .1))
 
-join-slots : (setup : Setup) (s : ℕ) (gs : List Segment) → All Proper gs → slotsOfAll (joinLeft setup s gs) ≡ s ∷ slotsOfAll gs
-join-slots setup s [] a = ap (λ (n : ℕ). from s n ++ []) (one-slot s)
-join-slots setup s (g ∷ gs) a = go (eqb (suc s) (g .left)) (same (suc s) (g .left)) (a .0)
-  where
-    go : (x : Bool) → Same (suc s) (g .left) x → Proper g → slotsOfAll (besideIf x s g gs) ≡ s ∷ slotsOfAll (g ∷ gs)
-    go true (same-yes e) p =
-        let more : g .right - s ≡ suc (g .right - g .left) = omega arith in
-        ap (λ (n : ℕ). from s n ++ slotsOfAll gs) more ∙ ap (λ (l : ℕ). s ∷ (from l (g .right - g .left) ++ slotsOfAll gs)) e
-    go false (same-no e) p = ap (λ (n : ℕ). from s n ++ slotsOfAll (g ∷ gs)) (one-slot s)
+-- "From the last record to the first, a request ends at the smaller of its deadline and the start of the record behind it, and
+-- starts one slot earlier.", and document 02, 2.2: "the chart uses the latest open slots": each starts at the latest slot at which it
+-- and all later ones finish, in chart order
+pub starts-latest : (head : Head) (clock : ℕ) (ws : List Request) → InOrder ws → FeasibleAt head clock ws → (slots : List ℕ)
+    → NotDescending slots → WithinCapacity (head .setup) slots → Finish ws slots
+    → Pairs (λ s start. s ≤ start) slots (startsOf (head .setup) ws)
+starts-latest head clock ws o f slots a c g =
+    let heads = capacityOf (head .setup) in
+    rw (starts-chart head clock ws o f)
+    (rival-pairs heads (map entryOf ws) slots
+    (not-later heads clock 0 (suc clock) (map entryOf ws) slots (entries-late head clock ws o f) (entries-roomy head clock ws o f)
+    (rival (head .setup) ws slots a c g)))
 
-segments-slots : (setup : Setup) (starts : List ℕ) → slotsOfAll (segmentsOf setup starts) ≡ starts
-unfolding segmentsOf
-segments-slots setup [] = refl
-segments-slots setup (s ∷ starts) =
-    join-slots setup s (segmentsOf setup starts) (segments-proper setup starts) ∙ ap (λ (l : List ℕ). s ∷ l) (segments-slots setup starts)
-
-segments-left : (setup : Setup) (p : ℕ → Type 0) (starts : List ℕ) → All p starts → All (λ (g : Segment). p (g .left)) (segmentsOf setup starts)
-segments-left setup p starts a =
-    segments-all setup p (λ (g : Segment). p (g .left)) (λ s h. h) (λ s g h e k. h) starts a
-
-join-apart : (setup : Setup) (s : ℕ) (gs : List Segment) → All (λ (g : Segment). s < g .left) gs → All Proper gs → Apart gs
-    → Apart (joinLeft setup s gs)
-join-apart setup s [] l a b = (tt, tt)
-join-apart setup s (g ∷ gs) l a b = go (eqb (suc s) (g .left)) (same (suc s) (g .left))
-  where
-    go : (x : Bool) → Same (suc s) (g .left) x → Apart (besideIf x s g gs)
-    go true (same-yes e) = b
-    go false (same-no e) = (
-      (
-        omega arith,
-        all-imp (λ (h : Segment). g .right < h .left) (λ (h : Segment). suc s < h .left) gs (λ h k. omega arith) (b .0),
-      ),
-      b,
-    )
-
-segments-apart : (setup : Setup) (starts : List ℕ) → Ascending starts → Apart (segmentsOf setup starts)
-unfolding segmentsOf
-segments-apart setup [] o = tt
-segments-apart setup (s ∷ starts) o =
-    join-apart setup s (segmentsOf setup starts) (segments-left setup (λ (x : ℕ). s < x) starts (o .0)) (segments-proper setup starts)
-    (segments-apart setup starts (o .1))
-
--- ---- no other list of segments has the longest runs
-join-far : (setup : Setup) (s right : ℕ) (gs : List Segment) → suc s ≡ right → All (λ (h : Segment). right < h .left) gs
-    → joinLeft setup s gs ≡ record { left = s; right = right } ∷ gs
-join-far setup s right [] e a = rw e
-join-far setup s right (g ∷ gs) e a = go (eqb (suc s) (g .left)) (same (suc s) (g .left))
-  where
-    go : (x : Bool) → Same (suc s) (g .left) x → besideIf x s g gs ≡ record { left = s; right = right } ∷ g ∷ gs
-    go true (same-yes f) = absurd (omega (arith, a .0))
-    go false (same-no f) = rw e
-
--- the n + 1 slots up to `right`, in front of segments that start behind it, are one segment
-run-joined : (setup : Setup) (s n right : ℕ) (starts : List ℕ) (gs : List Segment) → suc (s + n) ≡ right
-    → All (λ (h : Segment). right < h .left) gs → segmentsOf setup starts ≡ gs
-    → segmentsOf setup (from s (suc n) ++ starts) ≡ record { left = s; right = right } ∷ gs
-unfolding segmentsOf
-run-joined setup s zero right starts gs e a h = ap (joinLeft setup s) h ∙ join-far setup s right gs (omega arith) a
-run-joined setup s (suc n) right starts gs e a h =
-    ap (joinLeft setup s) (run-joined setup (suc s) n right starts gs (omega arith) a h)
-    ∙ rw (eq-eqb (suc s) (suc s) refl)
-
-segments-only : (setup : Setup) (gs : List Segment) → All Proper gs → Apart gs → segmentsOf setup (slotsOfAll gs) ≡ gs
-unfolding segmentsOf
-segments-only setup [] p a = refl
-segments-only setup (g ∷ gs) p a =
-    let n : g .right - g .left ≡ suc (g .right - g .left - 1) = omega (arith, p .0) in
-    rw n (run-joined setup (g .left) (g .right - g .left - 1) (g .right) (slotsOfAll gs) gs (omega (arith, p .0)) (a .0)
-    (segments-only setup gs (p .1) (a .1)))
-
--- "Segments are the longest runs of touching intervals, given as [left, right]."
-pub longest-runs : (setup : Setup) (starts : List ℕ) (gs : List Segment) → Ascending starts → LongestRuns starts gs ↔ (gs ≡ segmentsOf setup starts)
-longest-runs setup starts gs o = (only, are)
-  where
-    only : LongestRuns starts gs → gs ≡ segmentsOf setup starts
-    only r = sym (rw (r .slots) at (segments-only setup gs (r .none-empty) (r .apart)))
-
-    are : gs ≡ segmentsOf setup starts → LongestRuns starts gs
-    are e = rw e (record {
-      slots = segments-slots setup starts;
-      none-empty = segments-proper setup starts;
-      apart = segments-apart setup starts o;
-    })
+-- of the request at k and all later ones
+pub latest-behind : (head : Head) (clock : ℕ) (ws : List Request) (k : ℕ) → InOrder ws → FeasibleAt head clock ws → (slots : List ℕ)
+    → NotDescending slots → WithinCapacity (head .setup) slots → Finish (drop k ws) slots
+    → Pairs (λ s start. s ≤ start) slots (drop k (startsOf (head .setup) ws))
+latest-behind head clock ws k o f slots a c g =
+    rw (starts-drop (head .setup) k ws) at
+    (starts-latest head clock (drop k ws) (order-drop k ws o) (feasible-drop head clock k ws f) slots a c g)

@@ -16,12 +16,13 @@ use Rattle.spec.specs.declared.types.Answer.the-variants.{Refused}
 use Rattle.spec.specs.Every.{firstOr}
 use Rattle.spec.specs.Tables.{State, waiting, nextState}
 use Rattle.spec.specs.Setup.{Refusal, firstMatch, setupRefusals}
+use Rattle.spec.specs.Hours.{isOpen}
 use Rattle.spec.specs.Chart.{startsOf, hasNoOverfull}
 use Rattle.spec.specs.Calls.Readings.{isRefused, reading}
 use Rattle.spec.specs.Calls.Outcomes.{Outcome, saying}
 use Rattle.spec.specs.Calls.Open.{openRefusals, openAccepted}
 use Rattle.spec.specs.Calls.Submit.{submitRefusals, kept, droppedAt, victimPlace, withNew, submitAccepted}
-use Rattle.spec.specs.Calls.Tick.{tickRefusals, tickAccepted}
+use Rattle.spec.specs.Calls.Tick.{tickRefusals, tickAccepted, tickOpen, tickClosed}
 use Rattle.spec.specs.Calls.Chart.{chartRefusals, chartOutput}
 use Rattle.spec.specs.Calls.{Call, opening, submit, tick, outcomeOf, acceptedOf, refusalsOf, meaning}
 use Rattle.spec.proofs.Demands.Words.{FirstHolds, here, further}
@@ -64,14 +65,15 @@ call-accepted c s = by-kind (call-kind c s)
     kept-or-dropped client deadline true = accepted-one (submit client deadline) s _ _ refl refl (λ e. refl)
     kept-or-dropped client deadline false = accepted-one (submit client deadline) s _ _ refl refl (λ e. refl)
 
-    served-or-idle : (ws : List Request) → Accepted tick s (tickAccepted ws s)
-    served-or-idle [] = accepted-one tick s _ _ refl refl (λ e. refl)
-    served-or-idle (w ∷ ws) = accepted-one tick s _ _ refl refl (λ e. refl)
+    ticked : (x : Bool) (ws : List Request) → Accepted tick s (cond x (tickOpen ws s) (tickClosed ws s))
+    ticked true [] = accepted-one tick s _ _ refl refl (λ e. refl)
+    ticked true (w ∷ ws) = accepted-one tick s _ _ refl refl (λ e. refl)
+    ticked false ws = accepted-one tick s _ _ refl refl (λ e. refl)
 
     by-kind : {c : Call} → CallKind s c → Accepted c s (acceptedOf c s)
     by-kind (is-open setup) = accepted-one (opening setup) s _ _ refl refl (λ e. absurd (true≢false e))
     by-kind (is-submit client deadline) = kept-or-dropped client deadline (hasNoOverfull (s .head) (withNew client deadline s))
-    by-kind is-tick = served-or-idle (waiting s)
+    by-kind is-tick = ticked (isOpen (s .head .setup) (s .head .clock)) (waiting s)
     by-kind (reads-only c r) =
         rw (r .accepted-is)
         (record {

@@ -12,11 +12,12 @@ use Rattle.spec.specs.declared.types.Answer.{Answer}
 use Rattle.spec.specs.Tables.{mostAhead, mostRecords, zeroRequest, State, waiting}
 use Rattle.spec.specs.Setup.{firstMatch}
 use Rattle.spec.specs.Chart.{startsOf, Segment, doTouch, joinLeft, segmentsOf, hasNoOverfull}
+use Rattle.spec.specs.Hours.{isOpen}
 use Rattle.spec.specs.Calls.Readings.{field, valuesOf}
 use Rattle.spec.specs.Calls.Outcomes.{Outcome}
 use Rattle.spec.specs.Calls.Open.{openAccepted}
 use Rattle.spec.specs.Calls.Submit.{newRequest, newShift, withNew, kept, droppedAt, victimPlace, submitAccepted}
-use Rattle.spec.specs.Calls.Tick.{tickAccepted}
+use Rattle.spec.specs.Calls.Tick.{tickAccepted, tickOpen, tickClosed}
 use Rattle.spec.specs.Calls.{Call, outcomeOf, acceptedOf, refusalsOf}
 use Rattle.spec.proofs.Demands.Words.{Finish, FitsField}
 use Rattle.spec.proofs.Laws.Every.{all-at}
@@ -27,7 +28,8 @@ use Rattle.spec.proofs.Laws.Accepted.{waiting-length}
 use Rattle.spec.proofs.Calls.CallKinds.{CallKind, is-open, is-submit, is-tick, reads-only, call-kind}
 use Rattle.spec.proofs.Calls.Refused.{length-starts, outcome-decided, first-holds, first-listed, listed}
 use Rattle.spec.proofs.Calls.Victim.{victim-place}
-use Rattle.spec.proofs.Calls.LatestSlots.{ready-chart, segments-all}
+use Rattle.spec.proofs.Calls.LatestSlots.{ready-chart}
+use Rattle.spec.proofs.Calls.Segments.{segments-all}
 use Rattle.spec.proofs.Calls.Keeps.{tidy-put}
 
 abbrev AllFit : List Answer → Type 0
@@ -91,12 +93,13 @@ module _ (client deadline : ℕ) (s : State) (r : SubmitReady client deadline s)
 -- ---- tick
 tick-fits : (s : State) → Ready s → AllFit (tickAccepted (waiting s) s .answers)
 unfolding tickAccepted
-tick-fits s r = go (waiting s) (r .sound .given) (r .sound .owned)
+tick-fits s r = go (isOpen (s .head .setup) (s .head .clock)) (waiting s) (r .sound .given) (r .sound .owned)
   where
-    go : (ws : List Request) → All (λ (w : Request). (1 ≤ w .number) × (w .number ≤ s .head .last)) ws
-        → All (λ (w : Request). w .client < s .head .setup .clients) ws → AllFit (tickAccepted ws s .answers)
-    go [] g o = omega (arith, r .sound .headed .clock)
-    go (w ∷ ws) g o =
+    go : (x : Bool) (ws : List Request) → All (λ (w : Request). (1 ≤ w .number) × (w .number ≤ s .head .last)) ws
+        → All (λ (w : Request). w .client < s .head .setup .clients) ws → AllFit (cond x (tickOpen ws s) (tickClosed ws s) .answers)
+    go true [] g o = omega (arith, r .sound .headed .clock)
+    go false ws g o = omega (arith, r .sound .headed .clock)
+    go true (w ∷ ws) g o =
         omega (arith, r .sound .headed .clock, r .sound .headed .last, r .sound .headed .setup .most-clients, g .0, o .0)
 
 -- ---- every call, refused ones too
@@ -118,13 +121,13 @@ call-fits c s = go (outcome-decided c s)
     go (refuses n) = omega (arith, first-listed (first-holds (refusalsOf c s) n) (listed c s))
 
 -- ---- segments
--- a segment that ends by the bound
+-- a segment whose ends are within the bound
 abbrev Within : ℕ → Segment → Type 0
-Within most g = (g .left < g .right) × (g .right ≤ most)
+Within most g = (g .left ≤ most) × (g .right ≤ most)
 
 segments-within : (setup : Setup) (most : ℕ) (starts : List ℕ) → All (λ (s : ℕ). suc s ≤ most) starts → All (Within most) (segmentsOf setup starts)
 segments-within setup most starts a =
-    segments-all setup (λ s. suc s ≤ most) (Within most) (λ s h. (omega arith, h)) (λ s g h e k. (omega arith, k .1)) starts a
+    segments-all setup (λ s. suc s ≤ most) (Within most) (λ s h. (omega arith, h)) (λ s g h k. (omega arith, k .1)) starts a
 
 join-length : (setup : Setup) (s : ℕ) (gs : List Segment) → length (joinLeft setup s gs) ≤ suc (length gs)
 join-length setup s [] = omega arith

@@ -1,7 +1,7 @@
 -- Demand 1, of the definitions: "After every call and for all input, damaged tables included, the lent tables hold exactly what
 -- document 01 says. A refused call gives its number and changes nothing." The calls' definitions say what the tables hold; here is
 -- what follows from them. Statements, each under its sentence; the proofs stand in Calls/ and Lists/. Assumes nothing.
-use Prim.Native.Nat.{ℕ, _*_, _/_, _%_, _≤_, _<_}
+use Prim.Native.Nat.{ℕ, _-_, _*_, _/_, _%_, _≤_, _<_, min}
 use mathlib.Core.Path.{_≡_, refl, sym, ap, _∙_}
 use mathlib.Core.Logic.{_↔_}
 use mathlib.Core.Bool.{true, false, true≢false}
@@ -16,10 +16,11 @@ use Rattle.slots.proofs.Laws.Sums.{All}
 use Rattle.spec.specs.declared.types.Setup.{Setup}
 use Rattle.spec.specs.declared.types.Answer.{Answer}
 use Rattle.spec.specs.declared.types.Answer.the-variants.{Charted, Refused}
-use Rattle.spec.specs.Every.{exists}
+use Rattle.spec.specs.Every.{exists, countIf}
 use Rattle.spec.specs.Tables.{zeroCounts, State, waiting, deadlinesOf, clientTable}
 use Rattle.spec.specs.Setup.{firstMatch}
-use Rattle.spec.specs.Chart.{Segment, capacityOf, startsOf, segmentsOf}
+use Rattle.spec.specs.Chart.{taken, Segment, startsOf, segmentsOf}
+use Rattle.spec.specs.Hours.{capacityOf, isOpen}
 use Rattle.spec.specs.Sound.{isSound}
 use Rattle.spec.specs.Calls.Readings.{field, valuesOf, isRefused}
 use Rattle.spec.specs.Calls.Refusals.{refusal4}
@@ -29,8 +30,8 @@ use Rattle.spec.specs.Calls.Report.{reportAnswer}
 use Rattle.spec.specs.Calls.Chart.{chartRefusals, chartAccepted, chartOutput}
 use Rattle.spec.specs.Calls.{Call, chart, outcomeOf, opening, report, acceptedOf, refusalsOf}
 use Rattle.spec.specs.Lists.{run, Event, history, WithRefused, isOpened, waitingBy, countsSince}
-use Rattle.spec.proofs.Demands.Words.{FitsField, FirstHolds, Ascending, Pairs, Finish, ChartFits}
-use Rattle.spec.proofs.Demands.Words.{LongestRuns}
+use Rattle.spec.proofs.Demands.Words.{FitsField, FirstHolds, Ascending, NotDescending, Pairs, Finish, WithinCapacity, IsStart}
+use Rattle.spec.proofs.Demands.Words.{ChartFits, Proper, Touch, liesIn, LongestRuns}
 use Rattle.spec.proofs.Laws.Sound.{sound-test}
 use Rattle.spec.proofs.Laws.Accepted.{shaped-test, Decided, accepts, refuses, decided, ChartReady, chart-ready}
 use Rattle.spec.proofs.Laws.Accepted.{waiting-length}
@@ -39,7 +40,8 @@ use Rattle.spec.proofs.Calls.Refused.{first-holds, first-match, first-l
 use Rattle.spec.proofs.Calls.Refused.{written, output-written}
 use Rattle.spec.proofs.Calls.Keeps.{same-lengths, keeps}
 use Rattle.spec.proofs.Calls.Widths.{call-fits, segment-fits, count-fits}
-use Rattle.spec.proofs.Calls.LatestSlots.{latest-start, ready-chart, starts-latest, starts-drop, longest-runs}
+use Rattle.spec.proofs.Calls.LatestSlots.{latest-start, latest-behind, ready-chart, chart-ascends}
+use Rattle.spec.proofs.Calls.Segments.{touch-none, longest-runs, segments-proper, segments-ends, segments-cover}
 use Rattle.spec.proofs.Lists.Trace.{traced}
 use Rattle.spec.proofs.Lists.Counts.{counted, reported-counts}
 use Rattle.spec.proofs.Lists.Passing.{WithPassing, refused-pass, none-opened, same-waits, same-counts}
@@ -204,31 +206,54 @@ chart-written output s p = go (output-written output s)
     go (written f) = written-charts output s answer (omega (arith, count, r .long))
 
 -- "From the last record to the first, a request ends at the smaller of its deadline and the start of the record behind it, and starts
--- one slot earlier."
+-- one slot earlier.", and document 02, 2.2: "the chart uses the latest open slots"
 pub record ChartIsLatest (s : State) : Type 0 where
-  -- the start slots ascend from the clock on, each ended by its request's deadline
-  pub fits : ChartFits (s .head .clock) (waiting s) (startsOf (s .head .setup) (waiting s))
+  -- the start slots are open slots from the clock on that do not descend, each ended by its request's deadline, and none is given to more
+  -- than it can take
+  pub fits : ChartFits (s .head .setup) (s .head .clock) (waiting s) (startsOf (s .head .setup) (waiting s))
+  -- which is one, so that they ascend
+  pub ascending : Ascending (startsOf (s .head .setup) (waiting s))
   -- each is the latest slot from which on the request at k and all later ones can finish
   pub begins : (k : ℕ) → k < length (waiting s) → (t : ℕ)
       → CanAllFinish (capacityOf (s .head .setup)) t (deadlinesOf (drop k (waiting s))) ↔ (t ≤ getD (startsOf (s .head .setup) (waiting s)) k 0)
-  -- and the latest for it where they are served in chart order
-  pub latest : (k : ℕ) (slots : List ℕ) → Ascending slots → Finish (drop k (waiting s)) slots
+  -- and the latest for it where they are served in chart order, in slots that can take them
+  pub latest : (k : ℕ) (slots : List ℕ) → NotDescending slots → WithinCapacity (s .head .setup) slots → Finish (drop k (waiting s)) slots
       → Pairs (λ slot start. slot ≤ start) slots (drop k (startsOf (s .head .setup) (waiting s)))
   -- "Segments are the longest runs of touching intervals": these are the runs of the start slots, and no other list is
-  pub segments : (gs : List Segment) → LongestRuns (startsOf (s .head .setup) (waiting s)) gs ↔ (gs ≡ segmentsOf (s .head .setup) (startsOf (s .head .setup) (waiting s)))
+  pub segments : (gs : List Segment)
+      → LongestRuns (s .head .setup) (startsOf (s .head .setup) (waiting s)) gs
+      ↔ (gs ≡ segmentsOf (s .head .setup) (startsOf (s .head .setup) (waiting s)))
+  -- no segment is empty, and its left, and its right less 1, are start slots
+  pub none-empty : All Proper (segmentsOf (s .head .setup) (startsOf (s .head .setup) (waiting s)))
+  pub ends :
+      All (λ (g : Segment). IsStart (g .left) (startsOf (s .head .setup) (waiting s))
+      × IsStart (g .right - 1) (startsOf (s .head .setup) (waiting s))) (segmentsOf (s .head .setup) (startsOf (s .head .setup) (waiting s)))
+  -- an open slot lies in one segment where it is a start slot, else in none
+  pub covered : (x : ℕ) → isOpen (s .head .setup) x ≡ true
+      → countIf (liesIn x) (segmentsOf (s .head .setup) (startsOf (s .head .setup) (waiting s)))
+      ≡ min 1 (taken x (startsOf (s .head .setup) (waiting s)))
 
 pub chart-latest : (output : List ℕ) (s : State) → isRefused (outcomeOf (chart output) s .answers) ≡ false → ChartIsLatest s
 unfolding outcomeOf
 chart-latest output s e =
     let r = chart-ready output s (accepted-none (chart output) s e) .ready in
     let c = ready-chart s r in
+    let setup = s .head .setup in
+    let starts = startsOf (s .head .setup) (waiting s) in
     record {
       fits = c;
-      begins =
-          λ k h. latest-start (s .head) (s .head .clock) (waiting s) k (r .sound .ordered) (r .sound .feasible) h;
-      latest = λ k slots a f. rw (starts-drop (s .head .setup) k (waiting s)) at (starts-latest (s .head .setup) (drop k (waiting s)) slots a f);
-      segments = λ gs. longest-runs (s .head .setup) (startsOf (s .head .setup) (waiting s)) gs (c .ascending);
+      ascending = chart-ascends setup (s .head .clock) (waiting s) starts c;
+      begins = λ k h. latest-start (s .head) (s .head .clock) (waiting s) k (r .sound .ordered) (r .sound .feasible) h;
+      latest = λ k slots. latest-behind (s .head) (s .head .clock) (waiting s) k (r .sound .ordered) (r .sound .feasible) slots;
+      segments = λ gs. longest-runs setup starts gs;
+      none-empty = segments-proper setup starts (c .not-descending);
+      ends = segments-ends setup starts;
+      covered = λ x p. segments-cover setup starts (c .not-descending) x p;
     }
+
+-- document 02, 2.2: "two of them touch if no open slot lies between"
+pub touches : (setup : Setup) (s next : ℕ) → Touch setup s next ↔ ((x : ℕ) → s < x → x < next → isOpen setup x ≡ false)
+touches setup s next = touch-none setup s next
 
 -- ---- lines
 -- "Numbers are big-endian; widths in bytes in brackets.": no value is too large for its field, so that no answer is cut

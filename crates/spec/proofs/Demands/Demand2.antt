@@ -8,22 +8,24 @@ use mathlib.Core.Logic.{_↔_}
 use mathlib.Core.Bool.{true, false}
 use mathlib.Core.List.{List, [], _∷_}
 use native.Mathlib.Omega.{arith}
-use lib.ListN.{length}
+use lib.ListN.{length, drop}
 use Rattle.slots.proofs.Laws.Sums.{All}
 use Rattle.spec.specs.declared.types.Request.{Request}
 use Rattle.spec.specs.declared.types.Counts.{Counts}
-use Rattle.spec.specs.declared.types.Answer.the-variants.{Kept, Dropped, Served, Idle}
-use Rattle.spec.specs.Tables.{zeroRequest, State, waiting}
+use Rattle.spec.specs.declared.types.Answer.the-variants.{Kept, Dropped, Served, Idle, Closed}
+use Rattle.spec.specs.Tables.{zeroRequest, State, waiting, clientTable}
 use Rattle.spec.specs.Order.{isInOrder, placeOf, removeAt}
+use Rattle.spec.specs.Hours.{isOpen}
 use Rattle.spec.specs.Chart.{isOverfull, Search, nothing, found, firstOverfull, hasSmallerRatio, countsAt}
 use Rattle.spec.specs.Calls.Readings.{isRefused}
 use Rattle.spec.specs.Calls.Outcomes.{Outcome}
 use Rattle.spec.specs.Calls.Submit.{kept, droppedAt, requestAt, newRequest, newShift, countedIn, withNew, victimPlace}
 use Rattle.spec.specs.Calls.Submit.{submitAccepted}
-use Rattle.spec.specs.Calls.Tick.{tickAccepted}
+use Rattle.spec.specs.Calls.Tick.{oneLater, tickAccepted}
 use Rattle.spec.specs.Calls.{submit, tick, outcomeOf}
 use Rattle.spec.proofs.Demands.Words.{CanFinish}
 use Rattle.spec.proofs.Laws.Order.{getD-put, remove-put, order-test, InOrder, first-earliest}
+use Rattle.spec.proofs.Laws.Room.{capacity-open, capacity-closed}
 use Rattle.spec.proofs.Laws.Feasible.{overfull-test, roomy-test, Verdict, fine, over, verdict}
 use Rattle.spec.proofs.Laws.Accepted.{kept-waiting, dropped-waiting, ticked-waiting, SubmitReady, submit-ready}
 use Rattle.spec.proofs.Laws.Accepted.{tick-ready}
@@ -183,14 +185,43 @@ Serves s (w ∷ ws) =
     × (waiting (outcomeOf tick s .after) ≡ ws)
     × All (λ (v : Request). w .deadline ≤ v .deadline) ws
 
-pub earliest-served : (s : State) → isRefused (outcomeOf tick s .answers) ≡ false → Serves s (waiting s)
+-- document 02, 2.2: "A closed slot serves nobody and tick answers 89 with the slot": whether or not reads wait, all go on waiting, and no
+-- count changes but by a period start
+pub record Rests (s : State) : Type 0 where
+  pub answer : outcomeOf tick s .answers ≡ Closed (s .head .clock) ∷ []
+  pub waits : waiting (outcomeOf tick s .after) ≡ waiting s
+  pub whole : outcomeOf tick s .after ≡ oneLater (waiting s) (clientTable s) s
+
+-- an open slot serves, so that a tick answers idle only where none waits; a closed one rests
+pub record FairTick (s : State) : Type 0 where
+  pub open-slot : isOpen (s .head .setup) (s .head .clock) ≡ true → Serves s (waiting s)
+  pub closed-slot : isOpen (s .head .setup) (s .head .clock) ≡ false → Rests s
+
+pub fair-tick : (s : State) → isRefused (outcomeOf tick s .answers) ≡ false → FairTick s
 unfolding outcomeOf
-earliest-served s e = go (waiting s) (accepted-same tick s e) (tick-ready s (accepted-none tick s e) .ready .sound .ordered)
+fair-tick s e =
+    let same = accepted-same tick s e in
+    record {
+      open-slot = λ o. serves o (waiting s) same (tick-ready s (accepted-none tick s e) .ready .sound .ordered);
+      closed-slot = λ o. rests o same;
+    }
   where
-    go : (ws : List Request) → outcomeOf tick s ≡ tickAccepted ws s → InOrder ws → Serves s ws
-    go [] same o = ap (λ (r : Outcome). r .answers) same ∙ unfold tickAccepted in refl
-    go (w ∷ ws) same o = (
-      ap (λ (r : Outcome). r .answers) same ∙ unfold tickAccepted in refl,
-      ap (λ (r : Outcome). waiting (r .after)) same ∙ ticked-waiting (w ∷ ws) s,
-      first-earliest w ws (o .0),
+    serves : isOpen (s .head .setup) (s .head .clock) ≡ true → (ws : List Request) → outcomeOf tick s ≡ tickAccepted ws s
+        → InOrder ws → Serves s ws
+    serves o [] same t = ap (λ (r : Outcome). r .answers) same ∙ unfold tickAccepted in rw o
+    serves o (w ∷ ws) same t = (
+      ap (λ (r : Outcome). r .answers) same ∙ unfold tickAccepted in rw o,
+      ap (λ (r : Outcome). waiting (r .after)) same ∙ ticked-waiting (w ∷ ws) s
+          ∙ ap (λ (n : ℕ). drop n (w ∷ ws)) (capacity-open (s .head .setup) (s .head .clock) o),
+      first-earliest w ws (t .0),
     )
+
+    rests : isOpen (s .head .setup) (s .head .clock) ≡ false → outcomeOf tick s ≡ tickAccepted (waiting s) s → Rests s
+    rests o same =
+        record {
+          answer = ap (λ (r : Outcome). r .answers) same ∙ unfold tickAccepted in rw o;
+          waits =
+              ap (λ (r : Outcome). waiting (r .after)) same ∙ ticked-waiting (waiting s) s
+              ∙ ap (λ (n : ℕ). drop n (waiting s)) (capacity-closed (s .head .setup) (s .head .clock) o);
+          whole = ap (λ (r : Outcome). r .after) same ∙ unfold tickAccepted in rw o;
+        }

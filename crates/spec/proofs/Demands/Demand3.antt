@@ -4,38 +4,47 @@
 use Prim.Native.Nat.{ℕ, _+_, _≤_}
 use mathlib.Core.Path.{_≡_, sym, ap, _∙_, subst}
 use mathlib.Core.Logic.{_↔_}
-use mathlib.Core.Bool.{false}
+use mathlib.Core.Bool.{true, false}
 use mathlib.Core.List.{List, [], map}
 use native.Mathlib.Omega.{arith}
-use lib.ListN.{length}
-use Rattle.slots.specs.Plan.{Window, Fits, Slot, at, Plan, size}
+use borrow.Author.Tests.{ltb-true, lt-ltb}
+use lib.ListN.{length, getD}
+use Rattle.slots.specs.Plan.{Window, Fits, Slot, none, at, Plan, size}
 use Rattle.slots.proofs.Laws.Sums.{All, total}
-use Rattle.slots.proofs.Single.{Distinct, distinct, distinct-plan}
+use Rattle.slots.proofs.Single.{Distinct, usable, distinct, distinct-plan}
 use Rattle.slots.proofs.Largest.{largest, reached}
 use Rattle.spec.specs.declared.types.Setup.{Setup}
 use Rattle.spec.specs.declared.types.Request.{Request}
 use Rattle.spec.specs.Every.{exists}
 use Rattle.spec.specs.Tables.{State, waiting}
-use Rattle.spec.specs.Chart.{capacityOf}
+use Rattle.spec.specs.Hours.{capacityOf, isOpen}
 use Rattle.spec.specs.Calls.Readings.{isRefused, Booking}
 use Rattle.spec.specs.Calls.Outcomes.{Outcome}
 use Rattle.spec.specs.Calls.{Call, opening, outcomeOf}
 use Rattle.spec.specs.Lists.{asked, run, Event, history, WithRefused, isOpened, ticks, bookings, servedRequests}
 use Rattle.spec.specs.Lists.{waitingRequests, windows, slotFor, ownBookings, ownPlan}
 use Rattle.spec.proofs.Demands.Words.{Numbered}
-use Rattle.spec.proofs.Laws.Room.{capacity-one}
+use Rattle.spec.proofs.Laws.Room.{capacity-most}
 use Rattle.spec.proofs.Laws.Accepted.{waiting-length}
 use Rattle.spec.proofs.Lists.Trace.{Traced, traced-open, waiting-as-many, served-as-many, along, accepted-open}
 use Rattle.spec.proofs.Lists.Largest.{Follows, queueOf, follows-open, follows-step, own-plan, as-many-both, slots-booked}
 use Rattle.spec.proofs.Lists.Passing.{WithPassing, refused-pass, none-opened, same-ticks, same-asked, same-bookings}
 use Rattle.spec.proofs.Lists.Passing.{same-served, same-waiting, same-plan}
 
--- "no slot to two of them": with what a slot can take now, a plan is just an entry for each request that fits and shares no slot
-pub plans-are : (setup : Setup) (R : List Window) (P : List Slot) → Plan (capacityOf setup) R P ↔ (Fits R P × Distinct P)
-plans-are setup R P = (
-  (λ p. (p .fits, distinct (capacityOf setup) (capacity-one setup) R P p)),
-  (λ d. distinct-plan (capacityOf setup) (capacity-one setup) R P (d .0) (d .1)),
-)
+-- "no slot to two of them", and document 02, 2.2: "A plan, likewise, may use open slots only.": with what a slot can take now, a plan is
+-- just an entry for each request that fits and shares no slot, and every slot of it is open
+pub plans-are : (setup : Setup) (R : List Window) (P : List Slot)
+    → Plan (capacityOf setup) R P ↔ (Fits R P × Distinct P × ((i s : ℕ) → getD P i none ≡ at s → isOpen setup s ≡ true))
+plans-are setup R P = (to, from)
+  where
+    heads : ℕ → ℕ
+    heads = capacityOf setup
+
+    to : Plan heads R P → Fits R P × Distinct P × ((i s : ℕ) → getD P i none ≡ at s → isOpen setup s ≡ true)
+    to p = (p .fits, distinct heads (capacity-most setup) R P p, (λ i s e. lt-ltb 0 (heads s) (usable heads R P p i s e)))
+
+    from : Fits R P × Distinct P × ((i s : ℕ) → getD P i none ≡ at s → isOpen setup s ≡ true) → Plan heads R P
+    from d = distinct-plan heads R P (d .0) (d .1) (λ i s e. ltb-true 0 (heads s) (d .2 i s e))
 
 -- what holds after a list of calls, of its calls and answers and the state that it leaves
 pub record Largest (es : List Event) (s : State) : Type 0 where
@@ -70,8 +79,8 @@ largest-of es s T B =
       held = T .sums;
       counted = omega (arith, waiting-length s (T .ready .shape), waiting-as-many es s T);
       served-once = served-as-many es s T;
-      reached = subst (Plan heads (windows es)) (own-plan es s (T .numbered)) (reached heads (queueOf es s) B .0);
-      as-many = ap size (sym (own-plan es s (T .numbered))) ∙ reached heads (queueOf es s) B .1 ∙ as-many-both es s T B;
+      reached = subst (Plan heads (windows es)) (own-plan es s T) (reached heads (queueOf es s) B .0);
+      as-many = ap size (sym (own-plan es s T)) ∙ reached heads (queueOf es s) B .1 ∙ as-many-both es s T B;
       in-place = slots-booked es s T B;
       largest = λ P p. omega (arith, largest heads (queueOf es s) B P p, as-many-both es s T B);
     }

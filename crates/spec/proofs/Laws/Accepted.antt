@@ -19,16 +19,19 @@ use Rattle.spec.specs.Tables.{zeroCounts, State, waiting, behind, holdin
 use Rattle.spec.specs.Tables.{oneMoreServed}
 use Rattle.spec.specs.Setup.{Refusal, firstMatch}
 use Rattle.spec.specs.Order.{removeAt}
+use Rattle.spec.specs.Hours.{capacityOf, isOpen}
+use Rattle.spec.specs.Chart.{roomTo}
 use Rattle.spec.specs.Sound.{isClient, isSound}
-use Rattle.spec.specs.Calls.Refusals.{isMisshapen, refusal4Open, refusal4, refusal5, refusal6, refusal7, refusal8}
+use Rattle.spec.specs.Calls.Refusals.{isMisshapen, refusal4Open, refusal4, refusal5, refusal6, refusal7, refusal15, refusal8}
 use Rattle.spec.specs.Calls.Refusals.{refusal9, refusal10, refusal11, refusal12}
 use Rattle.spec.specs.Calls.Outcomes.{Outcome, refusing, unlessRefused}
 use Rattle.spec.specs.Calls.Open.{openRefusals}
 use Rattle.spec.specs.Calls.Submit.{submitRefusals, kept, droppedAt, withNew, countedIn, requestAt}
-use Rattle.spec.specs.Calls.Tick.{tickRefusals, tickAccepted, countsAfter}
+use Rattle.spec.specs.Calls.Tick.{tickRefusals, tickAccepted, tickOpen, tickClosed, countsAfter}
 use Rattle.spec.specs.Calls.Report.{reportRefusals}
 use Rattle.spec.specs.Calls.Chart.{chartRefusals}
-use Rattle.spec.proofs.Laws.Every.{or-none}
+use Rattle.spec.proofs.Laws.Every.{or-none, Value, is-true, is-false, value}
+use Rattle.spec.proofs.Laws.Room.{capacity-open, capacity-closed}
 use Rattle.spec.proofs.Laws.Layout.{whole-records}
 use Rattle.spec.proofs.Laws.Sound.{within-test, within-refused, none-match, SetupWithin, setup-none, Shaped, Sound}
 use Rattle.spec.proofs.Laws.Sound.{sound-facts, sound-test}
@@ -119,6 +122,7 @@ pub record SubmitReady (client deadline : ℕ) (s : State) : Type 0 where
   pub exists : client < s .head .setup .clients
   pub late : suc (s .head .clock) ≤ deadline
   pub near : deadline ≤ s .head .clock + mostAhead
+  pub some-open : roomTo (s .head) deadline ≢ 0
   pub countable : getD (clientTable s) client zeroCounts .submitted ≢ mostCounted
   pub numbered : s .head .last ≢ numberEnd
   pub free : s .head .waiting ≢ length (s .waitingTable)
@@ -127,10 +131,11 @@ pub submit-ready : (client deadline : ℕ) (s : State) → firstMatch (submitRef
     → SubmitReady client deadline s
 unfolding submitRefusals
 submit-ready client deadline s e =
-    let a = ready s (refusal6 client s ∷ refusal7 deadline s ∷ refusal8 client s ∷ refusal9 s ∷ refusal10 s ∷ []) e in
-    let b = none-match (refusal6 client s) (refusal7 deadline s ∷ refusal8 client s ∷ refusal9 s ∷ refusal10 s ∷ []) (omega arith) (a .1) in
-    let c = none-match (refusal7 deadline s) (refusal8 client s ∷ refusal9 s ∷ refusal10 s ∷ []) (omega arith) (b .1) in
-    let d = none-match (refusal8 client s) (refusal9 s ∷ refusal10 s ∷ []) (omega arith) (c .1) in
+    let a = ready s (refusal6 client s ∷ refusal7 deadline s ∷ refusal15 deadline s ∷ behindHours) e in
+    let b = none-match (refusal6 client s) (refusal7 deadline s ∷ refusal15 deadline s ∷ behindHours) (omega arith) (a .1) in
+    let c = none-match (refusal7 deadline s) (refusal15 deadline s ∷ behindHours) (omega arith) (b .1) in
+    let h = none-match (refusal15 deadline s) behindHours (omega arith) (c .1) in
+    let d = none-match (refusal8 client s) (refusal9 s ∷ refusal10 s ∷ []) (omega arith) (h .1) in
     let f = none-match (refusal9 s) (refusal10 s ∷ []) (omega arith) (d .1) in
     let g = none-match (refusal10 s) [] (omega arith) (f .1) in
     let w = within-refused (suc (s .head .clock)) (s .head .clock + mostAhead) deadline (c .0) in
@@ -139,20 +144,25 @@ submit-ready client deadline s e =
       exists = ltb-true client (s .head .setup .clients) (not-false (isClient (s .head .setup .clients) client) (b .0));
       late = w .0;
       near = w .1;
+      some-open = eqb-false (roomTo (s .head) deadline) 0 (h .0);
       countable = eqb-false (getD (clientTable s) client zeroCounts .submitted) mostCounted (d .0);
       numbered = eqb-false (s .head .last) numberEnd (f .0);
       free = eqb-false (s .head .waiting) (length (s .waitingTable)) (g .0);
     }
+  where
+    behindHours : List Refusal
+    behindHours = refusal8 client s ∷ refusal9 s ∷ refusal10 s ∷ []
 
 -- The reverse: no refusal matches a submit of which these facts hold, so that they are all that an accepted submit needs.
 pub submit-none : (client deadline : ℕ) (s : State) → SubmitReady client deadline s
     → firstMatch (submitRefusals client deadline s) ≡ 0
 unfolding submitRefusals firstMatch
 submit-none client deadline s r =
-    ready-passes s (refusal6 client s ∷ refusal7 deadline s ∷ refusal8 client s ∷ refusal9 s ∷ refusal10 s ∷ []) (r .ready)
+    ready-passes s (refusal6 client s ∷ refusal7 deadline s ∷ refusal15 deadline s ∷ refusal8 client s ∷ refusal9 s ∷ refusal10 s ∷ []) (r .ready)
     ∙ rw (
       lt-ltb client (s .head .setup .clients) (r .exists),
       within-test (suc (s .head .clock)) (s .head .clock + mostAhead) deadline (r .late) (r .near),
+      ne-eqb (roomTo (s .head) deadline) 0 (r .some-open),
       ne-eqb (getD (clientTable s) client zeroCounts .submitted) mostCounted (r .countable),
       ne-eqb (s .head .last) numberEnd (r .numbered),
       ne-eqb (s .head .waiting) (length (s .waitingTable)) (r .free),
@@ -242,9 +252,25 @@ dropped-waiting k client deadline s =
     next-waiting (s .head .clock) (suc (s .head .last)) (removeAt k (withNew client deadline s))
     (change oneMoreDropped (requestAt k client deadline s .client) (countedIn client s)) s
 
-pub ticked-waiting : (ws : List Request) (s : State) → waiting (tickAccepted ws s .after) ≡ drop 1 ws
-unfolding tickAccepted nextState
-ticked-waiting [] s = refl
-ticked-waiting (w ∷ ws) s =
-    next-waiting (suc (s .head .clock)) (s .head .last) ws
-    (countsAfter (s .head .setup .period) (suc (s .head .clock)) ws (change oneMoreServed (w .client) (clientTable s))) s
+-- an open slot serves one, a closed one nobody
+pub ticked-waiting : (ws : List Request) (s : State)
+    → waiting (tickAccepted ws s .after) ≡ drop (capacityOf (s .head .setup) (s .head .clock)) ws
+unfolding tickAccepted
+ticked-waiting ws s = go (value (isOpen (s .head .setup) (s .head .clock)))
+  where
+    clock : ℕ
+    clock = suc (s .head .clock)
+
+    go : Value (isOpen (s .head .setup) (s .head .clock))
+        → waiting (cond (isOpen (s .head .setup) (s .head .clock)) (tickOpen ws s) (tickClosed ws s) .after)
+        ≡ drop (capacityOf (s .head .setup) (s .head .clock)) ws
+    go (is-true e) = rw (e, capacity-open (s .head .setup) (s .head .clock) e) (served ws)
+      where
+        served : (ws : List Request) → waiting (tickOpen ws s .after) ≡ drop 1 ws
+        served [] = next-waiting clock (s .head .last) [] (countsAfter (s .head .setup .period) clock [] (clientTable s)) s
+        served (w ∷ ws) =
+            next-waiting clock (s .head .last) ws
+            (countsAfter (s .head .setup .period) clock ws (change oneMoreServed (w .client) (clientTable s))) s
+    go (is-false e) =
+        rw (e, capacity-closed (s .head .setup) (s .head .clock) e)
+        (next-waiting clock (s .head .last) ws (countsAfter (s .head .setup .period) clock ws (clientTable s)) s)

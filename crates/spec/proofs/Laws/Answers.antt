@@ -11,7 +11,7 @@ use denote.Enum.Declared.{tagOf, variants}
 use lib.Dec.{eqb}
 use lib.ListN.{take, drop}
 use Rattle.spec.specs.declared.types.Answer.{Answer}
-use Rattle.spec.specs.declared.types.Answer.the-variants.{Opened, Kept, Dropped, Served, Idle, Reported, Charted, Refused}
+use Rattle.spec.specs.declared.types.Answer.the-variants.{Opened, Kept, Dropped, Served, Idle, Reported, Charted, Closed, Refused}
 use Rattle.spec.specs.Calls.Readings.{kindOf, valuesOf, reading}
 use Rattle.spec.specs.Lines.Frames.{segmentKind}
 use Rattle.spec.specs.Lines.Printed.{answerWith}
@@ -90,6 +90,7 @@ readable (Charted count) =
       unrefused = λ other. refl;
       read-off = λ line r i. Charted (r .0 i);
     }
+readable (Closed slot) = other-readable _ (omega arith) refl refl refl refl (λ line r i. Closed (r .0 i))
 readable (Refused number) =
     record {
       kind-byte = omega arith;

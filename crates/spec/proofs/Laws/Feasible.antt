@@ -13,7 +13,8 @@ use Rattle.spec.specs.declared.types.Head.{Head}
 use Rattle.spec.specs.declared.types.Request.{Request}
 use Rattle.spec.specs.Every.{toNumber, countIf}
 use Rattle.spec.specs.Order.{putInOrder, removeAt}
-use Rattle.spec.specs.Chart.{room, roomTo, dueBy, isOverfull, hasNoOverfull, Search, nothing, found, searchOverfull}
+use Rattle.spec.specs.Chart.{roomTo, dueBy, isOverfull, hasNoOverfull, Search, nothing, found, searchOverfull}
+use Rattle.spec.specs.Hours.{room}
 use Rattle.spec.specs.Chart.{firstOverfull}
 use Rattle.spec.proofs.Laws.Room.{room-mono}
 use Rattle.spec.proofs.Laws.Every.{number-yes, number-no, every-facts, every-test, count-total, number-most}

@@ -5,7 +5,7 @@ use mathlib.Core.Logic.{_≢_}
 use mathlib.Core.Bool.{Bool, true, false, not, cond, _&&_, and-eq-true-iff}
 use mathlib.Core.List.{List, [], _∷_, _++_}
 use native.Mathlib.Omega.{arith}
-use borrow.Author.Tests.{leb-true, ltb-true, eqb-true, le-leb, lt-ltb, eq-eqb, not-false}
+use borrow.Author.Tests.{leb-true, ltb-true, eqb-true, eqb-false, le-leb, lt-ltb, eq-eqb, ne-eqb, not-false}
 use lib.Dec.{leb, eqb}
 use lib.ListN.{length, getD, replicate}
 use Rattle.slots.proofs.Laws.Sums.{All, all-imp}
@@ -14,9 +14,10 @@ use Rattle.spec.specs.declared.types.Head.{Head}
 use Rattle.spec.specs.declared.types.Request.{Request}
 use Rattle.spec.specs.declared.types.Counts.{Counts}
 use Rattle.spec.specs.Every.{isWithin, every}
-use Rattle.spec.specs.Tables.{mostClients, mostRecords, mostCounted, clockEnd, numberEnd, mostPeriod, mostAhead}
+use Rattle.spec.specs.Tables.{mostClients, mostRecords, mostCounted, clockEnd, numberEnd, mostPeriod, mostPerHour, mostAhead}
 use Rattle.spec.specs.Tables.{clientTable, clientWidth, zeroRequest, zeroCounts, State, waiting, behind}
-use Rattle.spec.specs.Setup.{Refusal, firstMatch, refusal2, refusal3, setupRefusals}
+use Rattle.spec.specs.Setup.{Refusal, firstMatch, refusal2, refusal3, refusal13, refusal14, setupRefusals}
+use Rattle.spec.specs.Hours.{openHours}
 use Rattle.spec.specs.Sound.{isHeadWithin, isAhead, isGiven, isClient, isZeroRequest, waitingOf, isBalanced, isSound}
 use Rattle.spec.proofs.Laws.Every.{and-left, and-right, and-both, every-facts, every-test, everyFrom-facts}
 use Rattle.spec.proofs.Laws.Every.{everyFrom-test}
@@ -51,17 +52,38 @@ pub record SetupWithin (setup : Setup) : Type 0 where
   pub most-clients : setup .clients ≤ mostClients
   pub some-period : 1 ≤ setup .period
   pub most-period : setup .period ≤ mostPeriod
+  pub some-slots : 1 ≤ setup .hour
+  pub most-slots : setup .hour ≤ mostPerHour
+  pub some-open : 1 ≤ openHours setup
 
 -- none of a setup's refusals matches, nor of those behind
 pub setup-none : (setup : Setup) (rs : List Refusal) → firstMatch (setupRefusals setup ++ rs) ≡ 0
     → SetupWithin setup × (firstMatch rs ≡ 0)
 unfolding setupRefusals
 setup-none setup rs e =
-    let p = none-match (refusal2 setup) (refusal3 setup ∷ rs) (omega arith) e in
-    let q = none-match (refusal3 setup) rs (omega arith) (p .1) in
+    let p = none-match (refusal2 setup) (refusal3 setup ∷ refusal13 setup ∷ refusal14 setup ∷ rs) (omega arith) e in
+    let q = none-match (refusal3 setup) (refusal13 setup ∷ refusal14 setup ∷ rs) (omega arith) (p .1) in
+    let u = none-match (refusal13 setup) (refusal14 setup ∷ rs) (omega arith) (q .1) in
+    let v = none-match (refusal14 setup) rs (omega arith) (u .1) in
     let c = within-refused 1 mostClients (setup .clients) (p .0) in
     let d = within-refused 1 mostPeriod (setup .period) (q .0) in
-    (record { some-clients = c .0; most-clients = c .1; some-period = d .0; most-period = d .1 }, q .1)
+    let h = within-refused 1 mostPerHour (setup .hour) (u .0) in
+    let o = eqb-false (openHours setup) 0 (v .0) in (
+      record {
+        some-clients = c .0;
+        most-clients = c .1;
+        some-period = d .0;
+        most-period = d .1;
+        some-slots = h .0;
+        most-slots = h .1;
+        some-open = some (openHours setup) o;
+      },
+      v .1,
+    )
+  where
+    some : (n : ℕ) → n ≢ 0 → 1 ≤ n
+    some zero n = absurd (n refl)
+    some (suc n) _ = omega arith
 
 -- where a setup is within its bounds, its refusals pass
 pub setup-passes : (setup : Setup) (rs : List Refusal) → SetupWithin setup
@@ -71,6 +93,8 @@ setup-passes setup rs f =
     rw (
       within-test 1 mostClients (setup .clients) (f .some-clients) (f .most-clients),
       within-test 1 mostPeriod (setup .period) (f .some-period) (f .most-period),
+      within-test 1 mostPerHour (setup .hour) (f .some-slots) (f .most-slots),
+      ne-eqb (openHours setup) 0 (λ e. omega (arith, f .some-open)),
     )
 
 -- ---- the head

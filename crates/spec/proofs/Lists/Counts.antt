@@ -13,16 +13,16 @@ use Rattle.spec.specs.declared.types.Setup.{Setup}
 use Rattle.spec.specs.declared.types.Request.{Request}
 use Rattle.spec.specs.declared.types.Counts.{Counts}
 use Rattle.spec.specs.declared.types.Answer.{Answer}
-use Rattle.spec.specs.declared.types.Answer.the-variants.{Served, Idle}
+use Rattle.spec.specs.declared.types.Answer.the-variants.{Served, Idle, Closed}
 use Rattle.spec.specs.Every.{toNumber, exists, countIf, mapFrom}
 use Rattle.spec.specs.Tables.{zeroCounts, State, waiting, nextState, clientTable, change, oneMoreSubmitted}
 use Rattle.spec.specs.Tables.{oneMoreServed, oneMoreDropped}
 use Rattle.spec.specs.Sound.{waitingOf}
-use Rattle.spec.specs.Calls.Readings.{isRefused, Victim}
+use Rattle.spec.specs.Calls.Readings.{isRefused, Victim, reading, nobody}
 use Rattle.spec.specs.Calls.Outcomes.{Outcome}
 use Rattle.spec.specs.Calls.Open.{openAccepted}
 use Rattle.spec.specs.Calls.Submit.{countedIn, kept, droppedAt, victimPlace, requestAt}
-use Rattle.spec.specs.Calls.Tick.{isPeriodStart, restarted, oneLater, tickAccepted}
+use Rattle.spec.specs.Calls.Tick.{isPeriodStart, restarted, oneLater, tickOpen}
 use Rattle.spec.specs.Calls.Report.{reportAccepted, reportAnswer}
 use Rattle.spec.specs.Calls.{Call, submit, tick, report, outcomeOf, opening}
 use Rattle.spec.specs.Lists.{run, history, Event, isOpened, isTick, ticks, Asked, waitingRequests, waitingBy, submitters}
@@ -33,7 +33,7 @@ use Rattle.spec.proofs.Laws.Every.{count-total, length-mapFrom, getD-ma
 use Rattle.spec.proofs.Laws.Accepted.{next-waiting, ReportReady, report-ready}
 use Rattle.spec.proofs.Calls.Refused.{accepted-none, accepted-same}
 use Rattle.spec.proofs.Lists.Trace.{Then, Traced, event, Submitted, keeps, drops, submitted-cases, Step, submits, serves}
-use Rattle.spec.proofs.Lists.Trace.{passes, traced-open, traced-step, along, accepted-open}
+use Rattle.spec.proofs.Lists.Trace.{passes, Ticked, idles, serves-first, rests, ticked-cases, traced-open, traced-step, along, accepted-open}
 
 -- ---- what one event adds
 abbrev adding : ℕ → ℕ → ℕ → Counts → Counts
@@ -244,13 +244,18 @@ module _ (period : ℕ) (es : List Event) (s : State) (C : Counted period es s) 
             ∙ sym (since-starts period c e es (sym starts-same ∙ p))
         table false p c h = f c h ∙ sym (since-adds period c e es (sym starts-same ∙ p))
 
-  counted-tick : (ws : List Request) → s .head .clock ≡ ticks es → Then Traced tick (tickAccepted ws s) es
-      → Then (Counted period) tick (tickAccepted ws s) es
-  unfolding tickAccepted
-  counted-tick [] k T =
-      counted-later [] (clientTable s) (Idle (s .head .clock) ∷ []) refl k T
-      (λ c h. C .counts-are c h ∙ sym (rw (named-none c) (adding-none (countsSince period c es))))
-  counted-tick (w ∷ ws) k T =
+  -- nobody is served: no count changes
+  counted-unserved : (ws : List Request) (a : Answer) → reading a .refuses ≡ false → reading a .names ≡ nobody → s .head .clock ≡ ticks es
+      → Traced (event tick (a ∷ []) ∷ es) (oneLater ws (clientTable s) s)
+      → Counted period (event tick (a ∷ []) ∷ es) (oneLater ws (clientTable s) s)
+  counted-unserved ws a u n k T =
+      counted-later ws (clientTable s) (a ∷ []) u k T
+      (λ c h. C .counts-are c h ∙ sym (rw (u, n, named-none c) (adding-none (countsSince period c es))))
+
+  -- the first is served
+  counted-served : (w : Request) (ws : List Request) → s .head .clock ≡ ticks es
+      → Then Traced tick (tickOpen (w ∷ ws) s) es → Then (Counted period) tick (tickOpen (w ∷ ws) s) es
+  counted-served w ws k T =
       counted-later ws (change oneMoreServed (w .client) (clientTable s)) answers refl k T
       (λ c h. table c (omega (arith, length-change oneMoreServed (w .client) (clientTable s))))
     where
@@ -266,6 +271,12 @@ module _ (period : ℕ) (es : List Event) (s : State) (C : Counted period es s) 
           ∙ ap (adding 0 (toNumber (eqb c (w .client))) 0) (C .counts-are c h)
           ∙ sym (rw (named-one c (w .client), named-none c))
 
+  counted-tick : {ws : List Request} {o : Outcome} → Ticked s ws o → s .head .clock ≡ ticks es → Then Traced tick o es
+      → Then (Counted period) tick o es
+  counted-tick (idles o) k T = counted-unserved [] (Idle (s .head .clock)) refl refl k T
+  counted-tick (serves-first w ws o) k T = counted-served w ws k T
+  counted-tick (rests ws o) k T = counted-unserved ws (Closed (s .head .clock)) refl refl k T
+
   -- ---- any call but an accepted open
   counted-step : (e : Event) (t : State) → Step s e t → Traced es s → Traced (e ∷ es) t → Counted period (e ∷ es) t
   counted-step e t (submits client deadline r) T U = go (submitted-cases client deadline s)
@@ -274,7 +285,7 @@ module _ (period : ℕ) (es : List Event) (s : State) (C : Counted period es s) 
           → Counted period (event (submit client deadline) (o .answers) ∷ es) (o .after)
       go (keeps h) = counted-kept client deadline
       go (drops h) = counted-dropped (victimPlace client deadline s) client deadline
-  counted-step e t (serves r) T U = counted-tick (waiting s) (T .clock) U
+  counted-step e t (serves r) T U = counted-tick (ticked-cases s (waiting s)) (T .clock) U
   counted-step e t (passes x p) T U =
       counted-same x (p .no-tick) (ap (map (λ (a : Asked). a .request .client)) (p .none-asked 0))
       (ap (map (λ (v : Victim). v .client)) (p .none-dropped))

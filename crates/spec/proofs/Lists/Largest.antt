@@ -1,8 +1,8 @@
 -- The tables follow the queue of crate slots, of which it is proved that served plus waiting is as many as the largest plan has.
 -- Document 01, "Lists and plans". Assumes nothing.
-use Prim.Native.Nat.{ℕ, suc, _+_, _-_, _≤_, _<_, min}
+use Prim.Native.Nat.{ℕ, suc, _+_, _≤_, _<_}
 use mathlib.Core.Path.{_≡_, refl, sym, ap, _∙_, subst, subst₂}
-use mathlib.Core.Bool.{true, false, cond, true≢false}
+use mathlib.Core.Bool.{Bool, true, false, cond, true≢false}
 use mathlib.Core.List.{List, [], _∷_, _++_, map, map-append}
 use native.Mathlib.Omega.{arith}
 use lib.Dec.{eqb}
@@ -11,38 +11,40 @@ use Rattle.slots.proofs.Room.{room as roomOf}
 use Rattle.slots.specs.Plan.{Slot, at}
 use Rattle.slots.proofs.Laws.Tests.{le, gt, order}
 use Rattle.slots.proofs.Laws.Sums.{All, all-imp, all-map, total, total-map}
-use Rattle.slots.proofs.Queue.{Entry, Booking as Booked, Queue, arrival, asking, serve, ticked as tickedQueue, Joined, Swapped}
+use Rattle.slots.proofs.Queue.{Entry, Booking as Booked, Queue, arrival, asking, serve, Joined, Swapped}
 use Rattle.slots.proofs.Laws.Sorted.{due as dueEntry, upto}
-use Rattle.slots.proofs.Reached.Chart.{plan, lookup, book}
+use Rattle.slots.proofs.Reached.Chart.{slotOf, place, plan, chart, lookup, book}
 use Rattle.slots.proofs.Both.{bookings as booking, Both, both-empty, both-ticked}
 use Rattle.slots.proofs.Reached.Agree.{Booked as IsBooked, as-booked}
 use Rattle.slots.proofs.Largest.{room-kept, room-dropped}
-use Rattle.slots.proofs.Single.{end, slots, booked, bookings-booked}
 use Rattle.spec.specs.declared.types.Setup.{Setup}
 use Rattle.spec.specs.declared.types.Request.{Request}
+use Rattle.spec.specs.declared.types.Counts.{Counts}
 use Rattle.spec.specs.Every.{countIf}
 use Rattle.spec.specs.Tables.{zeroRequest, State, waiting, nextState, clientTable, change, oneMoreDropped, oneMoreServed}
 use Rattle.spec.specs.Order.{removeAt}
-use Rattle.spec.specs.Chart.{capacityOf, roomTo, endOf, startsOf, dueBy, hasNoOverfull, Search, isCandidate}
+use Rattle.spec.specs.Chart.{roomTo, startsOf, dueBy, hasNoOverfull, Search, isCandidate}
+use Rattle.spec.specs.Hours.{capacityOf, isOpen}
 use Rattle.spec.specs.Calls.Readings.{Booking}
 use Rattle.spec.specs.Calls.Outcomes.{Outcome}
 use Rattle.spec.specs.Calls.Open.{openAccepted}
 use Rattle.spec.specs.Calls.Submit.{countedIn, submitAccepted, kept, droppedAt, withNew, newRequest, requestAt}
 use Rattle.spec.specs.Calls.Submit.{victimPlace}
-use Rattle.spec.specs.Calls.Tick.{countsAfter, tickAccepted}
+use Rattle.spec.specs.Calls.Tick.{countsAfter, oneLater, tickOpen, tickClosed, tickAccepted}
 use Rattle.spec.specs.Calls.{submit, tick}
 use Rattle.spec.specs.Lists.{Event, ticks, Asked, asked, bookings, servedRequests, waitingRequests, windowOf, windows}
 use Rattle.spec.specs.Lists.{chartBookings, slotFor, ownBookings, ownPlan}
 use Rattle.spec.proofs.Demands.Words.{Numbered}
-use Rattle.spec.proofs.Laws.Room.{capacity-one, room-capacity, capacity-next}
+use Rattle.spec.proofs.Laws.Room.{capacity-open, capacity-closed, room-capacity, capacity-next}
 use Rattle.spec.proofs.Laws.Entries.{entryOf, upto-entries, sorted-entries}
-use Rattle.spec.proofs.Laws.Every.{total-remove, all-remove}
+use Rattle.spec.proofs.Laws.Every.{Value, is-true, is-false, value, total-remove, all-remove}
 use Rattle.spec.proofs.Laws.Order.{InOrder, total-put, all-put, order-remove}
 use Rattle.spec.proofs.Laws.Feasible.{due-no, dueBy-remove, Feasible, feasible-facts, feasible-test, Verdict, fine, over}
 use Rattle.spec.proofs.Laws.Feasible.{verdict}
-use Rattle.spec.proofs.Laws.Accepted.{kept-waiting, dropped-waiting, ticked-waiting, SubmitReady}
+use Rattle.spec.proofs.Laws.Accepted.{kept-waiting, dropped-waiting, next-waiting, Ready, SubmitReady}
 use Rattle.spec.proofs.Calls.Victim.{victim-place}
 use Rattle.spec.proofs.Calls.Fair.{new-ordered}
+use Rattle.spec.proofs.Calls.LatestSlots.{starts-chart}
 use Rattle.spec.proofs.Lists.Trace.{event, Traced, Submitted, keeps, drops, submitted-cases, same-ticks, same-asked}
 use Rattle.spec.proofs.Lists.Trace.{same-bookings, Step, submits, serves, passes, Then, waiting-as-many, served-as-many}
 
@@ -234,50 +236,88 @@ module _ (s : State) (es : List Event) (T : Traced es s) where
   abbrev serving : ℕ → ℕ
   serving = capacityOf (s .head .setup)
 
-  -- one is served
-  one : serving (ticks es) ≡ 1
-  one = capacity-one (s .head .setup) (ticks es)
-
-  tick-queue : (ws : List Request) → waiting s ≡ ws
-      → tickedQueue serving (queueOf es s) ≡ queueOf (event tick (tickAccepted ws s .answers) ∷ es) (tickAccepted ws s .after)
-  unfolding tickAccepted nextState ticks countIf asked bookings
-  tick-queue [] e =
-      λ i.
+  -- the queue of crate slots one slot later, with the first n served, is what an outcome leaves
+  abbrev ServesFirst : ℕ → Outcome → Type 0
+  ServesFirst n o =
       record {
-        clock = later-clock i;
-        log = serve (ticks es) (take (one i) (map entryOf (e i))) (map bookedOf (bookings es));
-        waiting = drop (one i) (map entryOf (e i));
+        clock = suc (ticks es);
+        log = serve (ticks es) (take n (map entryOf (waiting s))) (map bookedOf (bookings es));
+        waiting = drop n (map entryOf (waiting s));
         asked = windows es;
         withdrawn = 0;
       }
-  tick-queue (w ∷ ws) e =
+      ≡ queueOf (event tick (o .answers) ∷ es) (o .after)
+
+  later-waiting : (ws : List Request) (cs : List Counts) → map entryOf ws ≡ map entryOf (waiting (oneLater ws cs s))
+  later-waiting ws cs =
+      ap (map entryOf)
+      (sym (next-waiting (suc (s .head .clock)) (s .head .last) ws
+      (countsAfter (s .head .setup .period) (suc (s .head .clock)) ws cs) s))
+
+  -- an open slot serves one, if one waits
+  open-queue : (ws : List Request) → waiting s ≡ ws → ServesFirst 1 (tickOpen ws s)
+  unfolding ticks countIf asked bookings
+  open-queue [] e =
       λ i.
       record {
         clock = later-clock i;
-        log = serve (sym (T .clock) i) (take (one i) (map entryOf (e i))) (map bookedOf (bookings es));
-        waiting = rest i;
+        log = serve (ticks es) (take 1 (map entryOf (e i))) (map bookedOf (bookings es));
+        waiting = (ap (λ (l : List Request). drop 1 (map entryOf l)) e ∙ later-waiting [] (clientTable s)) i;
         asked = windows es;
         withdrawn = 0;
       }
-    where
-      rest : drop (serving (ticks es)) (map entryOf (waiting s)) ≡ map entryOf (waiting (tickAccepted (w ∷ ws) s .after))
-      rest =
-          ap (λ (n : ℕ). drop n (map entryOf (waiting s))) one
-          ∙ ap (λ (l : List Request). drop 1 (map entryOf l)) e
-          ∙ ap (map entryOf) (sym (ticked-waiting (w ∷ ws) s))
+  open-queue (w ∷ ws) e =
+      λ i.
+      record {
+        clock = later-clock i;
+        log = serve (sym (T .clock) i) (take 1 (map entryOf (e i))) (map bookedOf (bookings es));
+        waiting =
+            (ap (λ (l : List Request). drop 1 (map entryOf l)) e
+            ∙ later-waiting ws (change oneMoreServed (w .client) (clientTable s)))
+            i;
+        asked = windows es;
+        withdrawn = 0;
+      }
 
-  tick-heads : (ws : List Request) → serving ≡ capacityOf (tickAccepted ws s .after .head .setup)
+  -- a closed slot serves nobody
+  closed-queue : ServesFirst 0 (tickClosed (waiting s) s)
+  unfolding ticks countIf asked bookings
+  closed-queue =
+      λ i.
+      record {
+        clock = later-clock i;
+        log = map bookedOf (bookings es);
+        waiting = later-waiting (waiting s) (clientTable s) i;
+        asked = windows es;
+        withdrawn = 0;
+      }
+
+  tick-queue : ServesFirst (serving (ticks es)) (tickAccepted (waiting s) s)
   unfolding tickAccepted
-  tick-heads [] =
-      sym (capacity-next (suc (s .head .clock)) (s .head .last) []
-      (countsAfter (s .head .setup .period) (suc (s .head .clock)) [] (clientTable s)) s)
-  tick-heads (w ∷ ws) =
-      sym (capacity-next (suc (s .head .clock)) (s .head .last) ws
-      (countsAfter (s .head .setup .period) (suc (s .head .clock)) ws (change oneMoreServed (w .client) (clientTable s))) s)
+  tick-queue = go (value (isOpen (s .head .setup) (s .head .clock)))
+    where
+      go : Value (isOpen (s .head .setup) (s .head .clock))
+          → ServesFirst (serving (ticks es))
+          (cond (isOpen (s .head .setup) (s .head .clock)) (tickOpen (waiting s) s) (tickClosed (waiting s) s))
+      go (is-true e) =
+          let c : serving (ticks es) ≡ 1 = ap serving (sym (T .clock)) ∙ capacity-open (s .head .setup) (s .head .clock) e in
+          rw (e, c) (open-queue (waiting s) refl)
+      go (is-false e) =
+          let c : serving (ticks es) ≡ 0 = ap serving (sym (T .clock)) ∙ capacity-closed (s .head .setup) (s .head .clock) e in
+          rw (e, c) closed-queue
+
+  tick-heads : serving ≡ capacityOf (tickAccepted (waiting s) s .after .head .setup)
+  unfolding tickAccepted nextState
+  tick-heads = go (isOpen (s .head .setup) (s .head .clock)) (waiting s)
+    where
+      go : (b : Bool) (ws : List Request) → serving ≡ capacityOf (cond b (tickOpen ws s) (tickClosed ws s) .after .head .setup)
+      go true [] = refl
+      go true (w ∷ ws) = refl
+      go false ws = refl
 
   follows-tick : Follows es s → Then Follows tick (tickAccepted (waiting s) s) es
   follows-tick B =
-      subst₂ Both (tick-heads (waiting s)) (tick-queue (waiting s) refl) (both-ticked serving (queueOf es s) B)
+      subst₂ Both tick-heads tick-queue (both-ticked serving (queueOf es s) B)
 
 -- ---- every step
 pub follows-step : (s : State) (e : Event) (t : State) (es : List Event) → Step s e t → Traced es s → Follows es s
@@ -292,16 +332,19 @@ unfolding slotFor
 lookup-slot n [] = refl
 lookup-slot n (b ∷ bs) = ap (λ (p : Slot). cond (eqb n (b .number)) (at (b .slot)) p) (lookup-slot n bs)
 
--- a request ends where the chart says
-end-chart : (setup : Setup) (w : Request) (ws : List Request) → endOf w (startsOf setup ws) ≡ end (w .deadline) (map entryOf ws)
-unfolding startsOf
-end-chart setup w [] = refl
-end-chart setup w (v ∷ ws) = ap (λ (n : ℕ). min (w .deadline) (n - 1)) (end-chart setup v ws)
+abbrev slotIn : Booked → ℕ
+slotIn b = b .slot
 
-slots-chart : (setup : Setup) (ws : List Request) → map bookedOf (chartBookings ws (startsOf setup ws)) ≡ slots (map entryOf ws)
-unfolding startsOf chartBookings
-slots-chart setup [] = refl
-slots-chart setup (w ∷ ws) = λ i. record { number = w .number; slot = end-chart setup w ws i - 1 } ∷ slots-chart setup ws i
+-- the chart's bookings, with the slots that crate slots has for them
+chart-bookings : (heads : ℕ → ℕ) (ws : List Request)
+    → map bookedOf (chartBookings ws (map slotIn (chart heads (map entryOf ws)))) ≡ chart heads (map entryOf ws)
+unfolding chartBookings
+chart-bookings heads [] = refl
+chart-bookings heads (w ∷ ws) =
+    ap (λ (bs : List Booked). record { number = w .number; slot = start } ∷ bs) (chart-bookings heads ws)
+  where
+    start : ℕ
+    start = slotOf heads (w .deadline) (place heads (entryOf w) (map entryOf ws))
 
 -- the requests are numbered from the last down to 1
 book-numbered : (bs : List Booking) (rs : List Asked) → Numbered rs
@@ -315,20 +358,24 @@ book-numbered bs (a ∷ rs) n = λ i. first i ∷ book-numbered bs rs (n .1) i
     first : lookup (suc (length (map windowOf rs))) (map bookedOf bs) ≡ slotFor bs (a .request .number)
     first = ap (λ (m : ℕ). lookup m (map bookedOf bs)) number ∙ sym (lookup-slot (a .request .number) bs)
 
-booked-own : (es : List Event) (s : State) → booked (queueOf es s) ≡ map bookedOf (ownBookings es s)
-booked-own es s =
-    ap (λ (bs : List Booked). map bookedOf (bookings es) ++ bs) (sym (slots-chart (s .head .setup) (waiting s)))
+-- the bookings of the queue of crate slots are those of the list and of the chart
+booked-here : (es : List Event) (s : State) → Ready s
+    → booking (capacityOf (s .head .setup)) (queueOf es s) ≡ map bookedOf (ownBookings es s)
+booked-here es s r =
+    ap (λ (bs : List Booked). map bookedOf (bookings es) ++ bs)
+    (sym (chart-bookings heads (waiting s)) ∙ ap (λ (l : List ℕ). map bookedOf (chartBookings (waiting s) l)) (sym starts))
     ∙ sym (map-append bookedOf (bookings es) (chartBookings (waiting s) (startsOf (s .head .setup) (waiting s))))
+  where
+    heads : ℕ → ℕ
+    heads = capacityOf (s .head .setup)
 
--- with one served in each slot, as the queue of crate slots has it
-booked-here : (es : List Event) (s : State) → booking (capacityOf (s .head .setup)) (queueOf es s) ≡ map bookedOf (ownBookings es s)
-booked-here es s =
-    bookings-booked (capacityOf (s .head .setup)) (capacity-one (s .head .setup)) (queueOf es s) ∙ booked-own es s
+    starts : startsOf (s .head .setup) (waiting s) ≡ map slotIn (chart heads (map entryOf (waiting s)))
+    starts = starts-chart (s .head) (s .head .clock) (waiting s) (r .sound .ordered) (r .sound .feasible)
 
-pub own-plan : (es : List Event) (s : State) → Numbered (asked es) → plan (capacityOf (s .head .setup)) (queueOf es s) ≡ ownPlan es s
+pub own-plan : (es : List Event) (s : State) → Traced es s → plan (capacityOf (s .head .setup)) (queueOf es s) ≡ ownPlan es s
 unfolding ownPlan
-own-plan es s n =
-    ap (book (length (windows es))) (booked-here es s) ∙ book-numbered (ownBookings es s) (asked es) n
+own-plan es s T =
+    ap (book (length (windows es))) (booked-here es s (T .ready)) ∙ book-numbered (ownBookings es s) (asked es) (T .numbered)
 
 -- ---- what demand 3 says of them
 module _ (es : List Event) (s : State) (T : Traced es s) (B : Follows es s) where
@@ -349,7 +396,7 @@ module _ (es : List Event) (s : State) (T : Traced es s) (B : Follows es s) wher
       all-imp (λ (b : Booking). IsBooked (map bookedOf bs) (bookedOf b)) (λ (b : Booking). slotFor bs (b .number) ≡ at (b .slot)) bs
       (λ b e. lookup-slot (b .number) bs ∙ e)
       (all-unmap (IsBooked (map bookedOf bs)) bookedOf bs
-      (subst (λ (l : List Booked). All (IsBooked l) l) (booked-here es s) (as-booked (capacityOf (s .head .setup)) (queueOf es s) B)))
+      (subst (λ (l : List Booked). All (IsBooked l) l) (booked-here es s (T .ready)) (as-booked (capacityOf (s .head .setup)) (queueOf es s) B)))
     where
       bs : List Booking
       bs = ownBookings es s

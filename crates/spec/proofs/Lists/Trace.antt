@@ -14,17 +14,20 @@ use Rattle.slots.proofs.Laws.Sums.{one, one-yes, one-no, one-most, All, all-eac
 use Rattle.slots.proofs.Laws.Sums.{total-map, total-one, total-cons}
 use Rattle.spec.specs.declared.types.Setup.{Setup}
 use Rattle.spec.specs.declared.types.Request.{Request}
+use Rattle.spec.specs.declared.types.Counts.{Counts}
 use Rattle.spec.specs.declared.types.Answer.{Answer}
+use Rattle.spec.specs.declared.types.Answer.the-variants.{Served, Idle, Closed}
 use Rattle.spec.specs.Every.{exists, countIf, select}
-use Rattle.spec.specs.Tables.{zeroRequest, State, waiting, nextState}
+use Rattle.spec.specs.Tables.{zeroRequest, State, waiting, nextState, clientTable, change, oneMoreServed}
+use Rattle.spec.specs.Hours.{isOpen}
 use Rattle.spec.specs.Setup.{firstMatch}
 use Rattle.spec.specs.Order.{removeAt}
 use Rattle.spec.specs.Chart.{hasNoOverfull}
-use Rattle.spec.specs.Calls.Readings.{isRefused, Booking, Victim, victimsBy}
+use Rattle.spec.specs.Calls.Readings.{isRefused, Booking, Victim, victimsBy, reading, nobody}
 use Rattle.spec.specs.Calls.Outcomes.{Outcome}
 use Rattle.spec.specs.Calls.Open.{openAccepted}
 use Rattle.spec.specs.Calls.Submit.{submitAccepted, kept, droppedAt, withNew, newRequest, requestAt, victimPlace}
-use Rattle.spec.specs.Calls.Tick.{tickAccepted}
+use Rattle.spec.specs.Calls.Tick.{countsAfter, oneLater, tickAccepted, tickOpen, tickClosed}
 use Rattle.spec.specs.Calls.{Call, opening, submit, tick, outcomeOf, acceptedOf, refusalsOf, meaning}
 use Rattle.spec.specs.Lists.{run, Event, history, isOpened, isTick, ticks, Asked, askedBy, asked, servedIn, bookings}
 use Rattle.spec.specs.Lists.{victims, servedRequests, waitingRequests, refusedEvent}
@@ -33,7 +36,7 @@ use Rattle.spec.proofs.Laws.Every.{total-same, total-add, total-select,
 use Rattle.spec.proofs.Laws.Every.{is-false, value, cond-true, cond-false, total-remove}
 use Rattle.spec.proofs.Laws.Order.{total-put, all-put}
 use Rattle.spec.proofs.Laws.Sound.{Given}
-use Rattle.spec.proofs.Laws.Accepted.{kept-waiting, dropped-waiting, ticked-waiting, Ready, OpenReady, SubmitReady}
+use Rattle.spec.proofs.Laws.Accepted.{kept-waiting, dropped-waiting, next-waiting, Ready, OpenReady, SubmitReady}
 use Rattle.spec.proofs.Laws.Accepted.{TickReady, open-ready, submit-ready, tick-ready, Decided, accepts, refuses}
 use Rattle.spec.proofs.Calls.CallKinds.{ReadsOnly, CallKind, is-open, is-submit, is-tick, reads-only, call-kind}
 use Rattle.spec.proofs.Calls.Refused.{outcome-decided, accepted-none, accepted-same}
@@ -429,25 +432,85 @@ traced-submit client deadline s es r T = go (submitted-cases client deadline s) 
         traced-dropped client deadline s es T (victimPlace client deadline s) (victim-place client deadline s r .0) q
 
 -- ---- tick
+-- none waits, the first is served, or the slot is closed
+pub data Ticked (s : State) : List Request → Outcome → Type 0 where
+  idles : isOpen (s .head .setup) (s .head .clock) ≡ true → Ticked s [] (tickOpen [] s)
+  serves-first :
+      (w : Request) (ws : List Request) → isOpen (s .head .setup) (s .head .clock) ≡ true → Ticked s (w ∷ ws) (tickOpen (w ∷ ws) s)
+  rests : (ws : List Request) → isOpen (s .head .setup) (s .head .clock) ≡ false → Ticked s ws (tickClosed ws s)
+
+pub ticked-cases : (s : State) (ws : List Request) → Ticked s ws (tickAccepted ws s)
+unfolding tickAccepted
+ticked-cases s ws = go (isOpen (s .head .setup) (s .head .clock)) refl ws
+  where
+    go : (x : Bool) → isOpen (s .head .setup) (s .head .clock) ≡ x → (ws : List Request)
+        → Ticked s ws (cond x (tickOpen ws s) (tickClosed ws s))
+    go true e [] = idles e
+    go true e (w ∷ ws) = serves-first w ws e
+    go false e ws = rests ws e
+
+-- what waits a slot later
+later-waiting : (ws : List Request) (cs : List Counts) (s : State) → waiting (oneLater ws cs s) ≡ ws
+later-waiting ws cs s =
+    next-waiting (suc (s .head .clock)) (s .head .last) ws
+    (countsAfter (s .head .setup .period) (suc (s .head .clock)) ws cs) s
+
+-- a tick whose answer names nobody
+module _ (a : Answer) (u : reading a .refuses ≡ false) (n : reading a .names ≡ nobody) (es : List Event) where
+  abbrev nameless : Event
+  nameless = event tick (a ∷ [])
+
+  one-tick : ticks (nameless ∷ es) ≡ 1 + ticks es
+  unfolding ticks countIf
+  one-tick = rw u
+
+  no-asked : asked (nameless ∷ es) ≡ asked es
+  unfolding asked
+  no-asked = rw u
+
+  no-bookings : bookings (nameless ∷ es) ≡ bookings es
+  unfolding bookings
+  no-bookings = rw (u, n)
+
+  no-victims : victims (nameless ∷ es) ≡ victims es
+  unfolding victims
+  no-victims = rw n
+
+  no-waiting : waitingRequests (nameless ∷ es) ≡ waitingRequests es
+  unfolding waitingRequests
+  no-waiting = rw (no-asked, no-bookings, no-victims)
+
+  no-served : servedRequests (nameless ∷ es) ≡ servedRequests es
+  unfolding servedRequests
+  no-served =
+      λ i. select (λ (a : Asked). exists (λ (b : Booking). eqb (b .number) (a .request .number)) (no-bookings i)) (no-asked i)
+
 module _ (s : State) (es : List Event) (T : Traced es s) where
-  traced-ticked : (ws : List Request) → waiting s ≡ ws → Ready (tickAccepted ws s .after)
-      → Then Traced tick (tickAccepted ws s) es
-  unfolding tickAccepted nextState ticks countIf asked bookings victims exists total removeAt
-  traced-ticked [] e r =
+  abbrev servedLater : Request → List Request → State
+  servedLater w ws = oneLater ws (change oneMoreServed (w .client) (clientTable s)) s
+
+  -- nobody is served, since none waits or the slot is closed: the answer names nobody, and all go on waiting
+  traced-unserved : (a : Answer) → reading a .refuses ≡ false → reading a .names ≡ nobody → Ready (oneLater (waiting s) (clientTable s) s)
+      → Traced (event tick (a ∷ []) ∷ es) (oneLater (waiting s) (clientTable s) s)
+  unfolding nextState
+  traced-unserved a u n r =
       record {
         ready = r;
-        clock = omega (arith, T .clock);
-        last = T .last;
-        numbered = T .numbered;
-        bookings-given = T .bookings-given;
-        victims-given = T .victims-given;
-        sums = λ f. waiting-total f now ∙ sym (waiting-total f es) ∙ T .sums f ∙ ap (total f) e;
-        served = λ f. served-total (known f) now ∙ sym (served-total (known f) es) ∙ T .served f;
+        clock = omega (arith, T .clock, one-tick a u n es);
+        last = rw (no-asked a u n es) (T .last);
+        numbered = rw (no-asked a u n es) (T .numbered);
+        bookings-given = rw (no-asked a u n es, no-bookings a u n es) (T .bookings-given);
+        victims-given = rw (no-asked a u n es, no-victims a u n es) (T .victims-given);
+        sums =
+            λ f. rw (no-waiting a u n es) (T .sums f ∙ ap (total f) (sym (later-waiting (waiting s) (clientTable s) s)));
+        served = rw (no-served a u n es, no-bookings a u n es) (T .served);
       }
-    where
-      now : List Event
-      now = event tick (tickAccepted [] s .answers) ∷ es
-  traced-ticked (w ∷ ws) e r =
+
+  -- the first is served
+  traced-served : (w : Request) (ws : List Request) → waiting s ≡ w ∷ ws → Ready (servedLater w ws)
+      → Traced (event tick (Served (s .head .clock) (w .number) (w .client) ∷ []) ∷ es) (servedLater w ws)
+  unfolding nextState ticks countIf asked bookings victims exists total removeAt
+  traced-served w ws e r =
       record {
         ready = r;
         clock = omega (arith, T .clock);
@@ -458,7 +521,7 @@ module _ (s : State) (es : List Event) (T : Traced es s) where
         sums =
             λ f. waiting-total f now
             ∙ sums-left (isNamed es) (asked es) (w ∷ ws) 0 (T .numbered) old (omega arith) (isNamed now) named-now f
-            ∙ ap (total f) (sym (ticked-waiting (w ∷ ws) s));
+            ∙ ap (total f) (sym (later-waiting ws (change oneMoreServed (w .client) (clientTable s)) s));
         served =
             λ f. served-total (known f) now
             ∙ sums-passing (isNamed es) (asked es) (w ∷ ws) 0 (T .numbered) old (omega arith) (isServedNumber es)
@@ -467,7 +530,7 @@ module _ (s : State) (es : List Event) (T : Traced es s) where
       }
     where
       now : List Event
-      now = event tick (tickAccepted (w ∷ ws) s .answers) ∷ es
+      now = event tick (Served (s .head .clock) (w .number) (w .client) ∷ []) ∷ es
 
       old : (f : Request → ℕ) → total (failing (isNamed es) f) (asked es) ≡ total f (w ∷ ws)
       old f = sym (waiting-total f es) ∙ T .sums f ∙ ap (total f) e
@@ -485,8 +548,19 @@ module _ (s : State) (es : List Event) (T : Traced es s) where
           let g : All (Given (s .head .last)) (w ∷ ws) = subst (All (Given (s .head .last))) e (T .ready .sound .given) in
           omega (arith, g .0, T .last)
 
+  traced-ticked : (ws : List Request) {o : Outcome} → waiting s ≡ ws → Ticked s ws o → Ready (o .after) → Then Traced tick o es
+  traced-ticked ws e (idles o) r =
+      let same = ap (λ (l : List Request). oneLater l (clientTable s) s) e in
+      subst (Traced (event tick (Idle (s .head .clock) ∷ []) ∷ es)) same
+      (traced-unserved (Idle (s .head .clock)) refl refl (subst Ready (sym same) r))
+  traced-ticked ws e (serves-first v vs o) r = traced-served v vs e r
+  traced-ticked ws e (rests vs o) r =
+      let same = ap (λ (l : List Request). oneLater l (clientTable s) s) e in
+      subst (Traced (event tick (Closed (s .head .clock) ∷ []) ∷ es)) same
+      (traced-unserved (Closed (s .head .clock)) refl refl (subst Ready (sym same) r))
+
 pub traced-tick : (s : State) (es : List Event) → TickReady s → Traced es s → Then Traced tick (tickAccepted (waiting s) s) es
-traced-tick s es r T = traced-ticked s es T (waiting s) refl (tick-keeps s r)
+traced-tick s es r T = traced-ticked s es T (waiting s) refl (ticked-cases s (waiting s)) (tick-keeps s r)
 
 -- ---- events that leave the state: refused calls, and those that change nothing
 pub record Passing (e : Event) : Type 0 where

@@ -1,4 +1,4 @@
--- Open: document 01, "Calls". Assumes nothing.
+-- Open: document 01, "Calls", and document 02, 2.2. Assumes nothing.
 use mathlib.Core.Bool.{true, false}
 use mathlib.Core.List.{List, [], _∷_, _++_}
 use lib.ListN.{length, replicate}
@@ -9,7 +9,7 @@ use Rattle.spec.specs.Setup.{Refusal, setupRefusals}
 use Rattle.spec.specs.Calls.Refusals.{refusal4Open}
 use Rattle.spec.specs.Calls.Outcomes.{Outcome, saying, Meaning}
 
--- the refusals, in the paper's order
+-- the refusals, in the papers' order
 unfoldable pub openRefusals : Setup → State → List Refusal
 openRefusals setup s = setupRefusals setup ++ (refusal4Open (setup .clients) s ∷ [])
 

@@ -1,11 +1,11 @@
--- What an answer says: document 01, "Session lines" and "Lists and plans", and document 02, 2.1. `reading` goes by cases on answers,
+-- What an answer says: document 01, "Session lines" and "Lists and plans", and document 02, 2.1 and 2.2. `reading` goes by cases on answers,
 -- `shown` lists those that a printed line shows, and whatever else is asked of an answer is read off the two. Assumes nothing.
 use Prim.Native.Nat.{ℕ}
 use mathlib.Core.Bool.{Bool, true, false}
 use mathlib.Core.List.{List, [], _∷_}
 use lib.ListN.{getD}
 use Rattle.spec.specs.declared.types.Answer.{Answer}
-use Rattle.spec.specs.declared.types.Answer.the-variants.{Opened, Kept, Dropped, Served, Idle, Reported, Charted, Refused}
+use Rattle.spec.specs.declared.types.Answer.the-variants.{Opened, Kept, Dropped, Served, Idle, Reported, Charted, Closed, Refused}
 use Rattle.spec.specs.Every.{gather, firstOr}
 
 -- "widths in bytes in brackets": a number and its width in bytes
@@ -65,7 +65,8 @@ says kind fields names = record { kind = kind; fields = fields; refuses = false;
 -- "Kinds out: 81 opened; 82 kept, number (8), place (2); 83 dropped, new number (8), victim (8), victim's client (2); 84 served, slot
 -- (8), number (8), client (2); 85 idle, slot (8); 86 report, client (2), submitted (4), served (4), dropped (4), waiting (2); ..; 88,
 -- segment count (2); FF refusal, number (1)." A chart's value is its count of start slots; where a session prints 88, it puts the
--- segment count there. Document 02, 2.1: "Frames 82 and 83 end with it, in 2 bytes": with the shift
+-- segment count there. Document 02, 2.1: "Frames 82 and 83 end with it, in 2 bytes": with the shift; 2.2: "tick answers 89 with the slot
+-- (8)"
 abbrev pub reading : Answer → Reading
 reading Opened = says 0x81 [] nobody
 reading (Kept number place shift) =
@@ -79,6 +80,7 @@ reading (Reported client submitted served dropped waiting) =
     says 0x86 (field 2 client ∷ field 4 submitted ∷ field 4 served ∷ field 4 dropped ∷ field 2 waiting ∷ []) nobody
 reading (Charted count) =
     record { kind = 0x88; fields = field 2 count ∷ []; refuses = false; names = nobody; charted = count ∷ [] }
+reading (Closed slot) = says 0x89 (field 8 slot ∷ []) nobody
 reading (Refused number) =
     record { kind = 0xFF; fields = field 1 number ∷ []; refuses = true; names = nobody; charted = [] }
 
@@ -93,6 +95,7 @@ shown =
     ∷ (λ values. Idle (getD values 0 0))
     ∷ (λ values. Reported (getD values 0 0) (getD values 1 0) (getD values 2 0) (getD values 3 0) (getD values 4 0))
     ∷ (λ values. Charted (getD values 0 0))
+    ∷ (λ values. Closed (getD values 0 0))
     ∷ []
 
 abbrev pub kindOf : Answer → ℕ

@@ -1,5 +1,5 @@
--- The refusals from 4 on: document 01, "Refusals, first match wins". Those of a setup, 2 and 3, stand in `Setup`, and each call's own
--- list of refusals in its file. Assumes nothing.
+-- The refusals from 4 on: document 01, "Refusals, first match wins", and document 02, 2.2. Those of a setup, 2, 3, 13 and 14, stand in
+-- `Setup`, and each call's own list of refusals in its file. Assumes nothing.
 use Prim.Native.Nat.{ℕ, _*_}
 use mathlib.Core.Bool.{Bool, not, _||_}
 use mathlib.Core.List.{List}
@@ -8,6 +8,7 @@ use lib.ListN.{length, getD}
 use Rattle.spec.specs.Every.{isWithin}
 use Rattle.spec.specs.Tables.{mostRecords, mostCounted, clockEnd, numberEnd, zeroCounts, State, clientTable, clientWidth}
 use Rattle.spec.specs.Setup.{Refusal}
+use Rattle.spec.specs.Chart.{roomTo}
 use Rattle.spec.specs.Sound.{isAhead, isClient, isSound}
 
 -- "4. All calls: the waiting table has no records or more than 2,048, or the client table's length differs from the number of
@@ -35,6 +36,10 @@ refusal6 client s = record { number = 6; holds = not (isClient (s .head .setup .
 -- "7. Submit: the deadline is not after the clock, or more than 65,535 after it, all slots counted."
 abbrev pub refusal7 : ℕ → State → Refusal
 refusal7 deadline s = record { number = 7; holds = not (isAhead (s .head .clock) deadline) }
+
+-- document 02, 2.2: "15, no open slot from the clock to the deadline, after 7"
+abbrev pub refusal15 : ℕ → State → Refusal
+refusal15 deadline s = record { number = 15; holds = eqb (roomTo (s .head) deadline) 0 }
 
 -- "8. Submit: the client's submitted is 268,435,455."
 abbrev pub refusal8 : ℕ → State → Refusal

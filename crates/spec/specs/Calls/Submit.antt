@@ -1,4 +1,4 @@
--- Submit: document 01, "Calls", and document 02, 2.1. Assumes nothing.
+-- Submit: document 01, "Calls", and document 02, 2.1 and 2.2. Assumes nothing.
 use Prim.Native.Nat.{ℕ, suc}
 use mathlib.Core.Bool.{false, cond}
 use mathlib.Core.List.{List, [], _∷_}
@@ -11,16 +11,17 @@ use Rattle.spec.specs.Tables.{oneMoreDropped}
 use Rattle.spec.specs.Order.{placeOf, shiftOf, putInOrder, removeAt}
 use Rattle.spec.specs.Chart.{hasNoOverfull, victimOf}
 use Rattle.spec.specs.Setup.{Refusal}
-use Rattle.spec.specs.Calls.Refusals.{refusal4, refusal5, refusal6, refusal7, refusal8, refusal9, refusal10}
+use Rattle.spec.specs.Calls.Refusals.{refusal4, refusal5, refusal6, refusal7, refusal15, refusal8, refusal9, refusal10}
 use Rattle.spec.specs.Calls.Outcomes.{Outcome, saying, Meaning}
 
--- the refusals, in the paper's order
+-- the refusals, in the papers' order
 unfoldable pub submitRefusals : ℕ → ℕ → State → List Refusal
 submitRefusals client deadline s =
     refusal4 s
     ∷ refusal5 s
     ∷ refusal6 client s
     ∷ refusal7 deadline s
+    ∷ refusal15 deadline s
     ∷ refusal8 client s
     ∷ refusal9 s
     ∷ refusal10 s

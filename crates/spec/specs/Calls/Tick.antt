@@ -1,13 +1,14 @@
--- Tick: document 01, "Calls". Assumes nothing.
+-- Tick: document 01, "Calls", and document 02, 2.2. Assumes nothing.
 use Prim.Native.Nat.{ℕ, suc, _%_}
 use mathlib.Core.Bool.{Bool, true, false, cond}
 use mathlib.Core.List.{List, [], _∷_}
 use lib.Dec.{eqb}
 use Rattle.spec.specs.declared.types.Request.{Request}
 use Rattle.spec.specs.declared.types.Counts.{Counts}
-use Rattle.spec.specs.declared.types.Answer.the-variants.{Served, Idle}
+use Rattle.spec.specs.declared.types.Answer.the-variants.{Served, Idle, Closed}
 use Rattle.spec.specs.Every.{mapFrom}
 use Rattle.spec.specs.Tables.{zeroSetup, State, waiting, nextState, clientTable, change, oneMoreServed}
+use Rattle.spec.specs.Hours.{isOpen}
 use Rattle.spec.specs.Sound.{waitingOf}
 use Rattle.spec.specs.Setup.{Refusal}
 use Rattle.spec.specs.Calls.Refusals.{refusal4, refusal5, refusal11}
@@ -35,11 +36,18 @@ oneLater ws cs s =
 
 -- "Tick serves the first waiting record in the slot that starts at the clock, takes it out, and adds 1 to that client's served;
 -- with none waiting it answers idle."
-unfoldable pub tickAccepted : List Request → State → Outcome
-tickAccepted [] s = saying (Idle (s .head .clock)) (oneLater [] (clientTable s) s)
-tickAccepted (w ∷ ws) s =
+abbrev pub tickOpen : List Request → State → Outcome
+tickOpen [] s = saying (Idle (s .head .clock)) (oneLater [] (clientTable s) s)
+tickOpen (w ∷ ws) s =
     saying (Served (s .head .clock) (w .number) (w .client))
     (oneLater ws (change oneMoreServed (w .client) (clientTable s)) s)
+
+-- document 02, 2.2: "A closed slot serves nobody and tick answers 89 with the slot"
+abbrev pub tickClosed : List Request → State → Outcome
+tickClosed ws s = saying (Closed (s .head .clock)) (oneLater ws (clientTable s) s)
+
+unfoldable pub tickAccepted : List Request → State → Outcome
+tickAccepted ws s = cond (isOpen (s .head .setup) (s .head .clock)) (tickOpen ws s) (tickClosed ws s)
 
 abbrev pub tickMeaning : Meaning
 tickMeaning =

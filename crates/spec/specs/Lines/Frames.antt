@@ -1,5 +1,5 @@
--- Lines in and out, and the call that a line in asks for: document 01, "Session lines". Characters and bytes are numbers; a line stands
--- without its line feed. Assumes nothing.
+-- Lines in and out, and the call that a line in asks for: document 01, "Session lines", and document 02, 2.2. Characters and bytes are
+-- numbers; a line stands without its line feed. Assumes nothing.
 use Prim.Native.Nat.{ℕ, zero, suc, _+_, _-_, _*_, _/_, _%_}
 use mathlib.Core.Bool.{Bool, cond, _&&_}
 use mathlib.Core.List.{List, [], _∷_, _++_, map}
@@ -10,7 +10,7 @@ use Rattle.spec.specs.declared.types.Answer.{Answer}
 use Rattle.spec.specs.declared.types.Frame.{Frame}
 use Rattle.spec.specs.declared.types.Frame.the-variants.{Open, Submit, Tick, Report, Chart, Bad}
 use Rattle.spec.specs.Every.{isWithin, every, sum, largest}
-use Rattle.spec.specs.Tables.{setupWidth, setupOf}
+use Rattle.spec.specs.Tables.{setupOf}
 use Rattle.spec.specs.Chart.{Segment, segmentsOf}
 use Rattle.spec.specs.Calls.Readings.{Field, field, reading, kindOf, valuesOf}
 use Rattle.spec.specs.Calls.{Call, opening, submit, tick, report, chart}
@@ -63,13 +63,18 @@ pub record FrameKind : Type 0 where
   pub widths : List ℕ
   pub frame : List ℕ → Frame
 
--- "01 open, clients (2), period (4), waiting records (2)": the setup's values, and behind them the records
-abbrev pub setupWidths : List ℕ
-setupWidths = 2 ∷ 4 ∷ []
+-- document 02, 2.2: "as 4 bytes and 21 bytes, first hour in the highest bit": the slots per hour, and the marks as four numbers
+abbrev pub hourWidths : List ℕ
+hourWidths = 4 ∷ 8 ∷ 8 ∷ 4 ∷ 1 ∷ []
 
+-- "01 open, clients (2), period (4), waiting records (2)", and document 02, 2.2: "Its frame carries them after the waiting records"
 abbrev pub openKind : FrameKind
 openKind =
-    record { kind = 0x01; widths = setupWidths ++ (2 ∷ []); frame = λ values. Open (setupOf values) (getD values setupWidth 0) }
+    record {
+      kind = 0x01;
+      widths = 2 ∷ 4 ∷ 2 ∷ hourWidths;
+      frame = λ values. Open (setupOf (getD values 0 0 ∷ getD values 1 0 ∷ drop 3 values)) (getD values 2 0);
+    }
 
 -- "02 submit, client (2), deadline (8)"
 abbrev pub submitKind : FrameKind

@@ -49,10 +49,14 @@ struct Drawn<'a> {
 impl Drawn<'_> {
     /// The text: what is said of the session, and behind it the strip of signs.
     fn hold_text(&self, said: &str, strip: &str) -> Result<(), String> {
-        let expected = [vec![self.place as u64], self.list.opened().to_vec(), self.list.outcome()].concat();
+        let expected = [vec![self.place as u64], self.list.opened(), self.list.outcome()].concat();
         is_so(numbers(said) == expected, || format!("{said}: expected {expected:?}"))?;
-        let sign = |client: &Option<u64>| client.map_or('.', |client| SIGNS.chars().nth(client as usize).unwrap_or('#'));
-        let expected: String = self.list.clients_served().iter().map(sign).collect();
+        let sign = |(slot, client): (u64, Option<u64>)| match client {
+            Some(client) => SIGNS.chars().nth(client as usize).unwrap_or('#'),
+            None if self.list.is_closed(slot) => '/',
+            None => '.',
+        };
+        let expected: String = (0..).zip(self.list.clients_served()).map(sign).collect();
         // A row of signs stands behind the number of its first slot, below the word at the head.
         let margin = strip.lines().find(|line| line.trim() == "slot").map_or(0, str::len);
         let rows = strip.lines().filter_map(|line| line.split_at_checked(margin));
@@ -69,14 +73,15 @@ impl Drawn<'_> {
         is_so(came == expected, || format!("rows {rows:?}, expected {expected:?}"))
     }
 
-    /// Boxes, idle slots and crosses, where slots are drawn one by one.
+    /// Boxes, idle and closed slots and crosses, where slots are drawn one by one.
     fn hold_slots(&self, part: &str) -> Result<bool, String> {
         let titles: Vec<String> = between(part, "<title>", "</title>").into_iter().map(String::from).collect();
         if !part.contains("A box is a slot") || self.list.clients > CLIENTS {
             return Ok(false);
         }
         let idle = (0..).zip(self.list.clients_served()).filter(|(_, client)| client.is_none());
-        let idle = idle.map(|(slot, _): (u64, _)| format!("slot {slot}: nothing waits"));
+        let why = |slot: u64| if self.list.is_closed(slot) { "closed" } else { "nothing waits" };
+        let idle = idle.map(|(slot, _): (u64, _)| format!("slot {slot}: {}", why(slot)));
         let cross = |((clock, client), times): ((u64, u64), u64)| match times {
             1 => format!("clock {clock}: 1 read is dropped, of client {client}"),
             _ => format!("clock {clock}: {times} reads are dropped, of client {client}"),

@@ -1,8 +1,9 @@
 //! What the lines of a session come to, found slowly: the model answers them, and each thing is then counted by itself.
-use std::collections::BTreeMap;
-use tests::model::calls::{DROPPED, IDLE, KEPT, OPENED, REFUSED, SERVED};
-use tests::model::session::{read, session, widths_in, widths_out};
-use tests::model::{Answer, Fault};
+use std::collections::{BTreeMap, BTreeSet};
+use tests::model::calls::{CLOSED, DROPPED, IDLE, KEPT, OPENED, REFUSED, SERVED};
+use tests::model::hours::Hours;
+use tests::model::session::{call_of, read, session, widths_in, widths_out};
+use tests::model::{Answer, Call, Fault, Week};
 
 /// A line of a session with the model's answers.
 pub struct Turn<'a> {
@@ -61,6 +62,53 @@ fn rounded(number: u64, by: u64) -> [u64; 2] {
     [thousandths / 1_000, thousandths % 1_000]
 }
 
+/// So many ranges of hours are named.
+const NAMED: usize = 12;
+
+/// The hours that an open has set.
+#[derive(Clone, Copy)]
+struct Opened {
+    slots_per_hour: u64,
+    week: Week,
+}
+
+impl Opened {
+    fn of(slots_per_hour: u64, hours: Hours) -> Opened {
+        let week = Week::new(slots_per_hour, hours, Fault::None);
+        Opened { slots_per_hour, week }
+    }
+
+    fn is_hour_open(&self, hour: u64) -> bool {
+        self.week.is_open(hour * self.slots_per_hour)
+    }
+
+    fn has_closed(&self) -> bool {
+        !(0..168).all(|hour| self.is_hour_open(hour))
+    }
+
+    /// The runs of hours that are open, or of those that are closed: each alone, or its first hour and its last.
+    fn runs(&self, are_open: bool) -> Vec<Vec<u64>> {
+        let hours: Vec<u64> = (0..168).collect();
+        let runs = hours.chunk_by(|&one, &next| self.is_hour_open(one) == self.is_hour_open(next));
+        let runs = runs.filter(|run| self.is_hour_open(run[0]) == are_open);
+        runs.map(|run| if run.len() == 1 { run.to_vec() } else { vec![run[0], run[run.len() - 1]] }).collect()
+    }
+
+    /// The numbers of what is said of the hours: nothing where they are document 01's, else the slots an hour and, where some are
+    /// closed, how many are open and of how many, with the runs of these or of the closed ones, whichever are shorter to name.
+    fn said(&self) -> Vec<u64> {
+        if !self.has_closed() {
+            return if self.slots_per_hour == 1 { vec![] } else { vec![self.slots_per_hour] };
+        }
+        let characters = |runs: &Vec<Vec<u64>>| runs.iter().flatten().map(|hour| hour.to_string().len() + 1).sum::<usize>();
+        let [open, closed] = [true, false].map(|are_open| self.runs(are_open));
+        let named = if characters(&open) < characters(&closed) { open } else { closed };
+        let named = if named.len() <= NAMED { named.concat() } else { vec![] };
+        let count = (0..168).filter(|&hour| self.is_hour_open(hour)).count() as u64;
+        [vec![self.slots_per_hour, count, 168], named].concat()
+    }
+}
+
 /// What a list of lines shows, from an accepted open on or before the first.
 #[derive(Default)]
 pub struct List {
@@ -69,12 +117,15 @@ pub struct List {
     pub clients: u64,
     period: u64,
     pub records: u64,
+    hours: Option<Opened>,
     requests: Vec<Request>,
     /// Slots and numbers.
     served: Vec<(u64, u64)>,
     /// Victims' numbers, with the clocks at which they fell.
     dropped: Vec<(u64, u64)>,
     idle: u64,
+    /// Closed slots.
+    closed: BTreeSet<u64>,
     pub refused: BTreeMap<u64, u64>,
 }
 
@@ -90,8 +141,12 @@ impl List {
     fn take(&mut self, turn: &Turn) {
         let clock = self.clock();
         match (&turn.frame[..], &turn.answers[0][..]) {
-            (&[_, clients, period, records], [OPENED]) => {
+            (frame @ &[_, clients, period, records, ..], [OPENED]) => {
                 (self.line, self.clients, self.period, self.records) = (turn.number, clients, period, records);
+                self.hours = match call_of(frame) {
+                    Some(Call::Open { setup, hours }) => Some(Opened::of(setup.slots_per_hour, hours)),
+                    _ => None,
+                };
             }
             (&[_, client, deadline], &[KEPT, number, _, shift]) => self.requests.push(Request { number, client, deadline, clock, shift }),
             (&[_, client, deadline], &[DROPPED, number, victim, _, shift]) => {
@@ -100,6 +155,9 @@ impl List {
             }
             (_, &[SERVED, slot, number, _]) => self.served.push((slot, number)),
             (_, [IDLE, _]) => self.idle += 1,
+            (_, &[CLOSED, slot]) => {
+                self.closed.insert(slot);
+            }
             (_, &[REFUSED, number]) => *self.refused.entry(number).or_default() += 1,
             _ => {}
         }
@@ -107,7 +165,7 @@ impl List {
 
     /// As many as slots have passed.
     pub fn clock(&self) -> u64 {
-        self.served.len() as u64 + self.idle
+        (self.served.len() + self.closed.len()) as u64 + self.idle
     }
 
     fn is_served(&self, request: &Request) -> bool {
@@ -130,10 +188,31 @@ impl List {
         self.requests.iter().find(|request| request.number == number)
     }
 
-    /// Of all reads: slots passed, idle ones, reads submitted, served, dropped and waiting, and, where some were, lines refused.
+    pub fn is_open(&self, slot: u64) -> bool {
+        self.hours.is_none_or(|hours| hours.week.is_open(slot))
+    }
+
+    /// The first open slot from the clock on: where the clock is in a closed hour, an hour begins with it.
+    pub fn next_open(&self) -> Option<u64> {
+        let per_hour = self.hours?.slots_per_hour;
+        let begins = (self.clock() / per_hour + 1..).take(168).map(|hour| hour * per_hour);
+        [self.clock()].into_iter().chain(begins).find(|&slot| self.is_open(slot))
+    }
+
+    /// Slots passed, idle ones and, where hours are closed, closed ones.
+    fn passed(&self) -> Vec<u64> {
+        let closed = self.hours.is_some_and(|hours| hours.has_closed()).then_some(self.closed.len() as u64);
+        [self.clock(), self.idle].into_iter().chain(closed).collect()
+    }
+
+    /// Of all reads: slots passed, idle and closed ones, reads submitted, served, dropped and waiting, and, where some were, lines refused.
     pub fn outcome(&self) -> Vec<u64> {
         let refused = (!self.refused.is_empty()).then(|| self.refused.values().sum());
-        [self.clock(), self.idle].into_iter().chain(self.counts(|_| true)).chain(refused).collect()
+        self.passed().into_iter().chain(self.counts(|_| true)).chain(refused).collect()
+    }
+
+    pub fn is_closed(&self, slot: u64) -> bool {
+        self.closed.contains(&slot)
     }
 
     /// The client that was served in each slot, if one was.
@@ -157,13 +236,13 @@ impl List {
     }
 
     /// What a drawing says of each waiting read on a chart. "From the last record to the first, a request ends at the smaller of its
-    /// deadline and the start of the record behind it, and starts one slot earlier."
+    /// deadline and the start of the record behind it, and starts one slot earlier." "the chart uses the latest open slots"
     pub fn chart_titles(&self) -> Vec<String> {
         let is_waiting = |request: &&Request| !self.is_served(request) && !self.is_dropped(request);
         let mut waiting: Vec<&Request> = self.requests.iter().filter(is_waiting).collect();
         waiting.sort_by_key(|request| (request.deadline, request.number));
         let starts = waiting.iter().rev().scan(u64::MAX, |start, request| {
-            *start = request.deadline.min(*start) - 1;
+            *start = (0..request.deadline.min(*start)).rev().find(|&slot| self.is_open(slot))?;
             Some(request.title(*start))
         });
         starts.collect()
@@ -201,13 +280,14 @@ impl List {
         waits.max_by_key(|[wait, ..]| *wait)
     }
 
-    /// The longest run of slots each of which served a read, and the first of these runs: its first and last slot, its length, and
-    /// the drops at its clocks.
+    /// The longest run of slots each of which served a read, with closed ones between them that are not counted, and the first of these
+    /// runs: its first and last slot, how many served, and the drops at its clocks.
     pub fn busiest_stretch(&self) -> Option<[u64; 4]> {
         let is_busy = |slot: &u64| self.served.iter().any(|(served, _)| served == slot);
-        let runs = self.served.iter().rev().map(|&(first, _)| (first, (first..).take_while(is_busy).count() as u64));
-        let (first, length) = runs.max_by_key(|(_, length)| *length)?;
-        let last = first + length - 1;
+        let run = |first: u64| (first..).take_while(|slot| is_busy(slot) || self.is_closed(*slot)).filter(is_busy).collect::<Vec<u64>>();
+        let runs = self.served.iter().rev().map(|&(first, _)| run(first));
+        let longest = runs.max_by_key(|run| run.len())?;
+        let (first, last, length) = (longest[0], longest[longest.len() - 1], longest.len() as u64);
         let dropped = self.dropped.iter().filter(|(clock, _)| (first..=last).contains(clock)).count();
         Some([first, last, length, dropped as u64])
     }
@@ -222,14 +302,15 @@ impl List {
     }
 
     /// The open's line, and what it opened.
-    pub fn opened(&self) -> [u64; 4] {
-        [self.line, self.clients, self.period, self.records]
+    pub fn opened(&self) -> Vec<u64> {
+        let hours = self.hours.map(|hours| hours.said()).unwrap_or_default();
+        [vec![self.line, self.clients, self.period, self.records], hours].concat()
     }
 
     fn setup(&self) -> Vec<(&'static str, Vec<u64>)> {
         vec![
-            ("Opened in line", self.opened().to_vec()),
-            ("passed, of them idle", vec![self.clock(), self.idle]),
+            ("Opened in line", self.opened()),
+            ("passed, of them idle", self.passed()),
             ("client submitted served dropped waiting miss ratio", vec![]),
         ]
     }

@@ -37,7 +37,11 @@ const GOOD: &[Case] = &[
     ("run", b"open clients 1 period 1 records 1\r\nTICK\r\n", 0, &["opened\nslot 0: "], &[]),
     ("run", b"tick\nquit\nfly\n", 0, &["refused, 4: "], &[]),
     ("run", b"# a comment\n\n03\nTick\n03", 0, &["refused, 4: no open was accepted yet\nrefused, 4: ", "\nrefused, 1: the last line"], &[]),
-    ("frames -", b"OPEN Clients 10 period 1,000 records 65535\n04FFFF\ntick", 0, &["01000A000003E8FFFF\n04FFFF\n03\n"], &[]),
+    ("frames -", b"OPEN Clients 10 period 1,000 records 65535\n04FFFF\ntick", 0, &["01000A000003E8FFFF00000001FFFFFFFFFFFFFFFFFFFFFFFFFFFFFFFFFFFFFFFFFF\n04FFFF\n03\n"], &[]),
+    ("frames -", b"open clients 1 period 100 records 8 Hour 2 OPEN 0,2", 0, &["01000100000064000800000002A00000000000000000000000000000000000000000\n"], &[]),
+    ("frames -", b"open clients 1 period 100 records 8 hour 360 closed 1-166, 167\n", 0, &["0100010000006400080000016880000000000000000000000000000000000000000"], &[]),
+    ("run", b"open clients 1 period 1 records 1 hour 0\nopen clients 1 period 1 records 1 hour 1 closed 0-167\n", 0, &["refused, 13: the slots per hour", "\nrefused, 14: all hours are closed\n"], &[]),
+    ("run", b"open clients 1 period 1 records 1 hour 2 open 1\nsubmit 0 by 2\ntick\n", 0, &["refused, 15: no slot from the clock to the deadline is open; the clock is at 0, and the next open slot is 2\nslot 0: closed\n"], &[]),
     ("read -", b"# a comment\ntick", 0, &["    2  tick", "refused, 4: ", "Refused: 1 line"], &[]),
     ("read -", b"\n \n\nopen clients 1 period 1 records 1\n", 0, &["    4  open clients 1 period 1 records 1", "  opened\n"], &[]),
     ("read -", b"\xEF\xBB\xBFopen clients 1 period 1 records 1\n", 0, &["  opened\n"], &[]),
@@ -47,13 +51,13 @@ const GOOD: &[Case] = &[
     ("read --frames --summary -", b"tick\n03\n", 0, &["Refused: 2 lines (number 1: 1, number 4: 1)"], &[]),
     ("read -", b"\n\n", 0, &["Refused: 2 lines (number 1: 2)"], &[]),
     ("read -", b"TICK\n", 0, &["    1  tick", "refused, 4: "], &[]),
-    ("read --summary -", b"010001000000010001\n010001000000010001\n", 0, &["Refused: nothing.\n\nOpened in line 2: "], &[]),
-    ("read -", b"010001000000010001\n010001000000010001\n", 0, &["opened\n\nOpened in line 1: ", "Refused: nothing.\n\n    2  open"], &[]),
+    ("read --summary -", b"01000100000001000100000001FFFFFFFFFFFFFFFFFFFFFFFFFFFFFFFFFFFFFFFFFF\n01000100000001000100000001FFFFFFFFFFFFFFFFFFFFFFFFFFFFFFFFFFFFFFFFFF\n", 0, &["Refused: nothing.\n\nOpened in line 2: "], &[]),
+    ("read -", b"01000100000001000100000001FFFFFFFFFFFFFFFFFFFFFFFFFFFFFFFFFFFFFFFFFF\n01000100000001000100000001FFFFFFFFFFFFFFFFFFFFFFFFFFFFFFFFFFFFFFFFFF\n", 0, &["opened\n\nOpened in line 1: ", "Refused: nothing.\n\n    2  open"], &[]),
     ("run", b"HELP\nQuit\nfly\n", 0, &["submit CLIENT by DEADLINE"], &[]),
     ("draw -", b"03\n", 0, &["No open was accepted, so there is nothing to draw. Refused: 1 line.\n"], &[]),
     ("draw - /nowhere/x.HTM", b"03\n", 0, &["/nowhere/x.HTM is not written."], &[]),
-    ("draw -", b"03\n010001000000010001\n03\nFF\n", 0, &["Refused before the first open: 1 line.\n\nSession 1. Opened in line 2: ", "1 slot passed, 1 idle; 0 reads: ", " Refused: 1 line.\n"], &[]),
-    ("draw --frames -", b"tick\n010001000000010001\n", 0, &["Refused before the first open: 1 line.\n\nSession 1. Opened in line 2: "], &[]),
+    ("draw -", b"03\n01000100000001000100000001FFFFFFFFFFFFFFFFFFFFFFFFFFFFFFFFFFFFFFFFFF\n03\nFF\n", 0, &["Refused before the first open: 1 line.\n\nSession 1. Opened in line 2: ", "1 slot passed, 1 idle; 0 reads: ", " Refused: 1 line.\n"], &[]),
+    ("draw --frames -", b"tick\n01000100000001000100000001FFFFFFFFFFFFFFFFFFFFFFFFFFFFFFFFFFFFFFFFFF\n", 0, &["Refused before the first open: 1 line.\n\nSession 1. Opened in line 2: "], &[]),
     ("run", b"020000000000000000000a\n", 0, &["refused, 1: the digits A to F have to be upper case"], &[]),
 ];
 
@@ -64,6 +68,9 @@ const BAD: &[Case] = &[
     ("read --summary -", b"tick\n\nfly 3\n", 2, &[], &["line 3: `fly 3`: expected open"]),
     ("frames -", b"tick\nfly 3\n", 2, &["03\n"], &["line 2: `fly 3`: expected open"]),
     ("run", b"submit 0 at 1\n", 2, &[], &["line 1: `submit 0 at 1`: expected `submit CLIENT by DEADLINE`"]),
+    ("run", b"open clients 1 period 1 records 1 hour 2 open 168\n", 2, &[], &["line 1: ", "expected hours of the week, 0 to 167", "`168` is none"]),
+    ("run", b"open clients 1 period 1 records 1 hour 2 closed 7-6\n", 2, &[], &["line 1: ", "not `7-6`"]),
+    ("run", b"open clients 1 period 1 records 1 hour\n", 2, &[], &["line 1: ", "expected `open clients CLIENTS period PERIOD records RECORDS`", "`hour SLOTS closed HOURS`"]),
     ("run", b"submit 0\n", 2, &[], &["line 1: `submit 0`: expected `submit CLIENT by DEADLINE`"]),
     ("run", b"report -1\n", 2, &[], &["line 1: `report -1`: expected a number for client"]),
     ("run", b"report 65536\n", 2, &[], &["line 1: `report 65536`: 65536 does not fit in client"]),
@@ -91,10 +98,10 @@ const BAD: &[Case] = &[
     ("run", b"submit 0 \x1b[31m 1\n", 2, &[], &[r"line 1: `submit 0 \x1b[31m 1`: expected `submit CLIENT by DEADLINE`, and `\u{1b}[31m` stands where `by` has to"]),
     ("run", b"fly 5678901234567890123456789012345678901234567890123456789X\n", 2, &[], &["56789X`: expected open"]),
     ("run", b"fly 5678901234567890123456789012345678901234567890123456789XY\n", 2, &[], &["56789X...`: expected open"]),
-    ("read -", b"0100020000006400\n", 0, &["a frame 01, open, has 18 digits (01, clients in 4, period in 8, records in 4), and this line has 16"], &[]),
+    ("read -", b"0100020000006400\n", 0, &["a frame 01, open, has 68 digits (01, clients in 4, period in 8, records in 4, hour in 8, marks in 42), and this line has 16"], &[]),
     ("compare /nowhere/words.txt", b"", 2, &[], &["/nowhere/words.txt: expected a name that ends in .html or .svg"]),
     ("draw - /nowhere/words.txt", b"tick\n", 2, &[], &["`/nowhere/words.txt`: expected the name of a page"]),
-    ("draw - /nowhere/x.html", b"010001000000010001\n", 1, &["Session 1. "], &["welsbell: /nowhere/x.html: No such file"]),
+    ("draw - /nowhere/x.html", b"01000100000001000100000001FFFFFFFFFFFFFFFFFFFFFFFFFFFFFFFFFFFFFFFFFF\n", 1, &["Session 1. "], &["welsbell: /nowhere/x.html: No such file"]),
 ];
 
 const ARGUMENTS: &[&str] = &[
@@ -305,7 +312,7 @@ pub fn hold(welsbell: &Welsbell, checks: &mut Checks) {
     checks.hold("what is asked at a time", asked.map_err(|error| error.to_string()));
     let readers = hold_readers(welsbell, checks);
     checks.hold("readers", readers.map_err(|error| error.to_string()));
-    for (arguments, expected) in [("run", ["opened", "slot 0"]), ("frames -", ["010001000000010001", "03"])] {
+    for (arguments, expected) in [("run", ["opened", "slot 0"]), ("frames -", ["01000100000001000100000001FFFFFFFFFFFFFFFFFFFFFFFFFFFFFFFFFFFFFFFFFF", "03"])] {
         let held = hold_dialogue(welsbell, arguments, expected).map_err(|error| error.to_string());
         checks.hold(&format!("a dialogue in a pipe, welsbell {arguments}"), held);
     }

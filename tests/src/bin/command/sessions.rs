@@ -4,7 +4,8 @@ use crate::list::{turns, List, Turn};
 use crate::reasons::{true_reason, REASONS};
 use std::collections::BTreeMap;
 use std::iter::once;
-use tests::model::calls::{CHART, DROPPED, KEPT, REFUSED};
+use tests::model::calls::{CHART, CLOSED, DROPPED, KEPT, REFUSED};
+use tests::model::hours::PER_HOUR;
 use tests::model::session::SEGMENT;
 use tests::model::tables::{AHEAD, CLIENTS, PERIODS, RECORDS};
 use tests::random::session::session;
@@ -22,7 +23,7 @@ const OPEN: u64 = 0x01;
 const SUBMIT: u64 = 0x02;
 
 /// What has to come up, besides each reason for a line that is no frame.
-const WANTED: [&str; 19] = [
+const WANTED: [&str; 24] = [
     "refusal 1",
     "refusal 2",
     "refusal 3",
@@ -30,6 +31,11 @@ const WANTED: [&str; 19] = [
     "refusal 6",
     "refusal 7",
     "refusal 10",
+    "refusal 13",
+    "refusal 14",
+    "refusal 15",
+    "closed slot",
+    "stretch over closed slots",
     "read kept with others behind it",
     "read dropped itself",
     "read dropped itself with others behind it",
@@ -81,10 +87,12 @@ fn refused(frame: &[u64], number: u64, before: &[Turn]) -> Vec<u64> {
     match (number, frame) {
         (2, _) => vec![*CLIENTS.start(), *CLIENTS.end()],
         (3, _) => vec![*PERIODS.start(), *PERIODS.end()],
+        (13, _) => vec![*PER_HOUR.start(), *PER_HOUR.end()],
         (4, [OPEN, ..]) => vec![*RECORDS.start() as u64, *RECORDS.end() as u64],
         (6, _) => vec![0, List::of(before).clients - 1],
         (7, _) => vec![*AHEAD.start() as u64, *AHEAD.end() as u64, List::of(before).clock()],
         (10, _) => vec![List::of(before).records],
+        (15, _) => [List::of(before).clock()].into_iter().chain(List::of(before).next_open()).collect(),
         _ => vec![],
     }
 }
@@ -138,6 +146,7 @@ fn note(turn: &Turn, before: &[Turn], seen: &mut Seen) {
             seen.note("read dropped for another", victim != number);
             seen.note("drop in a period that began with reads waiting", List::of(before).has_carried(of));
         }
+        [CLOSED, _] => seen.note("closed slot", true),
         [CHART, _] => seen.note("chart without a segment", true),
         _ => seen.note("chart with more segments than are named", segments > NAMED),
     }
@@ -242,6 +251,8 @@ impl Held {
         self.seen.note("wait of several slots", list.longest_wait().is_some_and(|[wait, ..]| wait > 1));
         let is_busy = list.busiest_stretch().is_some_and(|[first, last, _, dropped]| last > first && dropped > 0);
         self.seen.note("stretch of several slots with drops", is_busy);
+        let spans = list.busiest_stretch().is_some_and(|[first, last, length, _]| last - first + 1 > length);
+        self.seen.note("stretch over closed slots", spans);
         self.seen.note("client that submitted nothing", list.has_silent());
     }
 }

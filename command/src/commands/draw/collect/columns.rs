@@ -10,6 +10,7 @@ pub struct Column {
     /// How many of them passed.
     pub slots: u64,
     pub idle: u64,
+    pub closed: u64,
     /// By client.
     pub served: Vec<u64>,
     pub dropped: Vec<u64>,
@@ -24,6 +25,7 @@ impl Column {
         Column {
             slots: 0,
             idle: 0,
+            closed: 0,
             served: vec![0; clients],
             dropped: vec![0; clients],
             ratios: vec![0.0; clients + 1],
@@ -49,6 +51,7 @@ impl Column {
         Column {
             slots: self.slots + next.slots,
             idle: self.idle + next.idle,
+            closed: self.closed + next.closed,
             served: sums(&self.served, &next.served),
             dropped: sums(&self.dropped, &next.dropped),
             ratios: self.ratios.iter().zip(&next.ratios).map(|(a, b)| a + b).collect(),

@@ -9,6 +9,7 @@ pub const MOST_SLOTS: usize = 2_000;
 pub struct Slot {
     /// The slot that comes has not.
     pub has_passed: bool,
+    pub is_closed: bool,
     pub served: Vec<Read>,
     /// How many reads of a client were dropped while this was the slot that comes.
     pub dropped: BTreeMap<u64, u64>,

@@ -22,6 +22,7 @@ fn length(text: &str) -> f64 {
 const SAID: &str = "\
 The chart gives each waiting read the latest slot in which it and all later ones still end by their deadlines. A box is a read, with \
 its number and its deadline; a mark on the axis is a deadline, and a line above is a segment.";
+const CLOSED: &str = " A hatched slot is closed: no read has it, and a segment may span it.";
 
 fn chart(session: &Ended, chart: &Chart) -> String {
     let mut said = said::heading(chart);
@@ -51,7 +52,8 @@ pub fn charts(session: &Ended, most: usize) -> String {
     if chosen.is_empty() {
         return paragraph("No chart was asked for.");
     }
+    let closed = if session.followed.hours.has_closed() { CLOSED } else { "" };
     let some = said::chosen(chosen.len(), charts.count).map(|said| format!(" {said}"));
     let drawn: String = chosen.iter().map(|drawn| chart(session, drawn)).collect();
-    format!("{}{}{drawn}", paragraph(&(SAID.to_string() + &some.unwrap_or_default())), key(session))
+    format!("{}{}{drawn}", paragraph(&format!("{SAID}{closed}{}", some.unwrap_or_default())), key(session))
 }

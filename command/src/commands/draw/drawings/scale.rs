@@ -16,6 +16,8 @@ pub const GREY: &str = "#767676";
 pub const FAINT: &str = "#f1f1f1";
 pub const DARK: &str = "#222222";
 pub const DROP: &str = "#c00000";
+/// Closed slots.
+pub const CLOSED: &str = "#a9a9a9";
 
 /// A number on an axis takes so much.
 const NUMBER: f64 = 60.0;

@@ -16,31 +16,47 @@ struct Rows {
     count: usize,
     drops: f64,
     boxes: f64,
+    /// Whether hours are closed, so that closed slots have a row.
+    has_closed: bool,
 }
 
 impl Rows {
+    fn new(session: &Ended, drops: f64, boxes: f64) -> Rows {
+        let (count, has_closed) = (session.clients.rows(), session.followed.hours.has_closed());
+        Rows { count, drops, boxes, has_closed }
+    }
+
     /// Where a row's boxes begin, from above.
     fn top(&self, row: usize) -> f64 {
         TOP + (self.drops + self.boxes + GAP) * row as f64 + self.drops
     }
 
-    /// The idle slots have the last row, above which nothing is dropped.
+    /// The idle slots have the row behind the clients, above which nothing is dropped.
     fn idle(&self) -> f64 {
         self.top(self.count) - self.drops
     }
 
-    fn bottom(&self) -> f64 {
+    /// The closed slots have the row behind it, where there are some.
+    fn closed(&self) -> f64 {
         self.idle() + self.boxes + GAP
+    }
+
+    fn bottom(&self) -> f64 {
+        self.closed() + if self.has_closed { self.boxes + GAP } else { 0.0 }
+    }
+
+    /// Each row's name, and where its boxes begin.
+    fn named(&self, session: &Ended) -> Vec<(String, f64)> {
+        let clients = (0..self.count).map(|row| (session.clients.name(row), self.top(row)));
+        let closed = self.has_closed.then(|| ("closed".into(), self.closed()));
+        clients.chain([("idle".into(), self.idle())]).chain(closed).collect()
     }
 
     /// A drawing with the rows' names, the axis and the starts of periods.
     fn drawing(&self, session: &Ended, scale: &Scale, width: f64) -> Svg {
         let label = format!("Who was served in the slots from {} to {}", scale.first, scale.end.saturating_sub(1));
         let mut svg = Svg::new(width, self.bottom() + AXIS, &label);
-        for row in 0..=self.count {
-            let is_idle = row == self.count;
-            let top = if is_idle { self.idle() } else { self.top(row) };
-            let name = if is_idle { "idle".into() } else { session.clients.name(row) };
+        for (name, top) in self.named(session) {
             svg.rect((LEFT, top), (scale.right() - LEFT, self.boxes), FAINT);
             svg.label((LEFT - 8.0, top + self.boxes / 2.0 + 4.0), "end", (12.0, DARK), &name);
         }
@@ -70,14 +86,31 @@ pub fn slots(session: &Ended) -> String {
 
 #[cfg(test)]
 mod tests {
-    use super::super::super::collect::tests::{collected, DOCUMENT_01};
+    use super::super::super::collect::tests::{collected, DOCUMENT_01, SMALL};
     use super::*;
+    use crate::lines::frames::{Frame, OPEN};
 
     #[test]
     fn the_first_period_has_not_ended_before_its_last_slot_has() {
-        let session = |period: &'static str| collected(&[&[(period, &["81"][..])], &DOCUMENT_01[1..]].concat());
-        assert_eq!(periods(&session("010002000000640008").ended[0]), " The first period, of 100 slots, has not ended.");
-        assert_eq!(periods(&session("010002000000010008").ended[0]), " A thin line is where a period starts, each 1 slot.");
+        let session = |period: u64| {
+            let open = Frame::call(OPEN, &[2, period, 8]).line();
+            collected(&[&[(open.as_str(), &["81"][..])], &DOCUMENT_01[1..]].concat())
+        };
+        assert_eq!(periods(&session(100).ended[0]), " The first period, of 100 slots, has not ended.");
+        assert_eq!(periods(&session(1).ended[0]), " A thin line is where a period starts, each 1 slot.");
+    }
+
+    /// The last row, and a box in it, for each slot that was closed.
+    #[test]
+    fn closed_slots_have_a_row() {
+        let session = &collected(&SMALL).ended[0];
+        let bands = bands::bands(session).unwrap();
+        for drawn in [&bands, &shares::shares(session)] {
+            assert!(["client 0", "idle", "closed"].iter().all(|name| drawn.contains(&format!(">{name}</text>"))));
+        }
+        let closed = bands.split("<title>").filter_map(|part| part.split_once(": closed</title>"));
+        assert_eq!(closed.map(|(slot, _)| slot).collect::<Vec<_>>(), ["slot 2", "slot 3", "slot 6"]);
+        assert!(!shares::shares(&collected(&DOCUMENT_01).ended[0]).contains("closed"));
     }
 
     #[test]

@@ -1,6 +1,7 @@
 //! An occupancy chart as text: boxes in their slots, or a list where they have no room.
 use super::super::collect::chart::{Chart, Stretch};
 use super::super::said;
+use super::strip::CLOSED;
 use super::{lines, wrapped};
 use crate::session::follow::Read;
 use crate::numbers::grouped;
@@ -24,13 +25,13 @@ impl Layout {
     fn fitting(chart: &Chart, width: usize) -> Option<Layout> {
         let digits = |number: u64| number.to_string().len();
         let number = chart.reads.iter().map(|read| digits(read.number)).max().unwrap_or_default();
-        let narrow = (number + 3).max(digits(chart.right()) + 2);
+        let narrow = (number + 3).max(digits(chart.end()) + 2);
         let layouts = [(narrow.max(BOX), 3), (narrow, 3), (narrow, 1)];
         let layouts = layouts.into_iter().map(|(slot, most_free)| Layout {
             slot,
             stretches: chart.stretches(most_free),
         });
-        layouts.into_iter().find(|layout| MARGIN + layout.slot * layout.stretches.len() + digits(chart.right()) <= width)
+        layouts.into_iter().find(|layout| MARGIN + layout.slot * layout.stretches.len() + digits(chart.end()) <= width)
     }
 
     /// A row with something for each slot, in the middle of it.
@@ -59,9 +60,20 @@ impl Layout {
         row
     }
 
+    /// What stands in a box, or where there is none.
+    fn inside(&self, stretch: &Stretch) -> String {
+        let inner = self.slot - 1;
+        let dots = if stretch.is_cut() { "..." } else { "" };
+        match &stretch.read {
+            Some(read) => read.number.to_string(),
+            None if stretch.is_closed() => format!("{dots:/^inner$}"),
+            None => dots.into(),
+        }
+    }
+
     /// The numbers of the slots, each in the middle above its left edge.
-    fn slots(&self, right: u64) -> String {
-        let lefts = self.stretches.iter().map(|stretch| stretch.left).chain([right]);
+    fn slots(&self, end: u64) -> String {
+        let lefts = self.stretches.iter().map(|stretch| stretch.left).chain([end]);
         let mut row = "slot".to_string();
         for (place, left) in lefts.enumerate() {
             let left = left.to_string();
@@ -74,15 +86,10 @@ impl Layout {
     fn drawn(&self, chart: &Chart) -> Vec<String> {
         let line = "-".repeat(self.slot - 1);
         let border = self.boxes("", '+', |stretch| stretch.read.map(|_| line.clone()).unwrap_or_default());
-        let number = |stretch: &Stretch| match &stretch.read {
-            Some(read) => read.number.to_string(),
-            None if stretch.is_cut() => "...".into(),
-            None => String::new(),
-        };
         vec![
-            self.slots(chart.right()),
+            self.slots(chart.end()),
             border.clone(),
-            self.boxes("number", '|', number),
+            self.boxes("number", '|', |stretch| self.inside(stretch)),
             border,
             self.of_read("client", |read| read.client),
             self.of_read("ends by", |read| read.deadline),
@@ -107,11 +114,14 @@ fn list(chart: &Chart) -> Vec<String> {
 }
 
 pub fn chart(chart: &Chart, width: usize) -> String {
-    let head = wrapped(&said::heading(chart), width);
     if chart.reads.is_empty() {
-        return head;
+        return wrapped(&said::heading(chart), width);
     }
-    let rows = Layout::fitting(chart, width).map_or_else(|| list(chart), |layout| layout.drawn(chart));
+    let layout = Layout::fitting(chart, width);
+    let has_closed = layout.as_ref().is_some_and(|layout| layout.stretches.iter().any(Stretch::is_closed));
+    let closed = if has_closed { format!(" {CLOSED} is closed.") } else { String::new() };
+    let head = wrapped(&(said::heading(chart) + &closed), width);
+    let rows = layout.map_or_else(|| list(chart), |layout| layout.drawn(chart));
     let named = lines(&said::segments(chart), width - MARGIN).join(&format!("\n{:MARGIN$}", ""));
     let named = format!("{:MARGIN$}{named}", "segments");
     let rows = rows.iter().map(|row| row.trim_end().to_string());
@@ -121,7 +131,7 @@ pub fn chart(chart: &Chart, width: usize) -> String {
 
 #[cfg(test)]
 mod tests {
-    use super::super::super::collect::chart::tests::chart_of;
+    use super::super::super::collect::chart::tests::{chart_in_hours, chart_of};
     use super::*;
 
     #[test]
@@ -137,6 +147,28 @@ client       0     0
 ends by      1     2
 segments  [0, 2]";
         assert_eq!(drawn, expected);
+    }
+
+    #[test]
+    fn closed_slots_are_hatched() {
+        let drawn = chart(&chart_in_hours(2, "0,2", &[3, 5], &[(1, 5)]), 80);
+        let expected = "\
+Chart in line 5, at clock 0: 2 reads wait. / is closed.
+slot      0     1     2     3     4     5
+                +-----+           +-----+
+number          |  1  |///// /////|  2  |
+                +-----+           +-----+
+client             0                 0
+ends by            3                 5
+segments  [1, 5]";
+        assert_eq!(drawn, expected);
+    }
+
+    #[test]
+    fn a_chart_goes_on_to_a_deadline_in_a_closed_hour() {
+        let drawn = chart(&chart_in_hours(10, "0,2", &[10, 17], &[(8, 10)]), 80);
+        assert!(drawn.contains("slot      0     8     9     10    17"), "{drawn}");
+        assert!(drawn.contains("number      ... |  1  |  2  |/.../"), "{drawn}");
     }
 
     #[test]

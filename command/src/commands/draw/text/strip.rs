@@ -8,6 +8,7 @@ use crate::numbers::grouped;
 const SIGNS: &str = "0123456789abcdefghijklmnopqrstuvwxyzABCDEFGHIJKLMNOPQRSTUVWXYZ";
 const BEHIND: char = '#';
 const IDLE: char = '.';
+pub const CLOSED: char = '/';
 /// Where more were dropped at a slot than there are rows for.
 const MORE: char = '+';
 const MOST_DROPPED: usize = 4;
@@ -40,10 +41,11 @@ fn legend(clients: usize) -> String {
 }
 
 fn served(slot: &Slot) -> Vec<char> {
-    match (slot.has_passed, slot.served.is_empty()) {
-        (false, _) => vec![],
-        (true, true) => vec![IDLE],
-        (true, false) => slot.served.iter().map(|read| sign(read.client)).collect(),
+    match slot {
+        Slot { has_passed: false, .. } => vec![],
+        Slot { is_closed: true, .. } => vec![CLOSED],
+        Slot { served, .. } if served.is_empty() => vec![IDLE],
+        Slot { served, .. } => served.iter().map(|read| sign(read.client)).collect(),
     }
 }
 
@@ -98,7 +100,8 @@ pub fn strip(session: &Ended, width: usize) -> String {
         0 => "each slot".to_string(),
         _ => format!("the last {} of {} slots", grouped(slots.len() as u64), grouped(recent.end())),
     };
-    let said = format!("Who was served in {which}, by client ({IDLE} is idle), and whose reads were dropped.");
+    let closed = if session.followed.hours.has_closed() { format!(", {CLOSED} is closed") } else { String::new() };
+    let said = format!("Who was served in {which}, by client ({IDLE} is idle{closed}), and whose reads were dropped.");
     let said = said + &legend(session.followed.clients.len());
     let parts = slots.chunks(length).enumerate().map(|(place, slots)| line(first + (place * length) as u64, slots, margin));
     let head = format!("{:>margin$}", "slot");
@@ -116,6 +119,7 @@ mod tests {
         let read = |client: u64| Read { deadline: 9, number: 1, client, since: 0 };
         Slot {
             has_passed: true,
+            is_closed: false,
             served: client.map(read).into_iter().collect(),
             dropped: BTreeMap::from_iter(dropped.iter().copied()),
         }
@@ -126,6 +130,7 @@ mod tests {
         assert_eq!((sign(0), sign(9), sign(10), sign(36), sign(61), sign(62), sign(255)), ('0', '9', 'a', 'A', 'Z', '#', '#'));
         assert_eq!(served(&slot(Some(11), &[])), ['b']);
         assert_eq!(served(&slot(None, &[])), ['.']);
+        assert_eq!(served(&Slot { is_closed: true, ..slot(None, &[]) }), ['/']);
         assert!(served(&Slot::default()).is_empty());
     }
 

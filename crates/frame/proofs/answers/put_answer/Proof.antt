@@ -53,6 +53,12 @@ enum-known-answer-7 c = search needs
 put-value-requires-3 : tie.Need-put-value-requires-3
 put-value-requires-3 c κs = search needs
 
+enum-known-answer-8 : tie.Need-enum-known-answer-8
+enum-known-answer-8 c = search needs
+
+put-value-requires-4 : tie.Need-put-value-requires-4
+put-value-requires-4 c κs = search needs
+
 same-length : tie.Need-same-length
 same-length c = search needs
 
@@ -117,6 +123,14 @@ returns-8 c =
     let told = c .before .before .before .before .before .answer7 .given .1 in
     put-ends _ _ _ _ _ _ (search needs) (search needs) (search needs) (rw told (c .before .before .put-value3 .ensures .1))
 
+same-length-9 : tie.Need-same-length-9
+same-length-9 c = search needs
+
+returns-9 : tie.Need-returns-9
+returns-9 c =
+    let told = c .before .before .before .before .before .answer8 .given .1 in
+    put-ends _ _ _ _ _ _ (search needs) (search needs) (search needs) (rw told (c .before .before .put-value4 .ensures .1))
+
 pub put-answer-spec : {M : Type 1} → statement M
 put-answer-spec =
     tie.close
@@ -137,6 +151,8 @@ put-answer-spec =
     put-value-requires-2
     enum-known-answer-7
     put-value-requires-3
+    enum-known-answer-8
+    put-value-requires-4
     same-length
     returns
     same-length-2
@@ -152,4 +168,6 @@ put-answer-spec =
     same-length-7
     returns-7
     same-length-8
-    returns-8)
+    returns-8
+    same-length-9
+    returns-9)

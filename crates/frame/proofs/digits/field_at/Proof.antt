@@ -84,7 +84,10 @@ returns : tie.Need-returns Inv-loop μ-loop
 returns c =
     let a = c .before .before .before .before .args in
     let l = c .before .loop in
-    sym (number-end (a .line .now) (2 * (a .from + a .width)) (l .i) (l .number) (omega arith)) ∙ l .inv .3
+    let whole : l .i - 2 * a .from ≡ 2 * a .width = omega arith in (
+      sym (number-end (a .line .now) (2 * (a .from + a .width)) (l .i) (l .number) (omega arith)) ∙ l .inv .3,
+      rw whole at (l .inv .2),
+    )
 
 pub field-at-spec : {M : Type 1} → statement M
 field-at-spec =

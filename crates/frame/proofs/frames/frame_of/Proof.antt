@@ -44,7 +44,7 @@ field-at-requires c κs = (can-read c .0, (omega arith, omega arith, all-digits 
 -- .. and where the kind byte is known, which computes the kind of the list
 framed : (c : tie.After-field-at) {byte : ℕ} → c .field-at .result ≡ byte
     → frameOf (line (c .before)) ≡ frameAmong frameKinds byte (length (line (c .before))) (line (c .before))
-framed c e = rw (← e, c .field-at .ensures) (frame-digits (line (c .before)) (all-digits (c .before)))
+framed c e = rw (← e, c .field-at .ensures .0) (frame-digits (line (c .before)) (all-digits (c .before)))
 
 open-frame-requires : tie.Need-open-frame-requires
 open-frame-requires c κs = can-read (c .before .before)

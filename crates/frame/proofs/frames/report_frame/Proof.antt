@@ -11,7 +11,7 @@ field-at-requires : tie.Need-field-at-requires
 field-at-requires c κs = search needs
 
 returns-2 : tie.Need-returns-2
-returns-2 c = rw (c .before .if1 .left, c .field-at .ensures)
+returns-2 c = rw (c .before .if1 .left, c .field-at .ensures .0)
 
 pub report-frame-spec : {M : Type 1} → statement M
 report-frame-spec =

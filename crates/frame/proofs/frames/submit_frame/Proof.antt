@@ -14,7 +14,7 @@ field-at-requires-2 : tie.Need-field-at-requires-2
 field-at-requires-2 c κs = search needs
 
 returns-2 : tie.Need-returns-2
-returns-2 c = rw (c .before .before .if1 .left, c .before .field-at .ensures, c .field-at2 .ensures)
+returns-2 c = rw (c .before .before .if1 .left, c .before .field-at .ensures .0, c .field-at2 .ensures .0)
 
 pub submit-frame-spec : {M : Type 1} → statement M
 submit-frame-spec =

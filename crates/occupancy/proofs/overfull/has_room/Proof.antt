@@ -1,30 +1,53 @@
 -- `occupancy::overfull::has_room` meets its contract. Assumes nothing.
 use Prim.Native.Nat.{ℕ, _+_}
-use mathlib.Core.Path.{_≡_}
-use native.Mathlib.Omega.{arith}
+use mathlib.Core.Path.{sym, ap, ap₂, _∙_}
 use borrow.Author.Needs.{needs}
-use borrow.Author.Tests.{ltb-true, ltb-false, lt-ltb, le-ltb}
 use lib.Dec.{ltb}
-use Rattle.spec.specs.declared.types.Head.{Head}
-use Rattle.spec.specs.Chart.{room, roomTo}
-use Rattle.spec.proofs.Laws.Every.{Value, is-true, is-false, value}
+use Rattle.spec.specs.Hours.{room}
+use Rattle.hours.proofs.OpenSlots.{all-open-room}
+use Rattle.occupancy.proofs.Searches.{less-by-sum, room-difference}
 use Rattle.occupancy.proofs.overfull.has_room.Statement.{statement}
 use Rattle.occupancy.proofs.overfull.has_room.Tie as tie
 
--- the room, without a difference
-room-sum : (head : Head) (i deadline : ℕ) → Value (ltb (head .clock + i) deadline)
-    → ltb (head .clock + i) deadline ≡ ltb i (roomTo head deadline)
-unfolding room
-room-sum head i deadline (is-true e) =
-    rw (e, lt-ltb i (roomTo head deadline) (omega (arith, ltb-true (head .clock + i) deadline e)))
-room-sum head i deadline (is-false e) =
-    rw (e, le-ltb i (roomTo head deadline) (omega (arith, ltb-false (head .clock + i) deadline e)))
+are-all-open-requires : tie.Need-are-all-open-requires
+are-all-open-requires c κs = search needs
+
+is-ahead-by-requires : tie.Need-is-ahead-by-requires
+is-ahead-by-requires c κs = search needs
+
+returns : tie.Need-returns
+returns c =
+    let a = c .before .before .before .before .args in
+    let all = sym (c .before .before .are-all-open .ensures) ∙ c .before .if1 .taken in
+    c .is-ahead-by .ensures
+    ∙ less-by-sum (a .head .clock) (a .i) (a .deadline)
+    ∙ ap (ltb (a .i)) (sym (all-open-room (a .head .setup) all (a .head .clock) (a .deadline)))
+
+open-before-requires : tie.Need-open-before-requires
+open-before-requires c κs = search needs
+
+open-before-requires-2 : tie.Need-open-before-requires-2
+open-before-requires-2 c κs = search needs
 
 add-result : tie.Need-add-result
 add-result c = search needs
 
-returns : tie.Need-returns
-returns c = room-sum (c .before .args .head) _ _ (value _)
+returns-2 : tie.Need-returns-2
+returns-2 c =
+    let a = c .before .before .before .before .before .args in
+    let setup = a .head .setup in
+    ap₂ (λ (before after : ℕ). ltb (before + a .i) after) (c .before .open-before .ensures .0) (c .open-before2 .ensures .0)
+    ∙ less-by-sum (room setup 0 (a .head .clock)) (a .i) (room setup 0 (a .deadline))
+    ∙ ap (ltb (a .i)) (room-difference setup (a .head .clock) (a .deadline))
 
 pub has-room-spec : {M : Type 1} → statement M
-has-room-spec = tie.close (tie.spec add-result returns)
+has-room-spec =
+    tie.close
+    (tie.spec
+    are-all-open-requires
+    is-ahead-by-requires
+    returns
+    open-before-requires
+    open-before-requires-2
+    add-result
+    returns-2)

@@ -9,7 +9,7 @@ use Rattle.spec.specs.Tables.{stateOf, mostRecords}
 use Rattle.spec.specs.Setup.{firstMatch}
 use Rattle.spec.specs.Calls.Submit.{submitRefusals}
 use Rattle.queue.proofs.Laws.Victim.{choice-found}
-use Rattle.queue.proofs.Laws.Searches.{waits, few, clock, clients as clients-most, rises, placed-within, candidates-within, found-all}
+use Rattle.queue.proofs.Laws.Searches.{waits, few, clock, some-slots, clients as clients-most, rises, placed-within, candidates-within, found-all}
 use Rattle.queue.proofs.Values.{DecisionT, a-decision}
 use Rattle.spec.specs.declared.types.Request.{Request}
 use Rattle.table.proofs.Heads.{a-head, the-head, waiting-fits}
@@ -31,7 +31,7 @@ zeros-long : length zeros ≡ 256
 zeros-long = length-replicate {A = ℕ} 256 0
 
 -- a place of the table, and 1 or 2 added
-fits : (k n : ℕ) → k ≤ n → n ≤ mostRecords → (k + 2 ≤ largest16) × (k + 1 < 2 ^ 64)
+fits : (k n : ℕ) → k ≤ n → n < mostRecords → (k + 2 ≤ largest16) × (k + 1 < 2 ^ 64)
 fits k n h l = (omega arith, omega arith)
 
 module _ {M : Type 1} (𝓤 : URA M) (H : Heap 𝓤) (A : Atoms 𝓤) (W : Given 𝓤 H A) (mem : Memory → SProp 𝓤) (run : Routine → Fun 𝓤) where
@@ -66,14 +66,14 @@ module _ {M : Type 1} (𝓤 : URA M) (H : Heap 𝓤) (A : Atoms 𝓤) (W : Given
       let l₆ : ℕ = bs .1 .1 .1 .1 .1 .1 .0 in
       heard ! (firstMatch (submitRefusals client deadline (stateOf head ws xs)) ≡ 0) (λ accepted.
       let within : n ≤ length ws = waits head ws xs client deadline accepted in
-      let small : n ≤ mostRecords = few head ws xs client deadline accepted in
+      let small : n < mostRecords = few head ws xs client deadline accepted in
       takes-out ! 6 refl $ repeats ! u16 (uint-lawful 𝓤 H A W w16) (uint-copy 𝓤 H A W w16) (uint-makes 𝓤 H A W w16) 256 0 (vint w16 0) (refl, lit< tt) l₆ (lit ! tt) (from ! (stop !)) (
       sets ! (of-opd ! (field-var ! refl refl refl)) refl (tt, fit n-fits) $
       -- let place = overfull::due_by(waiting, n, deadline);
       calls-for ! 𝓣 (1 ∷ []) (passed-on W waiting ∷ number W n n-fits ∷ number W deadline (deadline-is .1) ∷ []) (of-number w64) (λ c. known-due-by) (λ c h. h) (so 𝓤 within) refl (λ c. vars ! (refl, (refl, (refl, tt)))) (λ _. refl) (λ place last₁ placed kept₁ place-is.
       let place-within : place ≤ n = placed-within head ws xs client deadline accepted deadline place placed in
       -- let found = overfull::first_overfull(head, waiting, n, place, deadline);
-      calls-for ! 𝓣 (1 ∷ []) (the-head W head head-is ∷ passed-on W waiting ∷ number W n n-fits ∷ number W place (place-is .1) ∷ number W deadline (deadline-is .1) ∷ []) (of-number w64) (λ c. known-first-overfull) (λ c h. h) (so 𝓤 (within, small, place-within, clock head ws xs client deadline accepted)) refl (λ c. vars ! (refl, (refl, (refl, (refl, (refl, tt)))))) (λ _. refl) (λ found last₂ searched kept₂ found-is.
+      calls-for ! 𝓣 (1 ∷ []) (the-head W head head-is ∷ passed-on W waiting ∷ number W n n-fits ∷ number W place (place-is .1) ∷ number W deadline (deadline-is .1) ∷ []) (of-number w64) (λ c. known-first-overfull) (λ c h. h) (so 𝓤 (within, small, place-within, clock head ws xs client deadline accepted, some-slots head ws xs client deadline accepted)) refl (λ c. vars ! (refl, (refl, (refl, (refl, (refl, tt)))))) (λ _. refl) (λ found last₂ searched kept₂ found-is.
       -- let due = overfull::due_by(waiting, n, found);
       calls-for ! 𝓣 (1 ∷ []) (passed-on W waiting ∷ number W n n-fits ∷ number W found (found-is .1) ∷ []) (of-number w64) (λ c. known-due-by) (λ c h. h) (so 𝓤 within) refl (λ c. vars ! (refl, (refl, (refl, tt)))) (λ _. refl) (λ due last₃ ended kept₃ due-is.
       -- let last = overfull::candidates(n, due, found);

@@ -1,5 +1,5 @@
 -- `session::turns::records_after` meets its contract. Assumes nothing.
-use mathlib.Core.Path.{sym}
+use mathlib.Core.Path.{sym, _∙_}
 use borrow.Author.Needs.{needs}
 use Rattle.session.specs.Standing.{recordsAfter}
 use Rattle.session.proofs.Laws.NextLine.{after-other}
@@ -14,11 +14,11 @@ is-refused-requires c κs = search needs
 
 returns : tie.Need-returns
 unfolding recordsAfter
-returns c = search needs
+returns c = rw (c .before .before .before .frame .given .1, sym (c .before .is-refused .ensures) ∙ c .if1 .taken)
 
 returns-2 : tie.Need-returns-2
 unfolding recordsAfter
-returns-2 c = search needs
+returns-2 c = rw (c .before .before .before .frame .given .1, sym (c .before .is-refused .ensures) ∙ c .if1 .left)
 
 returns-3 : tie.Need-returns-3
 returns-3 c = sym (after-other (c .before .args .frame) (c .match .keys2) _ _)

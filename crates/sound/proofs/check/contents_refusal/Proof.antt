@@ -49,23 +49,23 @@ module _ {M : Type 1} (𝓤 : URA M) (H : Heap 𝓤) (A : Atoms 𝓤) (W : Given
       sets ! (agg ! (and-then ! (var ! refl) (and-then ! (big-lit ! (fit (lit< tt))) (no-more !)))) refl (tt, (tt, (fit (lit< tt), tt))) $
       -- let next = records::are_next(waiting, &mut tally, head, n);
       calls-for ! 𝓣 (1 ∷ 0 ∷ []) (passed-on W s₀ ∷ loan (array-lent W u16 1024 l₄ tt zeros tally-room zeros-long) ∷ the-head W head head-is ∷ waiting ∷ []) of-flag
-      (λ c. known-next) (λ c h. h) (so 𝓤 (next-asked head ws xs asked)) refl (λ c. vars ! (refl, (refl, (refl, (refl, tt))))) (λ _. refl) (λ next last₁ passed-next kept₁ _.
+      (λ c. known-next) (λ c h. h) (so 𝓤 (next-asked head ws xs asked)) refl (λ c. vars ! (refl, (refl, (refl, (refl, tt))))) (λ _. refl) (λ next last₁ told-next kept₁ _.
       let tally : List ℕ = last₁ .1 .0 in
       let size : length tally ≡ 1024 = kept₁ .1 .0 ∙ zeros-long in
       -- let zero = records::are_zero(waiting, n);
       calls-for ! 𝓣 (1 ∷ []) (passed-on W s₀ ∷ waiting ∷ []) of-flag
-      (λ c. known-zero) (λ c h. h) (so 𝓤 (next-asked head ws xs asked .1)) refl (λ c. vars ! (refl, (refl, tt))) (λ _. refl) (λ zero last₂ told-zero kept₂ _.
+      (λ c. known-zero) (λ c h. h) (so 𝓤 (next-asked head ws xs asked .1)) refl (λ c. vars ! (refl, (refl, tt))) (λ _. refl) (λ zero last₃ told-zero kept₃ _.
       sets ! (addr ! (from ! (stop !))) refl (tt, tt) $
       sets ! (agg ! (and-then ! (var ! refl) (and-then ! (big-lit ! (fit (lit< tt))) (no-more !)))) refl (tt, (tt, (fit (lit< tt), tt))) $
       sets ! (of-opd ! (inner-var ! refl refl refl refl refl)) refl (tt, fit (clients-fit head head-is)) $
       -- let balanced = are_balanced(&tally, numbers, head.setup.clients as usize);
       calls-for ! 𝓣 (0 ∷ 2 ∷ []) (loan (array-shared W u16 1024 l₄ tt tally (subst (Room u16) (sym (kept₁ .1 .0)) tally-room) size) ∷ passed-on W s₁ ∷ number W (head .setup .clients) (clients-fit head head-is) ∷ []) of-flag
-      (λ c. known-balanced) (λ c h. h) (so 𝓤 (balanced-asked head ws xs asked tally size)) refl (λ c. vars ! (refl, (refl, (refl, tt)))) (λ _. refl) (λ balanced last₃ told-balanced kept₃ _.
+      (λ c. known-balanced) (λ c h. h) (so 𝓤 (balanced-asked head ws xs asked tally size)) refl (λ c. vars ! (refl, (refl, (refl, tt)))) (λ _. refl) (λ balanced last₄ told-balanced kept₄ _.
       -- verdict(next, zero, balanced)
       calls-for ! 𝓣 [] (flag W next ∷ flag W zero ∷ flag W balanced ∷ []) (of-number w64)
-      (λ c. known-verdict) (λ c h. h) (id⊢ 𝓤 (emp 𝓤)) refl (λ c. vars ! (refl, (refl, (refl, tt)))) (λ _. refl) (λ r last₄ told kept₄ r-is.
+      (λ c. known-verdict) (λ c h. h) (id⊢ 𝓤 (emp 𝓤)) refl (λ c. vars ! (refl, (refl, (refl, tt)))) (λ _. refl) (λ r last₅ told kept₅ r-is.
       ends-array ! 4 u16 1024 l₄ tally $
-      gives ! refl refl $ leaves (vint w64 r) r tt tt (made W (of-number w64) r r-is) (so 𝓤 (contents-told head ws xs asked tally next zero balanced r passed-next told-zero told-balanced told))))))))
+      gives ! refl refl $ leaves (vint w64 r) r tt tt (made W (of-number w64) r r-is) (so 𝓤 (contents-told head ws xs asked tally next zero balanced r told-next told-zero told-balanced told))))))))
 
 pub contents-refusal-spec : {M : Type 1} → f.Statement.statement M
 unfolding f.Code.routine

@@ -54,6 +54,12 @@ enum-known-answer-7 c = search needs
 new-requires-8 : tie.Need-new-requires-8
 new-requires-8 c κs = search needs
 
+enum-known-answer-8 : tie.Need-enum-known-answer-8
+enum-known-answer-8 c = search needs
+
+new-requires-9 : tie.Need-new-requires-9
+new-requires-9 c κs = search needs
+
 returns : tie.Need-returns
 unfolding valueNumbers
 returns c = rw (c .new .ensures, c .before .enum-told .given .1) (refl, refl, search needs)
@@ -86,6 +92,10 @@ returns-8 : tie.Need-returns-8
 unfolding valueNumbers
 returns-8 c = rw (c .new8 .ensures, c .before .before .answer7 .given .1) (refl, refl, search needs)
 
+returns-9 : tie.Need-returns-9
+unfolding valueNumbers
+returns-9 c = rw (c .new9 .ensures, c .before .before .answer8 .given .1) (refl, refl, search needs)
+
 pub values-of-spec : {M : Type 1} → statement M
 values-of-spec =
     tie.close
@@ -106,6 +116,8 @@ values-of-spec =
     new-requires-7
     enum-known-answer-7
     new-requires-8
+    enum-known-answer-8
+    new-requires-9
     returns
     returns-2
     returns-3
@@ -113,4 +125,5 @@ values-of-spec =
     returns-5
     returns-6
     returns-7
-    returns-8)
+    returns-8
+    returns-9)

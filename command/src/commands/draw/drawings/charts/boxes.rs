@@ -3,12 +3,12 @@ use super::super::super::collect::chart::{Chart, Stretch};
 use super::super::super::collect::Ended;
 use super::super::super::said;
 use super::super::colours::{ink, of_row};
-use super::super::scale::{AXIS, DARK, FAINT, GREY, LEFT, RIGHT, UNIT, WIDTH};
+use super::super::scale::{AXIS, CLOSED, DARK, FAINT, GREY, LEFT, RIGHT, UNIT, WIDTH};
 use super::{length, TOP};
 use crate::session::follow::Read;
 use crate::drawing::svg::Svg;
 
-/// More free slots than these behind each other are drawn as one gap, and more than one where a band has no room for them.
+/// More free or closed slots than these behind each other are drawn as one gap, and more than one where a band has no room for them.
 const MOST_FREE: u64 = 3;
 /// Reads are drawn one by one where they fit below each other in so many bands.
 const MOST_BANDS: usize = 3;
@@ -37,8 +37,12 @@ impl Band<'_> {
         });
     }
 
-    fn draw_free(&self, svg: &mut Svg, place: usize, stretch: &Stretch) {
+    /// Slots that no read has, free or closed.
+    fn draw_empty(&self, svg: &mut Svg, place: usize, stretch: &Stretch) {
         svg.rect((self.x(place), TOP), (self.slot, BOX), FAINT);
+        if stretch.is_closed() {
+            svg.hatch((self.x(place), TOP), (self.slot, BOX), CLOSED);
+        }
         if stretch.is_cut() {
             svg.label((self.x(place) + self.slot / 2.0, TOP + BOX / 2.0 + 4.0), "middle", (14.0, GREY), "…");
         }
@@ -48,7 +52,7 @@ impl Band<'_> {
         for (place, stretch) in self.stretches.iter().enumerate() {
             match &stretch.read {
                 Some(read) => self.draw_read(svg, session, (place, stretch.left, read)),
-                None => self.draw_free(svg, place, stretch),
+                None => self.draw_empty(svg, place, stretch),
             }
         }
     }
@@ -63,7 +67,7 @@ impl Band<'_> {
             let x = self.x(place);
             svg.line((x, BOTTOM), (x, BOTTOM + 4.0), GREY);
             svg.label((x, BOTTOM + 18.0), "middle", (11.0, DARK), &slot.to_string());
-            if self.chart.reads.binary_search_by_key(&slot, |read| read.deadline).is_ok() {
+            if self.chart.is_deadline(slot) {
                 let mark = format!("M{x} {BOTTOM}l-4 6h8z");
                 svg.add("path", &[("d", &mark), ("fill", &DARK)], "");
             }
@@ -72,8 +76,9 @@ impl Band<'_> {
 
     /// The part of a segment that lies in the band, with its name where that has room.
     fn draw_segment(&self, svg: &mut Svg, segment: &(u64, u64)) {
-        let is_in = |stretch: &Stretch| stretch.read.is_some() && (segment.0..segment.1).contains(&stretch.left);
+        let is_in = |stretch: &Stretch| (segment.0..segment.1).contains(&stretch.left);
         let Some(first) = self.stretches.iter().position(is_in) else { return };
+        // It has reads in it and, between them, closed slots.
         let count = self.stretches.iter().filter(|stretch| is_in(stretch)).count();
         let (left, right, y) = (self.x(first) + 1.0, self.x(first + count) - 1.0, TOP - 7.0);
         let line = format!("M{left} {}v-4H{right}v4", y + 4.0);

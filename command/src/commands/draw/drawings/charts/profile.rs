@@ -3,7 +3,7 @@ use super::super::super::collect::chart::Chart;
 use super::super::super::collect::Ended;
 use super::super::super::said;
 use super::super::colours::of_row;
-use super::super::scale::{Scale, AXIS, DARK, FAINT, GREY, LEFT, WIDTH};
+use super::super::scale::{Scale, AXIS, CLOSED, DARK, FAINT, GREY, LEFT, WIDTH};
 use super::{length, TOP};
 use crate::numbers::counted;
 use crate::drawing::svg::Svg;
@@ -23,13 +23,15 @@ struct Profile {
     width: u64,
     /// How many are taken, by row of clients and column.
     taken: Vec<Vec<u64>>,
+    /// How many are closed, by column.
+    closed: Vec<u64>,
     /// How many reads have to end with a slot of the column.
     deadlines: Vec<u64>,
 }
 
 impl Profile {
     fn of(session: &Ended, chart: &Chart) -> Profile {
-        let slots = chart.right() - chart.clock;
+        let slots = chart.end() - chart.clock;
         let width = slots.div_ceil(COLUMNS).max(1);
         let empty = vec![0; slots.div_ceil(width) as usize];
         let last = empty.len().saturating_sub(1);
@@ -40,7 +42,8 @@ impl Profile {
             taken[session.clients.place(read.client)][column(slot)] += 1;
             deadlines[column(read.deadline - 1)] += 1;
         }
-        Profile { width, taken, deadlines }
+        let closed = closed(chart, width);
+        Profile { width, taken, closed, deadlines }
     }
 
     /// How many slots of each column are taken by the rows up to this.
@@ -68,6 +71,16 @@ impl Profile {
         svg.rects(&bars.collect::<Vec<_>>(), of_row(&session.clients, row));
     }
 
+    /// What is closed hangs from above. What is taken does not reach it, since no read has a closed slot.
+    fn draw_closed(&self, svg: &mut Svg, scale: &Scale) {
+        let bar = |(column, &closed): (usize, &u64)| {
+            let (x, width) = self.place(scale, column);
+            ((x, TOP), (width, HEIGHT * closed as f64 / self.width as f64))
+        };
+        let bars = self.closed.iter().enumerate().filter(|(_, closed)| **closed > 0).map(bar);
+        svg.rects(&bars.collect::<Vec<_>>(), CLOSED);
+    }
+
     fn draw_deadlines(&self, svg: &mut Svg, scale: &Scale) {
         let most = self.deadlines.iter().copied().max().unwrap_or(1).max(1);
         let bar = |(column, &deadlines): (usize, &u64)| {
@@ -77,6 +90,12 @@ impl Profile {
         let bars = self.deadlines.iter().enumerate().filter(|(_, deadlines)| **deadlines > 0).map(bar);
         svg.rects(&bars.collect::<Vec<_>>(), GREY);
     }
+}
+
+/// How many slots are closed in each column of this width.
+fn closed(chart: &Chart, width: u64) -> Vec<u64> {
+    let slots: Vec<u64> = (chart.clock..chart.end()).map(|slot| u64::from(!chart.hours.is_open(slot))).collect();
+    slots.chunks(width as usize).map(|column| column.iter().sum()).collect()
 }
 
 /// The segments as lines above, from end to end. Gaps that are too narrow to be seen are left out, since segments are many.
@@ -106,12 +125,15 @@ fn draw_names(svg: &mut Svg, chart: &Chart, scale: &Scale) {
 pub fn profile(session: &Ended, chart: &Chart) -> (String, String) {
     let scale = Scale {
         first: chart.clock,
-        end: chart.right(),
-        slot: WIDTH / (chart.right() - chart.clock).max(1) as f64,
+        end: chart.end(),
+        slot: WIDTH / (chart.end() - chart.clock).max(1) as f64,
     };
     let profile = Profile::of(session, chart);
     let mut svg = Svg::new(scale.width(), BOTTOM + AXIS, &said::heading(chart));
     svg.rect((LEFT, TOP), (WIDTH, HEIGHT), FAINT);
+    if chart.has_closed() {
+        profile.draw_closed(&mut svg, &scale);
+    }
     (0..session.clients.rows()).for_each(|row| profile.draw_row(&mut svg, session, &scale, row));
     profile.draw_deadlines(&mut svg, &scale);
     let lines = lines(chart, &scale);
@@ -124,14 +146,16 @@ pub fn profile(session: &Ended, chart: &Chart) -> (String, String) {
     svg.rect((LEFT - 1.5, TOP - 4.0), (3.0, BOTTOM - TOP + 4.0), DARK);
     scale.axis(&mut svg, BOTTOM);
     let stands = counted(profile.width, "slot");
-    let said =
-        format!(" A column stands for {stands} and is as high as the share of them that is taken; below hang the deadlines in it.");
+    let closed = if chart.has_closed() { "; from above hangs the share that is closed" } else { "" };
+    let said = format!(
+        " A column stands for {stands} and is as high as the share of them that is taken{closed}; below hang the deadlines in it."
+    );
     (said, svg.drawing())
 }
 
 #[cfg(test)]
 mod tests {
-    use super::super::super::super::collect::chart::tests::chart_of;
+    use super::super::super::super::collect::chart::tests::{chart_in_hours, chart_of};
     use super::super::super::super::collect::tests::{collected, DOCUMENT_01};
     use super::*;
 
@@ -142,9 +166,18 @@ mod tests {
     }
 
     #[test]
+    fn a_closed_slot_is_not_taken_and_a_deadline_may_lie_behind_it() {
+        // Slots 0, 1, 4 and 5 are open, and 6 to 335 closed.
+        let chart = chart_in_hours(2, "0,2", &[3, 5, 8], &[(1, 6)]);
+        let profile = Profile::of(&collected(&DOCUMENT_01).ended[0], &chart);
+        assert_eq!(profile.taken[0], [0, 1, 0, 0, 1, 1, 0, 0]);
+        assert_eq!((profile.closed, profile.deadlines), (vec![0, 0, 1, 1, 0, 0, 1, 1], vec![0, 0, 1, 0, 1, 0, 0, 1]));
+    }
+
+    #[test]
     fn rows_stand_on_each_other() {
         let session = &collected(&DOCUMENT_01).ended[0];
-        let profile = Profile { width: 2, taken: vec![vec![1], vec![1]], deadlines: vec![2] };
+        let profile = Profile { width: 2, taken: vec![vec![1], vec![1]], closed: vec![0], deadlines: vec![2] };
         let mut svg = Svg::new(1.0, 1.0, "");
         let scale = Scale { first: 0, end: 2, slot: 10.0 };
         (0..2).for_each(|row| profile.draw_row(&mut svg, session, &scale, row));

@@ -3,7 +3,7 @@ use super::super::super::collect::recent::Slot;
 use super::super::super::collect::Ended;
 use super::super::super::said;
 use super::super::colours::{ink, of_row};
-use super::super::scale::{Scale, DROP, LEFT, RIGHT, WIDTH};
+use super::super::scale::{Scale, CLOSED, DROP, LEFT, RIGHT, WIDTH};
 use super::{periods, Rows};
 use crate::session::follow::Read;
 use crate::numbers::grouped;
@@ -43,9 +43,11 @@ fn draw_slot(svg: &mut Svg, session: &Ended, rows: &Rows, scale: &Scale, (number
         let fill = of_row(&session.clients, row);
         draw_served(svg, (x, rows.top(row)), (scale.slot, rows.boxes), (number, read), fill);
     }
-    if slot.has_passed && slot.served.is_empty() {
-        let draw = |svg: &mut Svg| svg.rect((x + 0.5, rows.idle()), (scale.slot - 1.0, rows.boxes), IDLE);
-        svg.titled(&format!("slot {number}: nothing waits"), draw);
+    let (left, size) = (x + 0.5, (scale.slot - 1.0, rows.boxes));
+    if slot.is_closed {
+        svg.titled(&format!("slot {number}: closed"), |svg| svg.hatch((left, rows.closed()), size, CLOSED));
+    } else if slot.has_passed && slot.served.is_empty() {
+        svg.titled(&format!("slot {number}: nothing waits"), |svg| svg.rect((left, rows.idle()), size, IDLE));
     }
 }
 
@@ -68,11 +70,7 @@ fn draw_drops(svg: &mut Svg, session: &Ended, rows: &Rows, scale: &Scale, (numbe
 
 /// Some slots in a band of their own, each with its number. All bands of a session have one width, so that they shrink alike.
 fn band(session: &Ended, slots: &[(u64, &Slot)], width_of_slot: f64, width: f64) -> String {
-    let rows = Rows {
-        count: session.clients.rows(),
-        drops: 13.0,
-        boxes: 20.0,
-    };
+    let rows = Rows::new(session, 13.0, 20.0);
     let first = slots.first().map_or(0, |(number, _)| *number);
     let scale = Scale {
         first,

@@ -2,7 +2,7 @@
 use super::super::super::collect::columns::Column;
 use super::super::super::collect::Ended;
 use super::super::colours::of_row;
-use super::super::scale::{Scale, DROP, GREY, LEFT, WIDTH};
+use super::super::scale::{Scale, CLOSED, DROP, GREY, LEFT, WIDTH};
 use super::{periods, Rows};
 use crate::numbers::{counted, grouped};
 use crate::drawing::page::{drawings, paragraph};
@@ -59,6 +59,9 @@ impl Shares<'_> {
             svg.rects(&dropped, DROP);
         }
         self.draw_shares(svg, self.rows.idle(), GREY, |column| column.idle);
+        if self.rows.has_closed {
+            self.draw_shares(svg, self.rows.closed(), CLOSED, |column| column.closed);
+        }
     }
 }
 
@@ -84,11 +87,7 @@ pub fn shares(session: &Ended) -> String {
     let shares = Shares {
         session,
         scale: Scale { first: 0, end, slot: WIDTH / end as f64 },
-        rows: Rows {
-            count: session.clients.rows(),
-            drops: 20.0,
-            boxes: 28.0,
-        },
+        rows: Rows::new(session, 20.0, 28.0),
     };
     let most_dropped = shares.columns().iter().flat_map(|column| &column.dropped).copied().max().unwrap_or_default();
     let mut svg = shares.rows.drawing(session, &shares.scale, shares.scale.width());
