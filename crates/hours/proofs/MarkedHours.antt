@@ -1,5 +1,5 @@
 -- The marks of the hours as bits of four numbers: single ones, and how many are 1. Assumes nothing.
-use Prim.Native.Nat.{ℕ, zero, suc, _+_, _-_, _/_, _%_, _^_, _≤_, _<_}
+use Prim.Native.Nat.{ℕ, zero, suc, _+_, _-_, _*_, _/_, _%_, _^_, _≤_, _<_}
 use mathlib.Core.Path.{_≡_, refl, ap, ap₂, sym, _∙_}
 use mathlib.Core.Bool.{Bool, true, false, _&&_}
 use native.Mathlib.Omega.{arith}
@@ -9,7 +9,7 @@ use lib.Dec.{eqb, lit<}
 use lib.Arith.{half-le}
 use lib.Count.{ones, ones-step, ones-le}
 use lib.Pow.{pow-pos, ones-split, ones-lt, high, shr-shr}
-use Rattle.slots.proofs.Laws.Tests.{Same, same-yes, same-no, same, le, gt, order}
+use Rattle.slots.proofs.Laws.Tests.{Same, same-yes, same-no, same, Order, le, gt, order}
 use Rattle.spec.specs.declared.types.Setup.{Setup}
 use Rattle.spec.specs.Tables.{hours}
 use Rattle.spec.specs.Hours.{bit, markOf, sumFrom, openHours}
@@ -35,6 +35,46 @@ module _ (setup : Setup) (hour : ℕ) where
   pub mark-160 : 160 ≤ hour → markOf setup hour ≡ bit (setup .marks160) (167 - hour)
   unfolding markOf
   mark-160 h = rw (le-ltb hour 64 (omega arith), le-ltb hour 128 (omega arith), le-ltb hour 160 h)
+
+-- ---- .. and in which of three, where the last two are one: 128 hours are before it, and behind its bits come 24 more
+-- bits below do not matter to one above them
+bit-above : (x low k j : ℕ) → low < 2 ^ k → bit (x * 2 ^ k + low) (k + j) ≡ bit x j
+bit-above x low k j l = ap (λ (y : ℕ). y % 2) (sym (shr-shr (x * 2 ^ k + low) k j)) ∙ ap (λ (y : ℕ). y / 2 ^ j % 2) (high x k l)
+
+-- .. nor do bits above to one below them
+bit-half : (x k : ℕ) → bit x (suc k) ≡ bit (x / 2) k
+bit-half x k = let e : suc k ≡ 1 + k = omega arith in rw e (ap (λ (y : ℕ). y % 2) (sym (shr-shr x 1 k)))
+
+bit-below : (x low n k : ℕ) → k < n → bit (x * 2 ^ n + low) k ≡ bit low k
+bit-below x low zero k l = absurd (omega arith)
+bit-below x low (suc n) zero l =
+    let p : x * 2 ^ suc n ≡ x * 2 ^ n * 2 = ap (λ (y : ℕ). x * y) (pow-suc 2 n) ∙ omega arith in
+    omega (arith, p, div-one (x * 2 ^ suc n + low), div-one low)
+bit-below x low (suc n) (suc k) l =
+    let p : x * 2 ^ suc n ≡ x * 2 ^ n * 2 = ap (λ (y : ℕ). x * y) (pow-suc 2 n) ∙ omega arith in
+    let q : (x * 2 ^ suc n + low) / 2 ≡ x * 2 ^ n + low / 2 = omega (arith, p) in
+    bit-half (x * 2 ^ suc n + low) k ∙ ap (λ (y : ℕ). bit y k) q ∙ bit-below x (low / 2) n k (omega arith) ∙ sym (bit-half low k)
+
+module _ (setup : Setup) (hour : ℕ) where
+  pub word-0 : hour < 64 → bit (setup .marks0) (63 - hour % 64) ≡ markOf setup hour
+  word-0 l = let e : 63 - hour % 64 ≡ 63 - hour = omega arith in rw e (sym (mark-0 setup hour l))
+
+  pub word-64 : 64 ≤ hour → hour < 128 → bit (setup .marks64) (63 - hour % 64) ≡ markOf setup hour
+  word-64 h l = let e : 63 - hour % 64 ≡ 127 - hour = omega arith in rw e (sym (mark-64 setup hour h l))
+
+  pub word-128 : 128 ≤ hour → hour < hours → setup .marks160 < 2 ^ 8
+      → bit (setup .marks128 * 4294967296 + setup .marks160 * 16777216) (63 - hour % 64) ≡ markOf setup hour
+  word-128 h l fits =
+      let word : ℕ = setup .marks128 * 2 ^ 8 + setup .marks160 in
+      let e : 63 - hour % 64 ≡ 24 + (167 - hour) = omega arith in
+      let g : setup .marks128 * 4294967296 + setup .marks160 * 16777216 ≡ word * 2 ^ 24 + 0 = omega arith in
+      rw (e, g) (bit-above word 0 24 (167 - hour) (lit< tt) ∙ go (order 160 hour))
+    where
+      go : Order 160 hour → bit (setup .marks128 * 2 ^ 8 + setup .marks160) (167 - hour) ≡ markOf setup hour
+      go (le k) = bit-below (setup .marks128) (setup .marks160) 8 (167 - hour) (omega arith) ∙ sym (mark-160 setup hour k)
+      go (gt k) =
+          let j : 167 - hour ≡ 8 + (159 - hour) = omega arith in
+          rw j (bit-above (setup .marks128) (setup .marks160) 8 (159 - hour) fits ∙ sym (mark-128 setup hour h k))
 
 -- ---- every hour is open: each bit of the largest number of n bits is 1
 odd : (j : ℕ) → (2 ^ suc j - 1) % 2 ≡ 1

@@ -1,17 +1,40 @@
 -- Stretches of open slots: those of an open hour, and closed slots passed over. Assumes nothing.
-use Prim.Native.Nat.{ℕ, zero, suc, _+_, _-_, _*_, _/_, _%_, _≤_, _<_}
+use Prim.Native.Nat.{ℕ, zero, suc, _+_, _-_, _*_, _%_, _≤_, _<_, min}
 use mathlib.Core.Path.{_≡_, refl, ap, sym, _∙_}
 use mathlib.Core.Bool.{true, false}
 use native.Mathlib.Omega.{arith}
-use native.Mathlib.Nat.{div-mul-le-self, lt-div-mul-add}
 use borrow.Author.Tests.{lt-ltb, le-ltb}
+use Rattle.slots.proofs.Laws.Tests.{le, gt, order}
 use Rattle.spec.specs.declared.types.Setup.{Setup}
 use Rattle.spec.specs.Tables.{hours}
 use Rattle.spec.specs.Hours.{markOf, capacityOf, isOpen}
 use Rattle.spec.proofs.Laws.Room.{mark-most}
-use Rattle.hours.specs.declared.calendar.Stretch.{Stretch}
-use Rattle.hours.specs.Week.{latestOpen, OpenFrom}
+use Rattle.hours.specs.declared.calendar.Hour.{Hour}
+use Rattle.hours.specs.Week.{latestOpen, IsHour, stretchTo, OpenFrom}
 use Rattle.hours.proofs.OpenSlots.{capacity-hour-0, capacity-in-hour}
+
+-- ---- the hour before one that begins behind slot 0
+module _ (setup : Setup) (hour : Hour) (is : IsHour setup hour) (later : 1 ≤ hour .start) where
+  one-less : (k : ℕ) → 1 ≤ k → (k - 1) * setup .hour + setup .hour ≡ k * setup .hour
+  one-less zero l = absurd (omega arith)
+  one-less (suc k) l = let e : suc k - 1 ≡ k = omega arith in rw e (omega arith)
+
+  pub not-first : 1 ≤ is .others
+  not-first =
+      elim (order 1 (is .others)) [
+        | le h ↦ h
+        | gt h ↦ let e : is .others ≡ 0 = omega arith in absurd (omega (arith, is .begins ∙ ap (λ (k : ℕ). k * setup .hour) e))
+      ]
+
+  pub fits : setup .hour ≤ hour .start
+  fits = omega (arith, is .begins, one-less (is .others) not-first)
+
+  pub hour-back : (number : ℕ) → number ≡ (is .others - 1) % hours
+      → IsHour setup (record { number = number; start = hour .start - setup .hour }) × (hour .start - setup .hour + setup .hour ≡ hour .start)
+  hour-back number e = (
+    record { others = is .others - 1; begins = omega (arith, is .begins, one-less (is .others) not-first); numbered = e },
+    omega (arith, fits),
+  )
 
 module _ (setup : Setup) where
   -- ---- a slot of an hour with a mark is open, of one without is closed
@@ -30,10 +53,15 @@ module _ (setup : Setup) where
       let e : start + suc n ≡ suc (start + n) = omega arith in
       rw (e, closed n (omega arith)) (closed-passed start n (λ k l. closed k (omega arith)))
 
+  -- ---- the first hour
+  pub first-hour : IsHour setup (record { number = 0; start = 0 })
+  first-hour = record { others = 0; begins = omega arith; numbered = omega arith }
+
   -- ---- every slot is in hour 0
   module _ (none : setup .hour ≡ 0) where
-    pub open-always : markOf setup 0 ≡ 1 → (end : ℕ) → OpenFrom setup (record { start = 0; end = end })
+    pub open-always : markOf setup 0 ≡ 1 → (end : ℕ) → OpenFrom setup (stretchTo end)
     open-always m end = record {
+      hour = first-hour;
       all-open = λ x l b. marked-open x 0 (capacity-hour-0 setup none x) m;
       some = λ n. omega arith;
     }
@@ -43,35 +71,33 @@ module _ (setup : Setup) where
         let e : end ≡ 0 + end = omega arith in
         ap (latestOpen setup) e ∙ closed-passed 0 end (λ k l. unmarked-closed (0 + k) 0 (capacity-hour-0 setup none (0 + k)) m)
 
-  -- ---- the hour in which the last slot before e lies
-  module _ (pos : 0 < setup .hour) (e : ℕ) (some : 0 < e) where
-    abbrev h : ℕ
-    h = (e - 1) / setup .hour
-
-    abbrev start : ℕ
-    start = h * setup .hour
-
-    pub start-before : start < e
-    start-before = omega (arith, div-mul-le-self (e - 1) (setup .hour))
-
-    inside : (x : ℕ) → start ≤ x → x < e → capacityOf setup x ≡ markOf setup (h % hours)
+  -- ---- the slots of an hour, all of them open or all closed
+  module _ (pos : 0 < setup .hour) (hour : Hour) (is : IsHour setup hour) (e : ℕ) (within : e ≤ hour .start + setup .hour) where
+    inside : (x : ℕ) → hour .start ≤ x → x < e → capacityOf setup x ≡ markOf setup (hour .number)
     inside x l b =
-        let g : start + (x - start) ≡ x = omega arith in
-        ap (capacityOf setup) (sym g)
-        ∙ capacity-in-hour setup pos h (x - start) (omega (arith, lt-div-mul-add {a = e - 1} pos))
+        let g : is .others * setup .hour + (x - hour .start) ≡ x = omega (arith, is .begins) in
+        ap (capacityOf setup) (sym g) ∙ capacity-in-hour setup pos (is .others) (x - hour .start) (omega arith) ∙ ap (markOf setup) (sym (is .numbered))
 
-    pub open-hour : markOf setup (h % hours) ≡ 1 → OpenFrom setup (record { start = start; end = e })
-    open-hour m = record {
-      all-open = λ x l b. marked-open x (h % hours) (inside x l b) m;
-      some = λ n. absurd (n start-before);
+    pub open-hour : markOf setup (hour .number) ≡ 1 → hour .start < e → OpenFrom setup (record { hour = hour; end = e })
+    open-hour m some = record {
+      hour = is;
+      all-open = λ x l b. marked-open x (hour .number) (inside x l b) m;
+      some = λ n. absurd (n some);
     }
 
-    pub closed-hour : (markOf setup (h % hours) ≡ 1 → ⊥) → latestOpen setup e ≡ latestOpen setup start
+    pub closed-hour : (hour .start < e → markOf setup (hour .number) ≡ 1 → ⊥) → latestOpen setup e ≡ latestOpen setup (min e (hour .start))
     closed-hour m =
-        let g : e ≡ start + (e - start) = omega (arith, start-before) in
-        ap (latestOpen setup) g
-        ∙ closed-passed start (e - start) (λ k l. unmarked-closed (start + k) (h % hours) (inside (start + k) (omega arith) (omega arith)) m)
+        elim (order e (hour .start)) [
+          | le h ↦ let g : min e (hour .start) ≡ e = omega arith in ap (latestOpen setup) (sym g)
+          | gt h ↦
+              let g : e ≡ hour .start + (e - hour .start) = omega arith in
+              let q : min e (hour .start) ≡ hour .start = omega arith in
+              ap (latestOpen setup) g
+              ∙ closed-passed (hour .start) (e - hour .start)
+              (λ k l. unmarked-closed (hour .start + k) (hour .number) (inside (hour .start + k) (omega arith) (omega arith)) (m h))
+              ∙ ap (latestOpen setup) (sym q)
+        ]
 
 -- a stretch without slots
-pub no-slots : (setup : Setup) → OpenFrom setup (record { start = 0; end = 0 })
-no-slots setup = record { all-open = λ x l b. absurd (omega arith); some = λ n. refl }
+pub no-slots : (setup : Setup) → OpenFrom setup (stretchTo 0)
+no-slots setup = record { hour = first-hour setup; all-open = λ x l b. absurd (omega arith); some = λ n. refl }

@@ -9,6 +9,7 @@ use Rattle.spec.specs.declared.types.Setup.{Setup}
 use Rattle.spec.specs.Tables.{hours}
 use Rattle.spec.specs.Hours.{bit, markOf, isOpen, sumFrom, room}
 use Rattle.hours.specs.declared.calendar.Line.{Line}
+use Rattle.hours.specs.declared.calendar.Hour.{Hour}
 use Rattle.hours.specs.declared.calendar.Stretch.{Stretch}
 
 -- whether every mark is 1
@@ -46,7 +47,18 @@ unfoldable pub latestOpen : Setup → ℕ → ℕ
 latestOpen setup zero = 0
 latestOpen setup (suc e) = let earlier = latestOpen setup e in cond (isOpen setup e) e earlier
 
--- the slots of a stretch are open; one without slots ends at 0
+-- an hour comes behind so many others: it begins behind their slots, and its number is what they leave of whole weeks
+pub record IsHour (setup : Setup) (hour : Hour) : Type 0 where
+  pub others : ℕ
+  pub begins : hour .start ≡ others * setup .hour
+  pub numbered : hour .number ≡ others % hours
+
+-- a stretch from slot 0 on
+abbrev pub stretchTo : ℕ → Stretch
+stretchTo end = record { hour = record { number = 0; start = 0 }; end = end }
+
+-- the slots of a stretch are open, and begin with an hour; one without slots ends at 0
 pub record OpenFrom (setup : Setup) (s : Stretch) : Type 0 where
-  pub all-open : (x : ℕ) → s .start ≤ x → x < s .end → isOpen setup x ≡ true
-  pub some : (s .start < s .end → ⊥) → s .end ≡ 0
+  pub hour : IsHour setup (s .hour)
+  pub all-open : (x : ℕ) → s .hour .start ≤ x → x < s .end → isOpen setup x ≡ true
+  pub some : (s .hour .start < s .end → ⊥) → s .end ≡ 0

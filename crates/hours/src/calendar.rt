@@ -3,11 +3,14 @@ use crate::marks;
 use spec::bounds::HOURS;
 use spec::types::Setup;
 ghost use mathlib.Core.Path.{_≡_};
-ghost use Prim.Native.Nat.{_+_, _%_, _≤_, _<_};
+ghost use Prim.Native.Nat.{_+_, _%_, _≤_, _<_, min};
 ghost use lib.Dec.{ltb};
 ghost use Rattle.spec.specs.Tables.{hours};
 ghost use Rattle.spec.specs.Hours.{markOf, isOpen, room};
-ghost use Rattle.hours.specs.Week.{openHoursBefore, Counted, Below, latestOpen, OpenFrom};
+ghost use Rattle.hours.specs.Week.{openHoursBefore, Counted, Below, latestOpen, IsHour, stretchTo, OpenFrom};
+
+// As many hours are gone back in steps.
+const FEW_HOURS: u64 = 4;
 
 // The last slot that has a line.
 const LAST_OF_LINES: u64 = 1125899906842624;
@@ -116,32 +119,117 @@ pub fn line_by(setup: Setup, counts: &[u8], slot: u64) -> Line
     }
 }
 
-// Slots that are all open: start, .. end - 1.
-pub struct Stretch {
+// An hour: its number in the week, and its first slot.
+pub struct Hour {
+    pub number: u64,
     pub start: u64,
+}
+
+// The hour in which a slot lies.
+fn hour_of(setup: Setup, slot: u64) -> Hour
+    requires { ⌜ 1 ≤ setup .hour ⌝ }
+    ensures { λ r. ⌜ IsHour setup r × (slot < r .start + setup .hour) ⌝ }
+{
+    let hours_before = slot / setup.hour;
+    Hour {
+        number: hours_before % HOURS,
+        start: hours_before * setup.hour,
+    }
+}
+
+// The hour before one that is not the first.
+fn hour_before(setup: Setup, hour: Hour) -> Hour
+    requires { ⌜ IsHour setup hour × (1 ≤ setup .hour) × (1 ≤ hour .start) ⌝ }
+    ensures { λ r. ⌜ IsHour setup r × (r .start + setup .hour ≡ hour .start) ⌝ }
+{
+    let start = hour.start - setup.hour;
+    if hour.number == 0 {
+        return Hour {
+            number: HOURS - 1,
+            start,
+        };
+    }
+    Hour {
+        number: hour.number - 1,
+        start,
+    }
+}
+
+// An hour from which on the latest open slots before `end` are looked for: where the hour held begins behind `end`, and by few hours, the one
+// before it, since some steps take less time than a division.
+fn hour_to_go_back_from(setup: Setup, held: Hour, end: u64) -> Hour
+    requires { ⌜ IsHour setup held × (1 ≤ setup .hour) × (1 ≤ end) ⌝ }
+    ensures { λ r. ⌜ IsHour setup r × (end ≤ r .start + setup .hour) ⌝ }
+{
+    if end <= held.start {
+        if (held.start - end) / FEW_HOURS < setup.hour {
+            return hour_before(setup, held);
+        }
+    }
+    hour_of(setup, end - 1)
+}
+
+// The smaller of two slots.
+pub fn earlier(a: u64, b: u64) -> u64
+    ensures { λ r. ⌜ r ≡ min a b ⌝ }
+{
+    if a < b { a } else { b }
+}
+
+// Slots of one hour that are all open: from its first one to end - 1.
+pub struct Stretch {
+    pub hour: Hour,
     pub end: u64,
 }
 
-// The last open slots before `end` that lie in one hour; none, and both ends 0, where no open slot comes before it. Closed hours are
-// gone over in one step each.
-pub fn open_stretch_before(setup: Setup, end: u64) -> Stretch
+// A stretch that begins with slot 0, up to `end`.
+pub fn stretch_to(end: u64) -> Stretch
+    ensures { λ r. ⌜ r ≡ stretchTo end ⌝ }
+{
+    let hour = Hour {
+        number: 0,
+        start: 0,
+    };
+    Stretch { hour, end }
+}
+
+// The last open slots before `end` that lie in one hour, from an hour back that ends at `end` or behind it. Hours are gone over in one step
+// each.
+fn open_stretch_from(setup: Setup, from: Hour, end: u64) -> Stretch
+    requires { ⌜ IsHour setup from × (1 ≤ setup .hour) × (end ≤ from .start + setup .hour) ⌝ }
     ensures { λ r. ⌜ OpenFrom setup r × (r .end ≤ end) × (latestOpen setup end ≡ latestOpen setup (r .end)) ⌝ }
 {
+    let mut hour = from;
+    let mut e = end;
+    loop {
+        let mark = marks::mark_of(setup, hour.number);
+        if (hour.start < e) & (mark == 1) {
+            break Stretch { hour, end: e };
+        }
+        if hour.start == 0 {
+            break stretch_to(0);
+        }
+        e = earlier(e, hour.start);
+        hour = hour_before(setup, hour);
+    }
+}
+
+// The last open slots before `end` that lie in one hour; none, and both ends 0, where no open slot comes before it. The hour held may be any
+// one.
+pub fn open_stretch_before(setup: Setup, held: Hour, end: u64) -> Stretch
+    requires { ⌜ IsHour setup held ⌝ }
+    ensures { λ r. ⌜ OpenFrom setup r × (r .end ≤ end) × (latestOpen setup end ≡ latestOpen setup (r .end)) ⌝ }
+{
+    if end == 0 {
+        return stretch_to(0);
+    }
     if setup.hour == 0 {
         return if marks::mark_of(setup, 0) == 1 {
-            Stretch { start: 0, end }
+            stretch_to(end)
         } else {
-            Stretch { start: 0, end: 0 }
+            stretch_to(0)
         };
     }
-    let mut e = end;
-    while 0 < e {
-        let hour = (e - 1) / setup.hour;
-        let start = hour * setup.hour;
-        if marks::mark_of(setup, hour % HOURS) == 1 {
-            return Stretch { start, end: e };
-        }
-        e = start;
-    }
-    Stretch { start: 0, end: 0 }
+    let from = hour_to_go_back_from(setup, held, end);
+    open_stretch_from(setup, from, end)
 }

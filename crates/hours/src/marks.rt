@@ -1,7 +1,7 @@
 // The 168 marks: single ones, and how many hours are open. They stand in four numbers, first hour in the highest bit.
 use spec::types::Setup;
 ghost use mathlib.Core.Path.{_≡_};
-ghost use Prim.Native.Nat.{_+_, _-_, _≤_, _<_, _^_};
+ghost use Prim.Native.Nat.{_+_, _-_, _%_, _≤_, _<_, _^_};
 ghost use lib.Dec.{eqb};
 ghost use lib.ListN.{length, getD};
 ghost use Rattle.spec.specs.Tables.{hours};
@@ -23,21 +23,27 @@ pub fn are_all_closed(setup: Setup) -> bool
     ((setup.marks0 == 0) & (setup.marks64 == 0)) & ((setup.marks128 == 0) & (setup.marks160 == 0))
 }
 
+// A number that has the mark of an hour of the week, at the bit that 64 hours a number give it: the last two of the four numbers are taken
+// together, so that the marks stand in three.
+fn word_of(setup: Setup, hour: u64) -> u64
+    requires { ⌜ hour < hours ⌝ }
+    ensures { λ r. ⌜ bit r (63 - hour % 64) ≡ markOf setup hour ⌝ }
+{
+    if hour < 64 {
+        return setup.marks0;
+    }
+    if hour < 128 {
+        return setup.marks64;
+    }
+    (setup.marks128 as u64) * 4294967296 + (setup.marks160 as u64) * 16777216
+}
+
 // The mark of an hour of the week.
 pub fn mark_of(setup: Setup, hour: u64) -> u64
     requires { ⌜ hour < hours ⌝ }
     ensures { λ r. ⌜ r ≡ markOf setup hour ⌝ }
 {
-    if hour < 64 {
-        return (setup.marks0 >> (63 - hour)) % 2;
-    }
-    if hour < 128 {
-        return (setup.marks64 >> (127 - hour)) % 2;
-    }
-    if hour < 160 {
-        return ((setup.marks128 as u64) >> (159 - hour)) % 2;
-    }
-    ((setup.marks160 as u64) >> (167 - hour)) % 2
+    (word_of(setup, hour) >> (63 - hour % 64)) % 2
 }
 
 // How many of the highest n bits are 1, of a number that has so many bits.

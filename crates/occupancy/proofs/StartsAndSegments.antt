@@ -20,8 +20,9 @@ use Rattle.spec.specs.Chart.{Segment, taken, latestFree, doTouch, joinLeft, seg
 use Rattle.spec.proofs.Laws.Every.{cond-true, number-no}
 use Rattle.spec.proofs.Laws.Room.{capacity-most}
 use Rattle.hours.specs.declared.calendar.Stretch.{Stretch}
-use Rattle.hours.specs.Week.{areAllOpen, latestOpen, OpenFrom}
+use Rattle.hours.specs.Week.{areAllOpen, latestOpen, stretchTo, OpenFrom}
 use Rattle.hours.proofs.OpenSlots.{all-open-capacity}
+use Rattle.hours.proofs.Stretches.{first-hour}
 use Rattle.occupancy.specs.Charted.{startSlot, startSlots, segment}
 use Rattle.table.specs.Widths.{largest64}
 use Rattle.table.proofs.Remaining.{rest-cons, rest-none}
@@ -36,21 +37,22 @@ latest-last setup (suc e) h o =
     rw q (cond-true (isOpen setup e) e (latestOpen setup e) (rw q at o))
 
 -- .. so one before a slot that lies among open ones, or at their end, is known with these
-pub latest-held : (setup : Setup) (held : Stretch) (e : ℕ) → OpenFrom setup held → held .start < e → e ≤ held .end
+pub latest-held : (setup : Setup) (held : Stretch) (e : ℕ) → OpenFrom setup held → held .hour .start < e → e ≤ held .end
     → latestOpen setup e ≡ e - 1
 latest-held setup held e o h k = latest-last setup e (omega arith) (o .all-open (e - 1) (omega arith) (omega arith))
 
 -- .. and the last of them is the latest before their end
 pub latest-at-end : (setup : Setup) (held : Stretch) → OpenFrom setup held → (held .end ≡ 0 → ⊥) → latestOpen setup (held .end) ≡ held .end - 1
 latest-at-end setup held o some =
-    elim (order (held .end) (held .start)) [
+    elim (order (held .end) (held .hour .start)) [
       | le k ↦ absurd (some (o .some (λ h. omega arith)))
       | gt k ↦ latest-held setup held (held .end) o k (omega arith)
     ]
 
 -- where all hours are open, all slots are
-pub all-slots : (setup : Setup) (end : ℕ) → areAllOpen setup ≡ true → 0 < end → OpenFrom setup (record { start = 0; end = end })
+pub all-slots : (setup : Setup) (end : ℕ) → areAllOpen setup ≡ true → 0 < end → OpenFrom setup (stretchTo end)
 all-slots setup end all h = record {
+  hour = first-hour setup;
   all-open = λ x l b. lt-ltb 0 (capacityOf setup x) (omega (arith, all-open-capacity setup all x));
   some = λ n. absurd (n h);
 }

@@ -13,6 +13,9 @@ ghost use Rattle.spec.specs.Tables.{deadlinesOf};
 ghost use Rattle.hours.specs.Week.{latestOpen, OpenFrom};
 ghost use Rattle.occupancy.specs.Charted.{startSlots};
 
+// The largest slot that a number can have.
+const LAST: u64 = 18446744073709551615;
+
 // Where the chart stands: the start slot of the record behind, and the open slots among which it lies.
 struct Reached {
     next: u64,
@@ -24,23 +27,16 @@ struct Reached {
 fn reached_at_end(setup: Setup) -> Reached
     ensures { λ r. ⌜ (r .next ≡ 18446744073709551615) × OpenFrom setup (r .open) ⌝ }
 {
-    let end: u64 = if marks::are_all_open(setup) {
-        18446744073709551615
-    } else {
-        0
-    };
-    let open = Stretch { start: 0, end };
-    Reached {
-        next: 18446744073709551615,
-        open,
+    if marks::are_all_open(setup) {
+        return Reached {
+            next: LAST,
+            open: calendar::stretch_to(LAST),
+        };
     }
-}
-
-// The smaller of two slots.
-fn earlier(a: u64, b: u64) -> u64
-    ensures { λ r. ⌜ r ≡ min a b ⌝ }
-{
-    if a < b { a } else { b }
+    Reached {
+        next: LAST,
+        open: calendar::stretch_to(0),
+    }
 }
 
 // The latest open slot before a deadline and before the start slot of the record behind; 0 where there is none. The open slots at hand
@@ -49,15 +45,15 @@ fn start_before(setup: Setup, at: Reached, deadline: u64) -> Reached
     requires { ⌜ OpenFrom setup (at .open) ⌝ }
     ensures { λ r. ⌜ (r .next ≡ latestOpen setup (min deadline (at .next))) × OpenFrom setup (r .open) ⌝ }
 {
-    let end = earlier(deadline, at.next);
+    let end = calendar::earlier(deadline, at.next);
     let held = at.open;
-    if (held.start < end) & (end <= held.end) {
+    if (held.hour.start < end) & (end <= held.end) {
         return Reached {
             next: end - 1,
             open: held,
         };
     }
-    let open = calendar::open_stretch_before(setup, end);
+    let open = calendar::open_stretch_before(setup, held.hour, end);
     let next = if open.end == 0 { 0 } else { open.end - 1 };
     Reached { next, open }
 }

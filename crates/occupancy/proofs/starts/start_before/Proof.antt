@@ -18,13 +18,13 @@ earlier-requires c κs = search needs
 inside : (c : tie.Then1)
     → let held = c .before .before .before .before .before .args .at .«open» in
     let end = c .before .before .before .before .earlier .result in
-    (held .start < end) × (end ≤ held .end)
+    (held .hour .start < end) × (end ≤ held .end)
 inside c =
     let held = c .before .before .before .before .before .args .at .«open» in
     let end = c .before .before .before .before .earlier .result in
-    let starts = ltb (held .start) end in
+    let starts = ltb (held .hour .start) end in
     let ends = leb end (held .end) in
-    (ltb-true (held .start) end (and-left starts ends (c .if1 .taken)), leb-true end (held .end) (and-right starts ends (c .if1 .taken)))
+    (ltb-true (held .hour .start) end (and-left starts ends (c .if1 .taken)), leb-true end (held .end) (and-right starts ends (c .if1 .taken)))
 
 sub-t11 : tie.Need-sub-t11
 sub-t11 c = omega (arith, inside c .0)
