@@ -1,4 +1,4 @@
--- Deadlines looked at by fours: whether one of them is full, and whether a line tells that none is. Assumes nothing.
+-- Deadlines looked at by fours and by eights: whether one of them is full, and whether a line tells that none is. Assumes nothing.
 use Prim.Native.Nat.{ℕ, _+_}
 use mathlib.Core.Bool.{Bool, _&&_, _||_}
 use lib.Dec.{leb, ltb}
@@ -20,3 +20,8 @@ abbrev pub areAbove : Line → ℕ → ℕ → ℕ → ℕ → ℕ → Bool
 areAbove line taken a b c d =
     ltb (taken + 3) (line .reach) && (ltb (line .floor + taken) a && ltb (line .floor + taken + 1) b)
     && (ltb (line .floor + taken + 2) c && ltb (line .floor + taken + 3) d)
+
+-- by a line eight deadlines, none before the first of them, have more open slots before them than are taken: the first has as many more as
+-- the last one needs
+abbrev pub areEightAbove : Line → ℕ → ℕ → Bool
+areEightAbove line taken first = ltb (taken + 7) (line .reach) && ltb (line .floor + taken + 7) first

@@ -19,7 +19,7 @@ ghost use Rattle.spec.specs.Tables.{mostClients, mostRecords, clockEnd, deadlin
 ghost use Rattle.spec.specs.Chart.{roomTo, hasSmallerRatio};
 ghost use Rattle.hours.specs.Week.{areAllOpen};
 ghost use Rattle.table.specs.Widths.{largest16, largest32};
-ghost use Rattle.occupancy.specs.Scans.{placeBy, overfullFrom, candidateCount, latestOf, countsWith, betterCandidate, smallestRatioPlace};
+ghost use Rattle.occupancy.specs.Scans.{Sorted, placeBy, overfullFrom, candidateCount, latestOf, countsWith, betterCandidate, smallestRatioPlace};
 
 // The smaller of two lengths.
 pub fn smaller(a: usize, b: usize) -> usize
@@ -92,9 +92,11 @@ fn overfull_in_all(head: Head, t: &[Request], from: usize, n: usize, more: usize
     }
 }
 
-// The same as `overfull_in_all`, by open slots. Where no record is left to look at, the hours are not counted either.
+// The same as `overfull_in_all`, by open slots, of records whose deadlines ascend. Where no record is left to look at, the hours are not
+// counted either.
 pub fn overfull_in_open(head: Head, t: &[Request], from: usize, n: usize, more: usize) -> u64
-    requires { ⌜ (n ≤ length (now t)) × (n + more ≤ mostRecords) × (from ≤ n) × (head .clock ≤ clockEnd) × (1 ≤ head .setup .hour) ⌝ }
+    requires { ⌜ (n ≤ length (now t)) × (n + more ≤ mostRecords) × (from ≤ n) × (head .clock ≤ clockEnd) × (1 ≤ head .setup .hour)
+        × Sorted (take n (deadlinesOf (now t))) ⌝ }
     ensures { λ r. ⌜ r ≡ overfullFrom head (from + more) (drop from (take n (deadlinesOf (now (t .entry))))) ⌝ }
 {
     if from < n {
@@ -106,7 +108,8 @@ pub fn overfull_in_open(head: Head, t: &[Request], from: usize, n: usize, more: 
 // The first overfull deadline among those of n waiting records and a new one, looked for from the new one's place on: those before it
 // have the room that they had without it. 0 where there is none.
 pub fn first_overfull(head: Head, t: &[Request], n: usize, place: usize, deadline: u64) -> u64
-    requires { ⌜ (n ≤ length (now t)) × (n < mostRecords) × (place ≤ n) × (head .clock ≤ clockEnd) × (1 ≤ head .setup .hour) ⌝ }
+    requires { ⌜ (n ≤ length (now t)) × (n < mostRecords) × (place ≤ n) × (head .clock ≤ clockEnd) × (1 ≤ head .setup .hour)
+        × Sorted (take n (deadlinesOf (now t))) ⌝ }
     ensures { λ r. ⌜ r ≡ overfullFrom head place (deadline ∷ drop place (take n (deadlinesOf (now (t .entry))))) ⌝ }
 {
     if !has_room(head, place as u64, deadline) {

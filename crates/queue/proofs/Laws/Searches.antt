@@ -50,6 +50,9 @@ module _ (head : Head) (ws : List Request) (xs : List ℕ) (client deadline : �
   pub some-slots : 1 ≤ head .setup .hour
   some-slots = ready .ready .sound .headed .setup .some-slots
 
+  pub ascending : Sorted (take n (deadlinesOf ws))
+  ascending = subst Sorted (sym (field-take (λ w. w .deadline) n ws)) (sorted (waiting s) (ready .ready .sound .ordered))
+
   pub clients : head .setup .clients ≤ mostClients
   clients = ready .ready .sound .headed .setup .most-clients
 
@@ -66,8 +69,7 @@ module _ (head : Head) (ws : List Request) (xs : List ℕ) (client deadline : �
   due : (D r : ℕ) → r ≡ placeBy (deadlinesOf ws) n D → r ≡ dueBy D (waiting s)
   due D r p =
       p
-      ∙ place-counts (deadlinesOf ws) D n all
-      (subst Sorted (sym (field-take (λ w. w .deadline) n ws)) (sorted (waiting s) (ready .ready .sound .ordered)))
+      ∙ place-counts (deadlinesOf ws) D n all ascending
       ∙ ap (countIf (λ d. leb d D)) (field-take (λ w. w .deadline) n ws)
       ∙ due-column D (waiting s)
 

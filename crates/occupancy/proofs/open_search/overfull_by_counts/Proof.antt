@@ -60,7 +60,7 @@ module _ {M : Type 1} (𝓤 : URA M) (H : Heap 𝓤) (A : Atoms 𝓤) (W : Given
       sets ! (agg ! (and-then ! (var ! refl) (and-then ! (lit ! tt) (no-more !)))) refl (tt, (tt, (fit (lit< tt), tt))) $
       -- let place = roomy_fours(head, t, &counts, before, from, n, more);
       calls-for ! 𝓣 (1 ∷ 0 ∷ []) (the-head W head head-is ∷ passed-on W table ∷ counts-shown l₆ counts long ∷ number W before (before-is .1) ∷ number W start (start-is .1) ∷ number W n (n-is .1) ∷ number W more (more-is .1) ∷ []) (of-number w64)
-      (λ c. known-fours) (λ c h. h) (so 𝓤 (within .0, within .1, within .2, within .3, within .4, counted, told-before .0)) refl (λ c. vars ! (refl, (refl, (refl, (refl, (refl, (refl, (refl, tt)))))))) (λ _. refl) (λ place last₃ told-place kept₃ place-is.
+      (λ c. known-fours) (λ c h. h) (so 𝓤 (within .0, within .1, within .2, within .3, within .4, counted, told-before .0, within .5)) refl (λ c. vars ! (refl, (refl, (refl, (refl, (refl, (refl, (refl, tt)))))))) (λ _. refl) (λ place last₃ told-place kept₃ place-is.
       sets ! (addr ! (from ! (stop !))) refl (tt, tt) $
       sets ! (agg ! (and-then ! (var ! refl) (and-then ! (lit ! tt) (no-more !)))) refl (tt, (tt, (fit (lit< tt), tt))) $
       -- overfull_one_by_one(head, t, &counts, before, place, n, more)

@@ -67,7 +67,7 @@ module _ {M : Type 1} (𝓤 : URA M) (H : Heap 𝓤) (A : Atoms 𝓤) (W : Given
       -- overfull_in_open(head, t, place, n, 1)
       (λ some-closed. skips-then ! $
       hands-on ! 𝓣 (0 ∷ []) (the-head W head head-is ∷ passed-on W table ∷ number W place (place-is .1) ∷ number W n (n-is .1) ∷ number W 1 (lit< tt) ∷ []) (of-number w64) (λ c. known-in-open) (λ c h. h)
-      (so 𝓤 (within .0, omega (arith, within .1), within .2, within .3, within .4)) refl
+      (so 𝓤 (within .0, omega (arith, within .1), within .2, within .3, within .4, within .5)) refl
       (λ c. and-then ! (var ! refl) (and-then ! (var ! refl) (and-then ! (var ! refl) (and-then ! (var ! refl) (and-then ! (lit ! tt) (no-more !)))))) (λ _. refl) Q refl (λ r last. (refl, refl)) (λ r last told kept own.
       leaves (vint w64 r) r tt tt own (so 𝓤 (told ∙ searched))))))))
 

@@ -9,7 +9,7 @@ use Rattle.spec.specs.Tables.{stateOf, mostRecords}
 use Rattle.spec.specs.Setup.{firstMatch}
 use Rattle.spec.specs.Calls.Submit.{submitRefusals}
 use Rattle.queue.proofs.Laws.Victim.{choice-found}
-use Rattle.queue.proofs.Laws.Searches.{waits, few, clock, some-slots, clients as clients-most, rises, placed-within, candidates-within, found-all}
+use Rattle.queue.proofs.Laws.Searches.{waits, few, clock, some-slots, ascending, clients as clients-most, rises, placed-within, candidates-within, found-all}
 use Rattle.queue.proofs.Values.{DecisionT, a-decision}
 use Rattle.spec.specs.declared.types.Request.{Request}
 use Rattle.table.proofs.Heads.{a-head, the-head, waiting-fits}
@@ -73,7 +73,7 @@ module _ {M : Type 1} (𝓤 : URA M) (H : Heap 𝓤) (A : Atoms 𝓤) (W : Given
       calls-for ! 𝓣 (1 ∷ []) (passed-on W waiting ∷ number W n n-fits ∷ number W deadline (deadline-is .1) ∷ []) (of-number w64) (λ c. known-due-by) (λ c h. h) (so 𝓤 within) refl (λ c. vars ! (refl, (refl, (refl, tt)))) (λ _. refl) (λ place last₁ placed kept₁ place-is.
       let place-within : place ≤ n = placed-within head ws xs client deadline accepted deadline place placed in
       -- let found = overfull::first_overfull(head, waiting, n, place, deadline);
-      calls-for ! 𝓣 (1 ∷ []) (the-head W head head-is ∷ passed-on W waiting ∷ number W n n-fits ∷ number W place (place-is .1) ∷ number W deadline (deadline-is .1) ∷ []) (of-number w64) (λ c. known-first-overfull) (λ c h. h) (so 𝓤 (within, small, place-within, clock head ws xs client deadline accepted, some-slots head ws xs client deadline accepted)) refl (λ c. vars ! (refl, (refl, (refl, (refl, (refl, tt)))))) (λ _. refl) (λ found last₂ searched kept₂ found-is.
+      calls-for ! 𝓣 (1 ∷ []) (the-head W head head-is ∷ passed-on W waiting ∷ number W n n-fits ∷ number W place (place-is .1) ∷ number W deadline (deadline-is .1) ∷ []) (of-number w64) (λ c. known-first-overfull) (λ c h. h) (so 𝓤 (within, small, place-within, clock head ws xs client deadline accepted, some-slots head ws xs client deadline accepted, ascending head ws xs client deadline accepted)) refl (λ c. vars ! (refl, (refl, (refl, (refl, (refl, tt)))))) (λ _. refl) (λ found last₂ searched kept₂ found-is.
       -- let due = overfull::due_by(waiting, n, found);
       calls-for ! 𝓣 (1 ∷ []) (passed-on W waiting ∷ number W n n-fits ∷ number W found (found-is .1) ∷ []) (of-number w64) (λ c. known-due-by) (λ c h. h) (so 𝓤 within) refl (λ c. vars ! (refl, (refl, (refl, tt)))) (λ _. refl) (λ due last₃ ended kept₃ due-is.
       -- let last = overfull::candidates(n, due, found);
