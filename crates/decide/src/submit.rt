@@ -12,7 +12,7 @@ use table::clients;
 use table::clients::Count;
 use table::waiting;
 ghost use mathlib.Core.Path.{_≡_};
-ghost use Prim.Native.Nat.{_≤_, _<_};
+ghost use Prim.Native.Nat.{_-_, _≤_, _<_};
 ghost use lib.ListN.{length, getD};
 ghost use Rattle.spec.specs.Tables.{zeroCounts, recordsOf};
 ghost use Rattle.table.specs.Widths.{largest32};
@@ -45,6 +45,14 @@ pub fn insertion_of(gone: Request, shift: usize) -> Insertion
     Insertion { gone, shift }
 }
 
+// By how many slots a deadline is past the clock, open and closed ones counted.
+fn slots_ahead(head: Head, deadline: u64) -> u64
+    requires { ⌜ head .clock ≤ deadline ⌝ }
+    ensures { λ r. ⌜ r ≡ deadline - head .clock ⌝ }
+{
+    deadline - head.clock
+}
+
 // The number of the first refusal that matches, or 0.
 pub fn refusal(
     tables: u64,
@@ -65,7 +73,7 @@ pub fn refusal(
     if deadline <= head.clock {
         return 7;
     }
-    if bounds::MOST_AHEAD < deadline - head.clock {
+    if bounds::MOST_AHEAD < slots_ahead(head, deadline) {
         return 7;
     }
     if !calendar::is_any_open(head.setup, head.clock, deadline) {

@@ -19,11 +19,11 @@ use Rattle.decide.proofs.Matching.{own8, after8}
 use Rattle.decide.proofs.submit.refusal.Statement.{statement}
 use Rattle.decide.proofs.submit.refusal.Tie as tie
 
-near : (deadline clock : ℕ) → deadline - clock ≤ mostAhead → deadline ≤ clock + mostAhead
-near deadline clock h = omega arith
+near : (deadline clock : ℕ) {n : ℕ} → n ≡ deadline - clock → n ≤ mostAhead → deadline ≤ clock + mostAhead
+near deadline clock e h = omega (arith, e, h)
 
-far : (deadline clock : ℕ) → mostAhead < deadline - clock → clock + mostAhead < deadline
-far deadline clock h = omega arith
+far : (deadline clock : ℕ) {n : ℕ} → n ≡ deadline - clock → mostAhead < n → clock + mostAhead < deadline
+far deadline clock e h = omega (arith, e, h)
 
 -- what the refusals are asked of
 abbrev state : Head → ℕ → List ℕ → State
@@ -49,8 +49,8 @@ returns-3 c =
     own7 _ _ (state (a .head) (a .records) (now (a .numbers)))
     (c .before .before .before .before .if1 .left) (c .before .before .if2 .left) (early7 _ (state (a .head) (a .records) (now (a .numbers))) (omega (arith, c .if3 .taken)))
 
-sub-if4 : tie.Need-sub-if4
-sub-if4 c = search needs
+slots-ahead-requires : tie.Need-slots-ahead-requires
+slots-ahead-requires c κs = search needs
 
 returns-4 : tie.Need-returns-4
 unfolding submitMatch
@@ -58,7 +58,7 @@ returns-4 c =
     let m = c .before .before .before .before in
     let a = m .before .before .before .before .args in
     own7 _ _ (state (a .head) (a .records) (now (a .numbers)))
-    (m .before .before .if1 .left) (m .if2 .left) (late7 _ (state (a .head) (a .records) (now (a .numbers))) (far _ _ (c .if4 .taken)))
+    (m .before .before .if1 .left) (m .if2 .left) (late7 _ (state (a .head) (a .records) (now (a .numbers))) (far _ _ (c .before .slots-ahead .ensures) (c .if4 .taken)))
 
 is-any-open-requires : tie.Need-is-any-open-requires
 is-any-open-requires c κs = search needs
@@ -70,7 +70,7 @@ returns-5 c =
     let k = m .before .before in
     let a = k .before .before .before .before .before .before .args in
     own15 _ _ (state (a .head) (a .records) (now (a .numbers)))
-    (k .before .before .before .before .if1 .left) (k .before .before .if2 .left) (k .if3 .left) (near _ _ (m .if4 .left))
+    (k .before .before .before .before .if1 .left) (k .before .before .if2 .left) (k .if3 .left) (near _ _ (m .before .slots-ahead .ensures) (m .if4 .left))
     (sym (c .before .is-any-open .ensures) ∙ not-true _ (c .if5 .taken))
 
 counts-at-requires : tie.Need-counts-at-requires
@@ -84,7 +84,7 @@ returns-6 c =
     let k = m .before .before in
     let a = k .before .before .before .before .before .before .args in
     own8 _ _ (state (a .head) (a .records) (now (a .numbers)))
-    (k .before .before .before .before .if1 .left) (k .before .before .if2 .left) (k .if3 .left) (near _ _ (m .if4 .left))
+    (k .before .before .before .before .if1 .left) (k .before .before .if2 .left) (k .if3 .left) (near _ _ (m .before .slots-ahead .ensures) (m .if4 .left))
     (sym (h .before .is-any-open .ensures) ∙ not-false _ (h .if5 .left))
     (submitted-same (c .before .before .counts-at .ensures) ∙ c .if6 .taken)
 
@@ -100,7 +100,7 @@ after-six c n e =
     let k = m .before .before in
     let a = k .before .before .before .before .before .before .args in
     after8 _ _ (state (a .head) (a .records) (now (a .numbers)))
-    (k .before .before .before .before .if1 .left) (k .before .before .if2 .left) (k .if3 .left) (near _ _ (m .if4 .left))
+    (k .before .before .before .before .if1 .left) (k .before .before .if2 .left) (k .if3 .left) (near _ _ (m .before .slots-ahead .ensures) (m .if4 .left))
     (sym (h .before .is-any-open .ensures) ∙ not-false _ (h .if5 .left))
     (λ q. c .if6 .left (sym (submitted-same (c .before .before .counts-at .ensures)) ∙ q)) e
 
@@ -133,7 +133,7 @@ refusal-spec =
     returns
     returns-2
     returns-3
-    sub-if4
+    slots-ahead-requires
     returns-4
     is-any-open-requires
     returns-5
