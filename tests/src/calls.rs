@@ -14,8 +14,8 @@ pub fn answer(kind: u64, values: &Values) -> Vec<u64> {
     [&[kind], &values[..count]].concat()
 }
 
-// Makes an exported call, with its own arguments between the tables and the values. Report and chart only read the tables; they too
-// get pointers that may be written through, so that a write would show.
+// Makes an exported call, with its own arguments between the tables and the values. Report and chart only read the tables, and only
+// open writes the hours; all get pointers that may be written through, so that a write would show.
 macro_rules! lend {
     ($exported:ident, $tables:ident, $values:ident $(, $argument:expr)*) => {
         // SAFETY: the head, the hours, a setup, marks and the values are one of each, and every other pointer is good for as much

@@ -426,7 +426,7 @@ pub struct Queue<'a> {
 }
 
 // Makes an exported call with head, hours and tables, then its own arguments, and hands back its answer. The pointers are for
-// reading and writing (`as_mut_ptr`), or for reading only (`as_ptr`).
+// reading and writing (`as_mut_ptr`), or for reading only (`as_ptr`). Only open is declared to write the hours.
 macro_rules! lend {
     ($exported:ident, $queue:ident, $one:path, $pointer:ident $(, $argument:expr)*) => {{
         let mut values = [0; 5];
@@ -524,13 +524,14 @@ pub mod raw {
         pub fn welsbell_version() -> u64;
     }
 
-    // Declares a call: head, hours and tables, to be written (`mut`) or only read (`const`), its own arguments, and the values.
+    // Declares a call: head and tables, to be written (`mut`) or only read (`const`), the hours in the same way, its own arguments,
+    // and the values.
     macro_rules! exported {
-        ($name:ident, $access:tt $(, $argument:ident: $type:ty)*) => {
+        ($name:ident, $access:tt, $hours:tt $(, $argument:ident: $type:ty)*) => {
             extern "C" {
                 pub fn $name(
                     head: *$access Head,
-                    hours: *$access Hours,
+                    hours: *$hours Hours,
                     waiting: *$access Request,
                     waiting_length: usize,
                     clients: *$access Client,
@@ -542,9 +543,9 @@ pub mod raw {
         };
     }
 
-    exported!(welsbell_open, mut, setup: *const Setup, marks: *const Hours);
-    exported!(welsbell_submit, mut, client: u64, deadline: u64);
-    exported!(welsbell_tick, mut);
-    exported!(welsbell_report, const, client: u64);
-    exported!(welsbell_chart, const, output: *mut u64, output_length: usize);
+    exported!(welsbell_open, mut, mut, setup: *const Setup, marks: *const Hours);
+    exported!(welsbell_submit, mut, const, client: u64, deadline: u64);
+    exported!(welsbell_tick, mut, const);
+    exported!(welsbell_report, const, const, client: u64);
+    exported!(welsbell_chart, const, const, output: *mut u64, output_length: usize);
 }
