@@ -66,24 +66,24 @@ fn are_next<S: Slots, const MOST: usize>(slots: &S, head: &Head, waiting: &[Requ
     let is_next = |before: &Request, w: &Request| w.number.wrapping_sub(1) < last && w.client < clients && key(before) < key(w);
     // the one before by value, since a reference to it would be a second pointer to move on
     let (mut rooms, mut before) = (slots.rooms(0), request(clock, u64::MAX, 0));
-    let (fours, odd) = waiting.as_chunks::<4>();
-    for four in fours {
-        if !rooms.for_four(four) {
+    let (eights, odd) = waiting.as_chunks::<8>();
+    for eight in eights {
+        if !rooms.for_eight(eight) {
             return false;
         }
-        for (i, w) in four.iter().enumerate() {
+        for (i, w) in eight.iter().enumerate() {
             if !is_next(&before, w) {
                 return false;
             }
-            tallies[i][w.client as usize % MOST] += 1;
+            tallies[i % 4][w.client as usize % MOST] += 1;
             before = *w;
         }
     }
-    for w in odd {
+    for (i, w) in odd.iter().enumerate() {
         if !rooms.for_one(w) || !is_next(&before, w) {
             return false;
         }
-        tallies[0][w.client as usize % MOST] += 1;
+        tallies[i % 4][w.client as usize % MOST] += 1;
         before = *w;
     }
     before.deadline <= clock + MOST_AHEAD

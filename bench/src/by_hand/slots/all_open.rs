@@ -17,8 +17,12 @@ impl Rooms for Next {
     }
 
     #[inline(always)]
-    fn for_four(&mut self, four: &[Request; 4]) -> bool {
-        four.iter().all(|w| self.for_one(w))
+    fn for_eight(&mut self, eight: &[Request; 8]) -> bool {
+        if eight[0].deadline < self.0 + 8 {
+            return eight.iter().all(|w| self.for_one(w));
+        }
+        self.0 += 8;
+        true
     }
 }
 

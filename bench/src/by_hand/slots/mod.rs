@@ -19,13 +19,14 @@ pub trait Slots {
     // Whether there is room for each of the records of a table in turn, where so many slots are taken before the first.
     fn rooms(&self, taken: usize) -> impl Rooms;
 
-    // Of sound records from this place on, the first with no slot to spare, looked for by fours.
+    // Of sound records from this place on, the first with no slot to spare, looked for by eights.
     #[inline(always)]
     fn first_full(&self, waiting: &[Request], place: usize) -> Option<usize> {
         let mut rooms = self.rooms(place + 1);
-        let (fours, _) = waiting[place..].as_chunks::<4>();
-        let before = fours.iter().take_while(|four| rooms.for_four(four)).count();
-        (place + 4 * before..waiting.len()).find(|&i| self.room(waiting[i].deadline) == i as u64 + 1)
+        let (eights, _) = waiting[place..].as_chunks::<8>();
+        let from = place + 8 * eights.iter().take_while(|eight| rooms.for_eight(eight)).count();
+        let mut rooms = self.rooms(from + 1);
+        (from..waiting.len()).find(|&i| !rooms.for_one(&waiting[i]))
     }
 
     // A start slot for each of the records, which are sound.
@@ -33,10 +34,11 @@ pub trait Slots {
 }
 
 // Whether there is room for the next records of a table. What is said is right where their deadlines ascend, behind the clock
-// and not too far ahead of it; they may be anything.
+// and not too far ahead of it; they may be anything. So the first of eight is asked for all of them: where it has seven slots to
+// spare, each of them has room.
 pub trait Rooms {
     fn for_one(&mut self, w: &Request) -> bool;
-    fn for_four(&mut self, four: &[Request; 4]) -> bool;
+    fn for_eight(&mut self, eight: &[Request; 8]) -> bool;
 }
 
 // The marks as three numbers, the last two of which have bits in common.

@@ -1,5 +1,5 @@
 //! Some hours are closed. A line is kept below the room of all deadlines, which one hour gives: where it shows room for the next
-//! four records no hour has to be found, and they are asked as with all hours open.
+//! eight records, by the first of them, or for four, no hour has to be found, and they are asked as with all hours open.
 use super::latest::Latest;
 use super::week::Week;
 use super::{Rooms, Slots};
@@ -34,9 +34,16 @@ impl Line {
         }
     }
 
-    // Whether it shows room for each of the four, behind so many open slots that are taken.
+    // Whether the first of eight shows room for all, behind so many open slots that are taken.
     #[inline(always)]
-    fn has_room(&self, taken: u64, [a, b, c, d]: &[Request; 4]) -> bool {
+    fn has_room_for_eight(&self, taken: u64, first: &Request) -> bool {
+        let last = taken + 7;
+        (last < self.reach) & (self.floor.wrapping_add(last) < first.deadline)
+    }
+
+    // Whether it shows room for each of the four.
+    #[inline(always)]
+    fn has_room_for_four(&self, taken: u64, [a, b, c, d]: &[Request; 4]) -> bool {
         let slot = self.floor.wrapping_add(taken);
         let [a, b] = [slot < a.deadline, slot + 1 < b.deadline];
         let [c, d] = [slot + 2 < c.deadline, slot + 3 < d.deadline];
@@ -51,6 +58,27 @@ struct Next<'a> {
     taken: u64,
 }
 
+impl Next<'_> {
+    // Takes the line of the next record's hour, where the one that is held does not reach over so many records. Where it does, a
+    // later hour's shows no more, since its floor is not lower.
+    #[inline(always)]
+    fn reach_over(&mut self, records: u64, next: &Request) {
+        if self.line.reach < self.taken + records {
+            self.line = Line::new(self.week, next.deadline);
+        }
+    }
+
+    #[inline(always)]
+    fn for_four(&mut self, four: &[Request; 4]) -> bool {
+        self.reach_over(4, &four[0]);
+        if !self.line.has_room_for_four(self.taken, four) {
+            return four.iter().all(|w| self.for_one(w));
+        }
+        self.taken += 4;
+        true
+    }
+}
+
 impl Rooms for Next<'_> {
     #[inline(always)]
     fn for_one(&mut self, w: &Request) -> bool {
@@ -59,14 +87,13 @@ impl Rooms for Next<'_> {
     }
 
     #[inline(always)]
-    fn for_four(&mut self, four: &[Request; 4]) -> bool {
-        if !self.line.has_room(self.taken, four) {
-            self.line = Line::new(self.week, four[0].deadline);
-            if !self.line.has_room(self.taken, four) {
-                return four.iter().all(|w| self.for_one(w));
-            }
+    fn for_eight(&mut self, eight: &[Request; 8]) -> bool {
+        self.reach_over(8, &eight[0]);
+        if !self.line.has_room_for_eight(self.taken, &eight[0]) {
+            let (fours, _) = eight.as_chunks::<4>();
+            return fours.iter().all(|four| self.for_four(four));
         }
-        self.taken += 4;
+        self.taken += 8;
         true
     }
 }
