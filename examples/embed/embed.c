@@ -26,7 +26,7 @@ static const char *reason(uint64_t refusal)
     case WELSBELL_REFUSED_LENGTHS:
         return "the tables do not have the lengths that are needed";
     case WELSBELL_REFUSED_UNSOUND:
-        return "the tables are not sound";
+        return "head, hours and tables are not sound";
     case WELSBELL_REFUSED_CLIENT:
         return "the client does not exist";
     case WELSBELL_REFUSED_DEADLINE:

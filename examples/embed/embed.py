@@ -70,7 +70,7 @@ REASONS = {
     2: "clients are not 1 to 256",
     3: "the period is not 1 to 4294967295 slots",
     4: "the tables do not have the lengths that are needed",
-    5: "the tables are not sound",
+    5: "head, hours and tables are not sound",
     6: "the client does not exist",
     7: "the deadline is not 1 to 65535 slots after the clock",
     8: "the client has submitted as many requests as can be counted",

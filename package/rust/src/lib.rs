@@ -212,7 +212,7 @@ impl Display for Refusal {
             Refusal::PerHour => "slots per hour are not 1 to 360000",
             Refusal::AllClosed => "all hours are closed",
             Refusal::Lengths => "the tables do not have the lengths that are needed",
-            Refusal::Unsound => "the tables are not sound",
+            Refusal::Unsound => "head, hours and tables are not sound",
             Refusal::Client => "the client does not exist",
             Refusal::Deadline => "the deadline is not 1 to 65535 slots after the clock",
             Refusal::NoOpenSlot => "no slot from the clock to the deadline is open",

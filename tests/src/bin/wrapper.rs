@@ -169,7 +169,7 @@ const REFUSALS: [(Refusal, u64, Refused, &str); 14] = [
             t.head.setup.period = 0;
             t.queue().tick()
         },
-        "refused, number 5: the tables are not sound",
+        "refused, number 5: head, hours and tables are not sound",
     ),
     (
         Refusal::Client,
