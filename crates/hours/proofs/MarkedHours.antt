@@ -14,9 +14,9 @@ use Rattle.spec.specs.declared.types.Setup.{Setup}
 use Rattle.spec.specs.Tables.{hours}
 use Rattle.spec.specs.Hours.{bit, markOf, sumFrom, openHours}
 use Rattle.spec.proofs.Laws.Every.{and-left, and-right}
-use Rattle.spec.proofs.Laws.Room.{bit-most, mark-most}
+use Rattle.spec.proofs.Laws.Room.{sum-most, bit-most, mark-most}
 use Rattle.hours.specs.Week.{areAllOpen}
-use Rattle.hours.proofs.Sums.{sum-split, sum-suc, sum-same, sum-most}
+use Rattle.hours.proofs.Sums.{sum-split, sum-suc, sum-same}
 
 -- ---- in which number an hour has its mark
 module _ (setup : Setup) (hour : ℕ) where

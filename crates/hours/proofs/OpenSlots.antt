@@ -3,7 +3,7 @@ use Prim.Native.Nat.{ℕ, _+_, _-_, _*_, _/_, _%_, _≤_, _<_}
 use mathlib.Core.Path.{_≡_, ap, ap₂, sym, _∙_}
 use mathlib.Core.Bool.{true}
 use native.Mathlib.Omega.{arith}
-use native.Mathlib.Nat.{mod-lt, div-zero, div-eq-of-lt, mul-add-div-right, mul-div-cancel, mul-mod-left, mul-le-mul-right, mul-le-mul-left}
+use native.Mathlib.Nat.{div-zero, div-eq-of-lt, mul-add-div-right, mul-div-cancel, mul-mod-left, mul-le-mul-right, mul-le-mul-left}
 use native.Mathlib.Nat.{div-add-mod', div-mul-le-self, lt-div-mul-add}
 use borrow.Author.Tests.{eq-eqb, ne-eqb, lt-ltb, le-ltb}
 use lib.Dec.{eqb, ltb, lit<}
@@ -13,9 +13,9 @@ use Rattle.slots.proofs.Laws.Tests.{le, gt, order}
 use Rattle.spec.specs.declared.types.Setup.{Setup}
 use Rattle.spec.specs.Tables.{hours}
 use Rattle.spec.specs.Hours.{markOf, capacityOf, isOpen, sumFrom, room}
-use Rattle.spec.proofs.Laws.Room.{capacity-most, room-split, room-back, room-mono}
+use Rattle.spec.proofs.Laws.Room.{sum-most, capacity-most, room-split, room-back, room-mono, open-capacity, open-room}
 use Rattle.hours.specs.Week.{areAllOpen, openHoursBefore}
-use Rattle.hours.proofs.Sums.{sum-opens, sum-most, sum-constant}
+use Rattle.hours.proofs.Sums.{sum-opens, sum-constant}
 use Rattle.hours.proofs.MarkedHours.{all-open-mark}
 
 -- a slot is open where it takes one
@@ -41,12 +41,10 @@ weeks-fit hour week l = omega (arith, mul-le-mul-left (hour / hours) l, div-add-
 module _ (setup : Setup) where
   -- ---- every hour is open
   pub all-open-capacity : areAllOpen setup ≡ true → (slot : ℕ) → capacityOf setup slot ≡ 1
-  unfolding capacityOf
-  all-open-capacity all slot = all-open-mark setup all (slot / setup .hour % hours) (mod-lt (slot / setup .hour) (lit< tt))
+  all-open-capacity all slot = open-capacity setup (all-open-mark setup all) slot
 
   pub all-open-room : areAllOpen setup ≡ true → (a b : ℕ) → room setup a b ≡ b - a
-  unfolding room
-  all-open-room all a b = omega (arith, sum-constant (capacityOf setup) 1 a (b - a) (λ k l. all-open-capacity all (a + k)))
+  all-open-room all a b = open-room setup (all-open-mark setup all) a b
 
   -- ---- room is no more than the slots, and between two slots what comes before one and not before the other
   pub room-most : (a b : ℕ) → room setup a b ≤ b - a

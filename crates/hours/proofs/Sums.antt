@@ -1,5 +1,5 @@
 -- The laws of sums: f of each of n numbers from a on, added up. Assumes nothing.
-use Prim.Native.Nat.{ℕ, zero, suc, _+_, _*_, _≤_, _<_}
+use Prim.Native.Nat.{ℕ, zero, suc, _+_, _*_, _<_}
 use mathlib.Core.Path.{_≡_, refl, ap, sym, _∙_}
 use native.Mathlib.Omega.{arith}
 use native.Mathlib.Nat.{mul-comm}
@@ -36,12 +36,6 @@ module _ (f : ℕ → ℕ) where
   sum-opens (suc n) =
       let e : 0 + n ≡ n = omega arith in
       omega (arith, sum-suc 0 n, ap f e, sum-opens n, opens-suc f n)
-
-  -- numbers of 0 and 1
-  pub sum-most : ((k : ℕ) → f k ≤ 1) → (a n : ℕ) → sumFrom f a n ≤ n
-  unfolding sumFrom
-  sum-most most a zero = omega arith
-  sum-most most a (suc n) = omega (arith, most a, sum-most most (suc a) n)
 
   -- the same number each time
   pub sum-constant : (v a n : ℕ) → ((k : ℕ) → k < n → f (a + k) ≡ v) → sumFrom f a n ≡ v * n

@@ -90,7 +90,7 @@ module _ (clock last : ℕ) (ws : List Request) (cs : List Counts) (s : State) w
   room-next a b = refl
 
 -- ---- all hours open, document 02, 2.2: the marks
-sum-most : (f : ℕ → ℕ) → ((x : ℕ) → f x ≤ 1) → (a n : ℕ) → sumFrom f a n ≤ n
+pub sum-most : (f : ℕ → ℕ) → ((x : ℕ) → f x ≤ 1) → (a n : ℕ) → sumFrom f a n ≤ n
 unfolding sumFrom
 sum-most f most a zero = omega arith
 sum-most f most a (suc n) = omega (arith, most a, sum-most f most (suc a) n)
