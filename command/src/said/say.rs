@@ -92,7 +92,7 @@ pub fn reason(turn: &Turn, number: u64, followed: &Followed) -> String {
         (3, _) => "the period is not 1 to 4,294,967,295 slots".into(),
         (4, _) if is_open => "the waiting records are not 1 to 2,048".into(),
         (4, _) => "no open was accepted yet".into(),
-        (5, _) => "the tables are not sound".into(),
+        (5, _) => "head, hours and tables are not sound".into(),
         (6, _) => format!("the client does not exist; clients are 0 to {}", followed.clients.len().saturating_sub(1)),
         (7, _) => format!("the deadline is not 1 to 65,535 slots ahead; the clock is at {}", grouped(followed.clock)),
         (8, _) => "the client has submitted 268,435,455 reads, and no more can be counted".into(),
@@ -127,7 +127,7 @@ mod tests {
     fn refusals_that_no_short_session_meets_have_their_reasons() {
         let followed = Followed { clock: 1_000, ..Followed::default() };
         for (number, said) in [
-            (5, "the tables are not sound"),
+            (5, "head, hours and tables are not sound"),
             (7, "the clock is at 1,000"),
             (8, "the client has submitted 268,435,455 reads"),
             (9, "the last request number, 281,474,976,710,655,"),
