@@ -2,6 +2,7 @@
 // together with each other one, in several ways and at random places; lengths are wrong; and sound tables lie at the bounds.
 // Every call is made on every table, with good and with bad arguments. The argument, if any, is a seed.
 use std::env::args;
+use tests::counted::hours::SLOTS;
 use tests::counted::shifts::MOST_SHIFT;
 use tests::damages::{Damage, DAMAGES, LENGTHS};
 use tests::held::{queue_of, Held};
@@ -48,7 +49,7 @@ struct Test {
     held: Held,
     tables: u64,
     broken: [Broken; CLAUSES.len()],
-    // how many calls met refusal 5 on tables that are sound if all hours are open
+    // how many calls met refusal 5 on tables with an open hour that are sound if all hours are open
     overfull_by_hours: u64,
     // how many calls on tables of each wrong length met refusal 4
     lengths: [u64; LENGTHS.len()],
@@ -172,7 +173,8 @@ impl Test {
             hours: ALL_OPEN,
             ..queue.clone()
         };
-        self.overfull_by_hours += if is_sound(&all_open) { refused } else { 0 };
+        let is_overfull_by_hours = is_sound(&all_open) && !queue.week().is_all_closed();
+        self.overfull_by_hours += if is_overfull_by_hours { refused } else { 0 };
         let is_broken = CLAUSES.map(|(_, holds)| !holds(&queue));
         let count = is_broken.iter().filter(|&&is_broken| is_broken).count();
         let broken = self.broken.iter_mut().zip(is_broken).filter(|(_, is_broken)| *is_broken);
@@ -266,6 +268,7 @@ impl Test {
         println!("wrong lengths: {lengths} calls refused");
         println!("sound but for their hours: {} calls refused", self.overfull_by_hours);
         println!("{}\n{}\n{}", self.held.tally, self.held.shifts, self.held.hours);
+        println!("{}", self.held.hours.near_the_end());
         println!("{} tables, {} calls: all as the model says", self.tables, self.held.made);
     }
 
@@ -278,7 +281,9 @@ impl Test {
         missing.extend(never);
         missing.extend(self.held.shifts.missing(MOST_SHIFT));
         missing.extend(self.held.hours.missing());
+        missing.extend(self.held.hours.missing_near_the_end());
         missing.extend(self.held.hours.missing_opens());
+        missing.extend(self.held.hours.missing_changes(&SLOTS));
         if self.overfull_by_hours == 0 {
             missing.push("never refused for its hours alone".into());
         }

@@ -18,6 +18,9 @@ const BEFORE_MOVING: u64 = 1_000;
 
 const REFUSALS: [u64; 8] = [6, 7, 15, 8, 9, 10, 11, 12];
 
+// With so many slots an hour a tick has to lead from an open hour to a closed one, or back.
+const LEFT_HOURS: [u64; 5] = [1, 3, 360, 3_600, MOST_PER_HOUR];
+
 // On large tables a shift of so many has to come among the calls that are held to the model.
 const LARGE_SHIFT: u64 = 1_000;
 
@@ -50,7 +53,7 @@ const USUAL: Phase = Phase {
     moves: |_| {},
 };
 
-const PHASES: [Phase; 12] = [
+const PHASES: [Phase; 13] = [
     USUAL,
     Phase {
         name: "a period of one slot",
@@ -89,6 +92,15 @@ const PHASES: [Phase; 12] = [
         hours: MOST,
         ahead: 60,
         calls: 500_000,
+        ..USUAL
+    },
+    Phase {
+        name: "every second hour closed, of very many slots",
+        records: 40,
+        slots_per_hour: 3_600,
+        hours: EVERY_SECOND,
+        ahead: 60,
+        calls: 200_000,
         ..USUAL
     },
     Phase {
@@ -214,6 +226,8 @@ fn missing(held: &Held) -> Vec<String> {
     let mut missing = held.tally.missing(&KINDS, &REFUSALS);
     missing.extend(held.shifts.missing(LARGE_SHIFT));
     missing.extend(held.hours.missing());
+    missing.extend(held.hours.missing_near_the_end());
+    missing.extend(held.hours.missing_changes(&LEFT_HOURS));
     if held.made < CALLS {
         missing.push(format!("fewer than {CALLS} calls"));
     }
@@ -233,6 +247,7 @@ fn main() {
         ran.unwrap_or_else(|difference| fail(format!("{}: {difference}", phase.name)));
     }
     println!("{}\n{}\n{}", held.tally, held.shifts, held.hours);
+    println!("{}", held.hours.near_the_end());
     println!("{} calls, {} of them held to the model: all as it says", held.made, held.held);
     end(missing(&held));
 }

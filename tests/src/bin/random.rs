@@ -25,6 +25,9 @@ const LISTS_OF_A_KIND: u64 = 2_000;
 // The others cannot occur in a session this short.
 const REFUSALS: [u64; 10] = [1, 2, 3, 13, 14, 4, 6, 7, 15, 10];
 
+// With so many slots an hour a tick has to lead from an open hour to a closed one, or back. No session leaves a longer hour.
+const LEFT_HOURS: [u64; 6] = [1, 2, 3, 7, 360, 3_600];
+
 // The first characters up to a line feed, readable.
 fn shown(bytes: &[u8]) -> String {
     let line = bytes.split(|&byte| byte == b'\n').next().unwrap_or_default();
@@ -135,6 +138,7 @@ impl Test {
         missing.extend(self.followed.shifts.missing(MOST_SHIFT));
         missing.extend(self.followed.hours.missing());
         missing.extend(self.followed.hours.missing_opens());
+        missing.extend(self.followed.hours.missing_changes(&LEFT_HOURS));
         if self.answers < ANSWERS {
             missing.push(format!("fewer than {ANSWERS} answers"));
         }

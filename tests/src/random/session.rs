@@ -1,8 +1,11 @@
 //! Random sessions, with lines of every kind, good and bad. What is answered is for the model to say: the clock is followed
-//! here only so that deadlines lie near it.
+//! here only so that deadlines lie near it and hours are left.
 use crate::frames::{self, Week};
 use crate::random::hours::{end_of_hour, hours, PER_HOUR};
 use crate::random::Random;
+
+// So many ticks in a row are enough: no session leaves an hour that is longer.
+const MOST_TICKS: u64 = 4_000;
 
 // What the calls of one list are like.
 struct Style {
@@ -136,10 +139,13 @@ impl Writer {
         self.clock += 1;
     }
 
-    // Through some hours, if they are short.
+    // Through some hours, if they are short, or past the end of a longer one.
     fn ticks(&mut self) {
-        let most = 3 * u64::from(self.style.week.slots_per_hour);
-        for _ in 0..self.random.between(1, most.clamp(200, 500)) {
+        let slots_per_hour = u64::from(self.style.week.slots_per_hour);
+        let some = self.random.between(1, (3 * slots_per_hour).clamp(200, 500));
+        let past_the_end = slots_per_hour - self.clock % slots_per_hour + self.random.between(0, 2);
+        let many = if past_the_end < MOST_TICKS { past_the_end } else { some };
+        for _ in 0..self.random.one_of(&[some, some, many]) {
             self.tick();
         }
     }
