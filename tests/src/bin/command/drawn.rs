@@ -16,6 +16,9 @@ const SESSIONS: u64 = 60;
 const CLIENTS: u64 = 10;
 const DRAWN: usize = 24;
 
+/// So many slots of a session have signs, or fewer, so that the first has a number of whole tens.
+const SIGNED: usize = 2_000;
+
 const SIGNS: &str = "0123456789abcdefghijklmnopqrstuvwxyzABCDEFGHIJKLMNOPQRSTUVWXYZ";
 
 fn is_so(is_so: bool, told: impl FnOnce() -> String) -> Result<(), String> {
@@ -56,7 +59,9 @@ impl Drawn<'_> {
             None if self.list.is_closed(slot) => '/',
             None => '.',
         };
-        let expected: String = (0..).zip(self.list.clients_served()).map(sign).collect();
+        let served = self.list.clients_served();
+        let first = served.len().saturating_sub(SIGNED).next_multiple_of(10);
+        let expected: String = (0..).zip(served).skip(first).map(sign).collect();
         // A row of signs stands behind the number of its first slot, below the word at the head.
         let margin = strip.lines().find(|line| line.trim() == "slot").map_or(0, str::len);
         let rows = strip.lines().filter_map(|line| line.split_at_checked(margin));
