@@ -1,4 +1,4 @@
--- Open hours of the week, and open slots by the hour. Assumes nothing.
+-- Open hours of the week, and open slots by the hour: document 02, 2.2. Assumes nothing.
 use Prim.Native.Nat.{ℕ, zero, suc, _+_, _-_, _*_, _%_, _^_, _≤_, _<_}
 use mathlib.Core.Path.{_≡_}
 use mathlib.Core.Bool.{Bool, true, cond, _&&_}
@@ -18,7 +18,7 @@ areAllOpen setup =
     eqb (setup .marks0) 18446744073709551615 && eqb (setup .marks64) 18446744073709551615
     && (eqb (setup .marks128) 4294967295 && eqb (setup .marks160) 255)
 
--- how many of the first hours from clock 0 on are open, so many of them: "the marks repeating after hour 167"
+-- how many of the hours before this one, counted from clock 0, are open: "the marks repeating after hour 167"
 unfoldable pub openHoursBefore : Setup → ℕ → ℕ
 openHoursBefore setup hour = sumFrom (λ h. markOf setup (h % hours)) 0 hour
 

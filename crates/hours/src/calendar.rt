@@ -1,4 +1,4 @@
-// Open slots by the hour. A setup with no slots an hour, which no sound head has, has every slot in hour 0.
+// Open slots by the hour: document 02, 2.2. A setup with no slots an hour, which no sound head has, has every slot in hour 0.
 use crate::marks;
 use spec::bounds::HOURS;
 use spec::types::Setup;
@@ -15,6 +15,13 @@ const FEW_HOURS: u64 = 4;
 // The last slot that has a line.
 const LAST_OF_LINES: u64 = 1125899906842624;
 
+// The number of an hour in its week: the marks repeat after hour 167.
+fn of_week(hour: u64) -> u64
+    ensures { λ r. ⌜ r ≡ hour % hours ⌝ }
+{
+    hour % HOURS
+}
+
 // Whether a slot is open.
 pub fn is_open(setup: Setup, slot: u64) -> bool
     ensures { λ r. ⌜ r ≡ isOpen setup slot ⌝ }
@@ -25,15 +32,15 @@ pub fn is_open(setup: Setup, slot: u64) -> bool
     if setup.hour == 0 {
         return marks::mark_of(setup, 0) == 1;
     }
-    marks::mark_of(setup, slot / setup.hour % HOURS) == 1
+    marks::mark_of(setup, of_week(slot / setup.hour)) == 1
 }
 
-// How many of the first hours from clock 0 on are open, so many of them.
+// How many of the hours before this one, counted from clock 0, are open.
 fn open_hours_before(setup: Setup, hour: u64) -> u64
     ensures { λ r. ⌜ (r ≡ openHoursBefore setup hour) × (r ≤ hour) ⌝ }
 {
     let week = marks::open_hours_among(setup, HOURS);
-    let rest = marks::open_hours_among(setup, hour % HOURS);
+    let rest = marks::open_hours_among(setup, of_week(hour));
     hour / HOURS * week + rest
 }
 
@@ -45,7 +52,7 @@ pub fn open_before(setup: Setup, slot: u64) -> u64
         return marks::mark_of(setup, 0) * slot;
     }
     let hour = slot / setup.hour;
-    let mark = marks::mark_of(setup, hour % HOURS);
+    let mark = marks::mark_of(setup, of_week(hour));
     open_hours_before(setup, hour) * setup.hour + mark * (slot % setup.hour)
 }
 
@@ -66,19 +73,19 @@ fn mark_by(setup: Setup, counts: &[u8], hour: u64) -> u64
     requires { ⌜ Counted setup (now counts) ⌝ }
     ensures { λ r. ⌜ r ≡ markOf setup (hour % hours) ⌝ }
 {
-    let of_week = (hour % HOURS) as usize;
-    let mark = counts[of_week + 1] - counts[of_week];
+    let number = of_week(hour) as usize;
+    let mark = counts[number + 1] - counts[number];
     mark as u64
 }
 
-// How many of the first hours from clock 0 on are open, so many of them, by the counts.
+// How many of the hours before this one, counted from clock 0, are open, by the counts.
 fn open_hours_by(setup: Setup, counts: &[u8], hour: u64) -> u64
     requires { ⌜ Counted setup (now counts) ⌝ }
     ensures { λ r. ⌜ (r ≡ openHoursBefore setup hour) × (r ≤ hour) ⌝ }
 {
     let week = counts[HOURS as usize] as u64;
-    let of_week = (hour % HOURS) as usize;
-    let rest = counts[of_week] as u64;
+    let number = of_week(hour) as usize;
+    let rest = counts[number] as u64;
     hour / HOURS * week + rest
 }
 
@@ -132,7 +139,7 @@ fn hour_of(setup: Setup, slot: u64) -> Hour
 {
     let hours_before = slot / setup.hour;
     Hour {
-        number: hours_before % HOURS,
+        number: of_week(hours_before),
         start: hours_before * setup.hour,
     }
 }

@@ -1,4 +1,4 @@
-// The 168 marks: single ones, and how many hours are open. They stand in four numbers, first hour in the highest bit.
+// The 168 marks of document 02, 2.2: single ones, and how many hours are open. They stand in four numbers, first hour in the highest bit.
 use spec::types::Setup;
 ghost use mathlib.Core.Path.{_≡_};
 ghost use Prim.Native.Nat.{_+_, _-_, _%_, _≤_, _<_, _^_};
@@ -57,7 +57,7 @@ fn highest_ones(x: u64, bits: u64, n: u64) -> u64
     u64::count_ones(x >> (bits - n)) as u64
 }
 
-// How many of the first hours of the week are open, so many of them.
+// How many of the week's first n hours are open.
 pub fn open_hours_among(setup: Setup, n: u64) -> u64
     requires { ⌜ n ≤ hours ⌝ }
     ensures { λ r. ⌜ (r ≡ sumFrom (markOf setup) 0 n) × (r ≤ n) ⌝ }

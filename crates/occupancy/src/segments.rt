@@ -3,7 +3,7 @@ use hours::calendar;
 use spec::types::Setup;
 ghost use mathlib.Core.Path.{_≡_};
 ghost use mathlib.Core.List.{_∷_};
-ghost use Prim.Native.Nat.{ℕ, _<_, _≤_};
+ghost use Prim.Native.Nat.{ℕ, _+_, _<_, _≤_};
 ghost use lib.ListN.{length, getD, take, drop};
 ghost use Rattle.spec.specs.Chart.{doTouch, segmentsOf};
 ghost use Rattle.table.specs.Widths.{largest64};
@@ -14,6 +14,14 @@ pub struct Run {
     pub left: u64,
     pub right: u64,
     pub next: usize,
+}
+
+// Where the interval of a start slot ends: one after its own slot, whether the next one is open or not.
+fn end_of(start: u64) -> u64
+    requires { ⌜ start < largest64 ⌝ }
+    ensures { λ r. ⌜ r ≡ start + 1 ⌝ }
+{
+    start + 1
 }
 
 // Whether an interval that ends at `end` touches one that starts at `start`: no open slot lies between.
@@ -37,14 +45,14 @@ pub fn segment_at(setup: Setup, starts: &[u64], n: usize, i: usize) -> Run
         ⌝ }
 {
     let left = starts[i];
-    let mut right = left + 1;
+    let mut right = end_of(left);
     let mut k = i + 1;
     while k < n {
         let start = starts[k];
         if !do_touch(setup, right, start) {
             break;
         }
-        right = start + 1;
+        right = end_of(start);
         k += 1;
     }
     Run {

@@ -1,4 +1,5 @@
--- The tests of one pass over the waiting records, and of one over the clients. Assumes nothing.
+-- The tests of one pass over the waiting records, of one over the clients, and of a second one over the waiting records where hours are
+-- closed. Assumes nothing.
 use Prim.Native.Nat.{ℕ, zero, suc, _+_, _*_, _%_, _≤_, _<_}
 use mathlib.Core.Path.{_≡_}
 use mathlib.Core.Bool.{Bool, true, cond, _&&_}

@@ -1,5 +1,5 @@
 // The refusal that the tables call for: first by the lengths and the head, then by the waiting records, those behind them, and the
-// clients' counts, each record and each client looked at once.
+// clients' counts, each record and each client looked at once, and each waiting record once more where hours are closed.
 use crate::records;
 use crate::room;
 use hours::marks;
@@ -165,7 +165,7 @@ fn contents_refusal(waiting: &[Request], numbers: &[u32], head: Head) -> u64
 }
 
 // The refusal that the tables call for, 0 where there is none. The room by open slots is asked last and apart: whatever lives across the
-// pass over the records takes one of its registers, which every call pays for, and closed hours are few.
+// pass over the records takes one of its registers, which every call pays for.
 pub fn tables_refusal(waiting: &[Request], numbers: &[u32], head: Head) -> u64
     ensures { λ r. ⌜ r ≡ tablesRefusal (stateOf head (now (waiting .entry)) (now (numbers .entry))) ⌝ }
 {

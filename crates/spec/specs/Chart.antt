@@ -14,17 +14,19 @@ use Rattle.spec.specs.Tables.{zeroRequest, zeroCounts}
 use Rattle.spec.specs.Order.{removeAt}
 use Rattle.spec.specs.Hours.{capacityOf, room}
 
--- document 02, 2.2: "the chart uses the latest open slots": how many of these start slots are the slot s
+-- how many of these start slots are the slot s
 abbrev pub taken : ℕ → List ℕ → ℕ
 taken s starts = countIf (eqb s) starts
 
--- "a request ends at the smaller of its deadline and the start of the record behind it": its slot is before its deadline and not behind
--- that of the record behind it, which is taken; behind it are the starts of the later ones
+-- "a request ends at the smaller of its deadline and the start of the record behind it". Document 02, 2.2, overrides it: the request's slot
+-- is the latest open one before this limit, and the limit is one after the start of the record behind it, since a slot that can take more
+-- may be shared. Behind it are the starts of the later ones
 abbrev pub limitOf : ℕ → List ℕ → ℕ
 limitOf deadline [] = deadline
 limitOf deadline (start ∷ later) = min deadline (suc start)
 
--- the latest slot before e that can take one more, 0 where there is none; the slots of the later ones are taken
+-- document 02, 2.2: "the chart uses the latest open slots": the latest slot before e that can take one more, 0 where there is none; the
+-- slots of the later ones are taken
 unfoldable pub latestFree : Setup → List ℕ → ℕ → ℕ
 latestFree setup later zero = 0
 latestFree setup later (suc e) =

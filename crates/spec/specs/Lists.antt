@@ -58,7 +58,7 @@ abbrev pub isTick : Event → Bool
 isTick e = meaning (e .call) .isTick && not (isRefused (e .answers))
 
 abbrev pub isOpened : Event → Bool
-isOpened e = meaning (e .call) .isOpen && not (isRefused (e .answers))
+isOpened e = meaning (e .call) .isOpening && not (isRefused (e .answers))
 
 -- "The clock at a submission is the number of ticks before it in the list that were not refused, whatever they answered."
 unfoldable pub ticks : List Event → ℕ

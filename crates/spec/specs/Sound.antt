@@ -1,4 +1,4 @@
--- When tables are sound, one test a clause: document 01, "Tables and bounds". Assumes nothing.
+-- When tables are sound, one test a clause: document 01, "Tables and bounds", and document 02, 2.2. Assumes nothing.
 use Prim.Native.Nat.{ℕ, suc, _+_}
 use mathlib.Core.Bool.{Bool, _&&_}
 use mathlib.Core.List.{List}

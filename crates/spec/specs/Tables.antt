@@ -1,5 +1,5 @@
--- Bounds, records and the whole state of the queue: document 01, "Tables and bounds". Each bound stands here once, under a name.
--- Assumes nothing.
+-- Bounds, records and the whole state of the queue: document 01, "Tables and bounds", and document 02, 2.2. Each bound stands here once,
+-- under a name. Assumes nothing.
 use Prim.Native.Nat.{ℕ, suc, _-_}
 use mathlib.Core.List.{List, [], _∷_, _++_, map}
 use lib.ListN.{length, getD, take, drop, set, replicate}

@@ -20,8 +20,8 @@ pub const MOST_PERIOD: u64 = 4294967295;
 // "each deadline is past the clock by 1 to 65,535"
 pub const MOST_AHEAD: u64 = 65535;
 
-// "slots per hour outside 1 to 360,000"
+// Document 02, 2.2: "slots per hour outside 1 to 360,000"
 pub const MOST_PER_HOUR: u64 = 360000;
 
-// "168 open-or-closed marks"
+// Document 02, 2.2: "168 open-or-closed marks"
 pub const HOURS: u64 = 168;

@@ -60,7 +60,7 @@ module _ (c : Call) (head marks values₀ : List ℕ) {h : Head} (is-head : h �
   reply-setup = ap (λ (t : State). t .head .setup) (given .after-same)
 
   -- only an open changes the setup, so after any other call the marks that were lent are the head's
-  pub exports-written : meaning c .isOpen ≡ false → (head′ : List ℕ) → head′ ≡ headNumbers (reply .head)
+  pub exports-written : meaning c .isOpening ≡ false → (head′ : List ℕ) → head′ ≡ headNumbers (reply .head)
       → Exported c s values₀ kind values (stateOf (headOf head′ marks) ws′ xs′)
   exports-written other head′ headed =
       rw headed (exports-given marks (read-back (reply .head) head marks (reply-setup ∙ setup-same c s other)))

@@ -52,7 +52,7 @@ the-answer e = ap firstAnswer e
 
 module _ (starts : List ℕ) (t : State) {a : Answer} where
   -- a call that is no open and is lent no output
-  pub call-plain : (c : Call) → meaning c .isOpen ≡ false → meaning c .outputs t ≡ [] → a ∷ [] ≡ outcomeOf c t .answers
+  pub call-plain : (c : Call) → meaning c .isOpening ≡ false → meaning c .outputs t ≡ [] → a ∷ [] ≡ outcomeOf c t .answers
       → Plain (λ output. c ∷ []) starts t a
   call-plain c no-open none e =
       record {

@@ -117,6 +117,8 @@ cases =
     ∷ answering (freshHours 100 2 twoOpen)
     (submit 0 6 ∷ submit 0 6 ∷ tick ∷ tick ∷ tick ∷ submit 0 4 ∷ submit 0 9 ∷ submit 0 9 ∷ submit 0 9 ∷ [])
     (Kept 1 0 0 ∷ Kept 2 1 0 ∷ Served 0 1 0 ∷ Served 1 2 0 ∷ Closed 2 ∷ Refused 15 ∷ Kept 3 0 0 ∷ Kept 4 1 0 ∷ Dropped 5 5 0 0 ∷ [])
+    -- 7 has "more than 65,535 after it, all slots counted": fewer of these are open
+    ∷ answering (freshHours 100 1 twoOpen) (submit 0 65536 ∷ []) (Refused 7 ∷ [])
     -- document 02, 2.2: "the marks repeating after hour 167": slots 0 and 168 are open
     ∷ answering (freshHours 100 1 oneOpen) (submit 0 169 ∷ submit 0 169 ∷ submit 0 169 ∷ [])
     (Kept 1 0 0 ∷ Kept 2 1 0 ∷ Dropped 3 3 0 0 ∷ [])

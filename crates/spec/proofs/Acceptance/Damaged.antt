@@ -142,6 +142,16 @@ second = request 9 4 1
 abbrev both : List Counts
 both = counts 3 1 1 ∷ counts 1 0 0 ∷ []
 
+-- .. with three slots an hour, of which hour 2, slots 6 to 8, is closed
+abbrev closing : Head
+closing =
+    record {
+      setup = hourly 2 10 3 (16140901064495857663 ∷ 18446744073709551615 ∷ 4294967295 ∷ 255 ∷ []);
+      clock = 5;
+      last = 4;
+      waiting = 2;
+    }
+
 -- .. with these numbers lent for its client table
 abbrev lending : List ℕ → List Clause → Damage
 lending xs clauses =
@@ -187,6 +197,9 @@ damages =
     -- "for each deadline D in the table, the records with deadline at most D number at most D minus the clock"
     ∷ breaks two (holding 4 (request 7 2 0 ∷ request 7 4 1 ∷ [])) both []
     ∷ breaks two (holding 4 (request 6 2 0 ∷ request 6 4 1 ∷ [])) both (no-overfull ∷ [])
+    -- .. document 02, 2.2: "only open ones count, in sound tables too": slots 5 and 9 are left to the two, and then slot 5 alone
+    ∷ breaks closing (holding 4 (first ∷ request 10 4 1 ∷ [])) both []
+    ∷ breaks closing (holding 4 (first ∷ second ∷ [])) both (no-overfull ∷ [])
     -- "every record behind the waiting ones is zero"
     ∷ breaks two (first ∷ second ∷ request 1 0 0 ∷ zeroRequest ∷ []) both (zero-behind ∷ [])
     ∷ breaks two (first ∷ second ∷ zeroRequest ∷ request 0 1 0 ∷ []) both (zero-behind ∷ [])

@@ -136,7 +136,7 @@ pub data Asks : Frame → Type 0 where
   asks-nothing : Asks Bad
   -- a call that is no open and is lent no output
   asks-call :
-      (frame : Frame) (c : Call) → task frame ≡ taskBy (λ output. c ∷ []) → meaning c .isOpen ≡ false
+      (frame : Frame) (c : Call) → task frame ≡ taskBy (λ output. c ∷ []) → meaning c .isOpening ≡ false
       → ((s : State) → meaning c .outputs s ≡ []) → Asks frame
 
 pub asks : (frame : Frame) → Asks frame

@@ -48,11 +48,11 @@ pub record OneAnswer (c : Call) (s : State) (answers : List Answer) : Type 0 whe
 pub record Accepted (c : Call) (s : State) (o : Outcome) : Type 0 where
   pub answered : OneAnswer c s (o .answers)
   pub unrefused : isRefused (o .answers) ≡ false
-  pub same-setup : meaning c .isOpen ≡ false → o .after .head .setup ≡ s .head .setup
+  pub same-setup : meaning c .isOpening ≡ false → o .after .head .setup ≡ s .head .setup
 
 -- one that reads as no chart
 accepted-one : (c : Call) (s : State) (a : Answer) (t : State) → reading a .refuses ≡ false → reading a .charted ≡ []
-    → (meaning c .isOpen ≡ false → t .head .setup ≡ s .head .setup) → Accepted c s (saying a t)
+    → (meaning c .isOpening ≡ false → t .head .setup ≡ s .head .setup) → Accepted c s (saying a t)
 accepted-one c s a t r u h = record { answered = record { one = refl; uncharted = λ e. u }; unrefused = r; same-setup = h }
 
 pub call-accepted : (c : Call) (s : State) → Accepted c s (acceptedOf c s)
@@ -92,7 +92,7 @@ call-answers c s = go (outcome-decided c s)
     go (accepts e) = call-accepted c s .answered
     go (refuses e) = record { one = refl; uncharted = λ e. refl }
 
-pub setup-same : (c : Call) (s : State) → meaning c .isOpen ≡ false → outcomeOf c s .after .head .setup ≡ s .head .setup
+pub setup-same : (c : Call) (s : State) → meaning c .isOpening ≡ false → outcomeOf c s .after .head .setup ≡ s .head .setup
 setup-same c s h = go (outcome-decided c s)
   where
     go : {o : Outcome} → Decided (refusalsOf c s) s (acceptedOf c s) o → o .after .head .setup ≡ s .head .setup

@@ -70,10 +70,10 @@ module _ (es : List Event) (s : State) (so-far : SinceOpened es s) where
       })
 
   refused-goes-on : (c : Call) (number : ℕ) → SinceOpened (refusedEvent c number ∷ es) s
-  refused-goes-on c number = event-goes-on (refusedEvent c number) (and-false (meaning c .isOpen)) (refused-one c number)
+  refused-goes-on c number = event-goes-on (refusedEvent c number) (and-false (meaning c .isOpening)) (refused-one c number)
 
   -- a call that is lent the queue's tables
-  call-goes-on : (c : Call) → meaning c .isOpen ≡ false
+  call-goes-on : (c : Call) → meaning c .isOpening ≡ false
       → SinceOpened (event c (outcomeOf c s .answers) ∷ es) (outcomeOf c s .after)
   unfolding history run exists
   call-goes-on c n =
@@ -95,7 +95,7 @@ module _ (es : List Event) (s : State) (so-far : SinceOpened es s) where
       none = rw n
 
   -- .. and that is lent no output: its answer is printed as it is, and the session goes on from the state that it leaves
-  plain-goes-on : (c : Call) → meaning c .isOpen ≡ false → meaning c .outputs s ≡ [] → (setup : Setup) (output : List ℕ)
+  plain-goes-on : (c : Call) → meaning c .isOpening ≡ false → meaning c .outputs s ≡ [] → (setup : Setup) (output : List ℕ)
       → SinceOpened (event c (shownAs setup output (firstAnswer (outcomeOf c s .answers)) ∷ []) ∷ es)
       (cond (isRefused (outcomeOf c s .answers)) s (outcomeOf c s .after))
   plain-goes-on c n none setup output =

@@ -38,7 +38,7 @@ pub record Meaning : Type 0 where
   pub accepted : State → Outcome
   -- whether it is a tick, or an open, and what an open sets
   pub isTick : Bool
-  pub isOpen : Bool
+  pub isOpening : Bool
   pub sets : Setup
   -- the request that a submit asks to put in
   pub wants : List Wanted
@@ -52,7 +52,7 @@ plainly refusals accepted =
       refusals = refusals;
       accepted = accepted;
       isTick = false;
-      isOpen = false;
+      isOpening = false;
       sets = zeroSetup;
       wants = [];
       outputs = λ s. [];

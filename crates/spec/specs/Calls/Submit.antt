@@ -80,7 +80,7 @@ submitMeaning client deadline =
       refusals = submitRefusals client deadline;
       accepted = submitAccepted client deadline;
       isTick = false;
-      isOpen = false;
+      isOpening = false;
       sets = zeroSetup;
       wants = record { client = client; deadline = deadline } ∷ [];
       outputs = λ s. [];

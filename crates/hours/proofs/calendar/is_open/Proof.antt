@@ -1,9 +1,9 @@
 -- `hours::calendar::is_open` meets its contract. Assumes nothing.
-use mathlib.Core.Path.{sym, _∙_}
+use mathlib.Core.Path.{ap, sym, _∙_}
 use native.Mathlib.Omega.{arith}
 use borrow.Author.Tests.{lt-ltb}
 use borrow.Author.Needs.{needs}
-use Rattle.spec.specs.Hours.{capacityOf}
+use Rattle.spec.specs.Hours.{markOf, capacityOf}
 use Rattle.hours.proofs.OpenSlots.{all-open-capacity, takes-one, capacity-hour-0}
 use Rattle.hours.proofs.calendar.is_open.Statement.{statement}
 use Rattle.hours.proofs.calendar.is_open.Tie as tie
@@ -26,8 +26,11 @@ returns-2 c =
     let e = c .mark-of .ensures ∙ sym (capacity-hour-0 (a .setup) (omega arith) (a .slot)) in
     takes-one (a .setup) (a .slot) (c .mark-of .result) e
 
-div-mark-of : tie.Need-div-mark-of
-div-mark-of c = search needs
+div-of-week : tie.Need-div-of-week
+div-of-week c = search needs
+
+of-week-requires : tie.Need-of-week-requires
+of-week-requires c κs = search needs
 
 mark-of-requires-2 : tie.Need-mark-of-requires-2
 mark-of-requires-2 c κs = search needs
@@ -35,8 +38,8 @@ mark-of-requires-2 c κs = search needs
 returns-3 : tie.Need-returns-3
 unfolding capacityOf
 returns-3 c =
-    let a = c .before .before .before .before .before .before .args in
-    takes-one (a .setup) (a .slot) (c .mark-of2 .result) (c .mark-of2 .ensures)
+    let a = c .before .before .before .before .before .before .before .args in
+    takes-one (a .setup) (a .slot) (c .mark-of2 .result) (c .mark-of2 .ensures ∙ ap (markOf (a .setup)) (c .before .of-week .ensures))
 
 pub is-open-spec : {M : Type 1} → statement M
 is-open-spec =
@@ -46,6 +49,7 @@ is-open-spec =
     returns
     mark-of-requires
     returns-2
-    div-mark-of
+    div-of-week
+    of-week-requires
     mark-of-requires-2
     returns-3)

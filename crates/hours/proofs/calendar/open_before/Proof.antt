@@ -1,9 +1,9 @@
 -- `hours::calendar::open_before` meets its contract. It counts whole hours, and the slots of the last. Assumes nothing.
-use Prim.Native.Nat.{ℕ, _*_, _/_, _%_}
+use Prim.Native.Nat.{ℕ, _*_, _%_}
 use mathlib.Core.Path.{ap, sym, _∙_}
 use native.Mathlib.Omega.{arith}
 use borrow.Author.Needs.{needs}
-use Rattle.spec.specs.Tables.{hours}
+use Rattle.spec.specs.Hours.{markOf}
 use Rattle.spec.proofs.Laws.Room.{mark-most}
 use Rattle.hours.proofs.OpenSlots.{mark-times, room-hour-0, by-hour, whole-fits}
 use Rattle.hours.proofs.calendar.open_before.Statement.{statement}
@@ -27,6 +27,9 @@ returns c =
 div-hour : tie.Need-div-hour
 div-hour c = search needs
 
+of-week-requires : tie.Need-of-week-requires
+of-week-requires c κs = search needs
+
 mark-of-requires-2 : tie.Need-mark-of-requires-2
 mark-of-requires-2 c κs = search needs
 
@@ -35,7 +38,7 @@ open-hours-before-requires c κs = search needs
 
 mul-result-2 : tie.Need-mul-result-2
 mul-result-2 c =
-    let a = c .before .before .before .before .before .before .args in
+    let a = c .before .before .before .before .before .before .before .args in
     let whole = c .before .open-hours-before in
     record { fits = omega (arith, whole-fits (a .setup .hour) (a .slot) (whole .result) (whole .ensures .1)) }
 
@@ -44,27 +47,31 @@ rem-result c = search needs
 
 mul-result-3 : tie.Need-mul-result-3
 mul-result-3 c =
-    let a = c .before .before .before .before .before .before .before .args in
+    let a = c .before .before .before .before .before .before .before .before .args in
     let whole = c .before .before .open-hours-before in
     let mark = c .before .before .before .mark-of2 in
-    let counted = mark-times (mark .result) (a .slot % a .setup .hour) (omega (arith, mark-most (a .setup) (a .slot / a .setup .hour % hours))) in
+    let number = c .before .before .before .before .of-week in
+    let counted = mark-times (mark .result) (a .slot % a .setup .hour) (omega (arith, mark-most (a .setup) (number .result))) in
     record { fits = omega (arith, whole-fits (a .setup .hour) (a .slot) (whole .result) (whole .ensures .1)) }
 
 add-result : tie.Need-add-result
 add-result c =
-    let a = c .before .before .before .before .before .before .before .args in
+    let a = c .before .before .before .before .before .before .before .before .args in
     let whole = c .before .before .open-hours-before in
     let mark = c .before .before .before .mark-of2 in
-    let counted = mark-times (mark .result) (a .slot % a .setup .hour) (omega (arith, mark-most (a .setup) (a .slot / a .setup .hour % hours))) in
+    let number = c .before .before .before .before .of-week in
+    let counted = mark-times (mark .result) (a .slot % a .setup .hour) (omega (arith, mark-most (a .setup) (number .result))) in
     record { fits = omega (arith, whole-fits (a .setup .hour) (a .slot) (whole .result) (whole .ensures .1)) }
 
 returns-2 : tie.Need-returns-2
 returns-2 c =
-    let a = c .before .before .before .before .before .before .before .args in
+    let a = c .before .before .before .before .before .before .before .before .args in
     let whole = c .before .before .open-hours-before in
     let mark = c .before .before .before .mark-of2 in
-    let counted = mark-times (mark .result) (a .slot % a .setup .hour) (omega (arith, mark-most (a .setup) (a .slot / a .setup .hour % hours))) in (
-      by-hour (a .setup) (omega arith) (a .slot) (whole .result) (mark .result) (whole .ensures .0) (mark .ensures),
+    let number = c .before .before .before .before .of-week in
+    let counted = mark-times (mark .result) (a .slot % a .setup .hour) (omega (arith, mark-most (a .setup) (number .result))) in (
+      by-hour (a .setup) (omega arith) (a .slot) (whole .result) (mark .result) (whole .ensures .0)
+          (mark .ensures ∙ ap (markOf (a .setup)) (number .ensures)),
       omega (arith, whole-fits (a .setup .hour) (a .slot) (whole .result) (whole .ensures .1)),
     )
 
@@ -76,6 +83,7 @@ open-before-spec =
     mul-result
     returns
     div-hour
+    of-week-requires
     mark-of-requires-2
     open-hours-before-requires
     mul-result-2

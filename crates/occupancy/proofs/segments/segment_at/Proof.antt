@@ -1,14 +1,19 @@
 -- `occupancy::segments::segment_at` meets its contract. Assumes nothing.
-use Prim.Native.Nat.{_-_, _≤_, _<_}
-use mathlib.Core.Path.{_≡_, sym, _∙_}
-use native.Mathlib.Omega.{arith}
+use Prim.Native.Nat.{ℕ, _-_, _≤_, _<_}
+use mathlib.Core.Path.{_≡_, ap, sym, _∙_}
+use mathlib.Core.List.{List}
 use borrow.Author.Needs.{needs}
 use borrow.Author.Tests.{not-true, not-false}
 use lib.ListN.{take, drop}
-use Rattle.spec.specs.Chart.{segmentsOf}
+use Rattle.spec.specs.declared.types.Setup.{Setup}
+use Rattle.spec.specs.Chart.{Segment, segmentsOf}
 use Rattle.occupancy.proofs.StartsAndSegments.{glue, run-begins, run-more, run-ends, run-last}
 use Rattle.occupancy.proofs.segments.segment_at.Statement.{statement}
 use Rattle.occupancy.proofs.segments.segment_at.Tie as tie
+
+-- a run that ends at a right end ends at each number equal to it
+ends-at : (setup : Setup) (left right end : ℕ) (gs : List Segment) → end ≡ right → glue setup left right gs ≡ glue setup left end gs
+ends-at setup left right end gs e = ap (λ (x : ℕ). glue setup left x gs) (sym e)
 
 abbrev Inv-loop : tie.InvT-loop
 Inv-loop setup starts n i left right₀ k₀ right k =
@@ -25,14 +30,19 @@ mul-left c = search needs
 shared-slice-read-left : tie.Need-shared-slice-read-left Inv-loop μ-loop
 shared-slice-read-left c = search needs
 
-add-right : tie.Need-add-right Inv-loop μ-loop
-add-right c = omega (arith, c .before .before .pre .2 _ (c .before .before .pre .0))
+end-of-requires : tie.Need-end-of-requires Inv-loop μ-loop
+end-of-requires c κs = c .before .before .pre .2 _ (c .before .before .pre .0)
 
 add-k : tie.Need-add-k Inv-loop μ-loop
 add-k c = search needs
 
 loop-holds : tie.Need-loop-holds Inv-loop μ-loop
-loop-holds c = (search needs, search needs, run-begins _ _ _ _ (c .before .before .pre .0) (c .before .before .pre .1))
+loop-holds c =
+    let pre = c .before .before .before .pre in (
+      search needs,
+      search needs,
+      run-begins _ _ _ _ (pre .0) (pre .1) ∙ ends-at _ _ _ _ _ (c .end-of .ensures),
+    )
 
 mul-start : tie.Need-mul-start Inv-loop μ-loop
 mul-start c = search needs
@@ -43,10 +53,10 @@ shared-slice-read-start c = search needs
 do-touch-requires : tie.Need-do-touch-requires Inv-loop μ-loop
 do-touch-requires c κs = search needs
 
-add-right-2 : tie.Need-add-right-2 Inv-loop μ-loop
-add-right-2 c =
+end-of-requires-2 : tie.Need-end-of-requires-2 Inv-loop μ-loop
+end-of-requires-2 c κs =
     let turn = c .before .before .before .before in
-    omega (arith, turn .before .before .before .pre .2 _ (c .before .before .before .loop-test .taken))
+    turn .before .before .before .before .pre .2 _ (c .before .before .before .loop-test .taken)
 
 add-k-2 : tie.Need-add-k-2 Inv-loop μ-loop
 add-k-2 c = search needs
@@ -56,12 +66,13 @@ loop-less c = search needs
 
 loop-again : tie.Need-loop-again Inv-loop μ-loop
 loop-again c =
-    let turn = c .before .before .before .before in (
+    let turn = c .before .before .before .before .before in (
       search needs,
       search needs,
       turn .loop .inv .2
-          ∙ run-more _ _ _ _ _ _ (c .before .before .before .loop-test .taken) (turn .before .before .before .pre .1)
-          (sym (c .before .do-touch .ensures) ∙ not-false _ (c .if1 .left)),
+          ∙ run-more _ _ _ _ _ _ (c .before .before .before .before .loop-test .taken) (turn .before .before .before .before .pre .1)
+          (sym (c .before .before .do-touch .ensures) ∙ not-false _ (c .before .if1 .left))
+          ∙ ends-at _ _ _ _ _ (c .end-of2 .ensures),
     )
 
 returns : tie.Need-returns Inv-loop μ-loop
@@ -75,7 +86,7 @@ returns-2 : tie.Need-returns-2 Inv-loop μ-loop
 returns-2 c =
     let turn = c .before .before .before .before in (
       turn .loop .inv .2
-          ∙ run-ends _ _ _ _ _ _ (c .before .before .before .loop-test .taken) (turn .before .before .before .pre .1)
+          ∙ run-ends _ _ _ _ _ _ (c .before .before .before .loop-test .taken) (turn .before .before .before .before .pre .1)
           (sym (c .before .do-touch .ensures) ∙ not-true _ (c .if1 .taken)),
       turn .loop .inv .0,
       turn .loop .inv .1,
@@ -89,13 +100,13 @@ segment-at-spec =
     μ-loop
     mul-left
     shared-slice-read-left
-    add-right
+    end-of-requires
     add-k
     loop-holds
     mul-start
     shared-slice-read-start
     do-touch-requires
-    add-right-2
+    end-of-requires-2
     add-k-2
     loop-less
     loop-again
