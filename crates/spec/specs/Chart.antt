@@ -19,8 +19,8 @@ abbrev pub taken : ℕ → List ℕ → ℕ
 taken s starts = countIf (eqb s) starts
 
 -- "a request ends at the smaller of its deadline and the start of the record behind it". Document 02, 2.2, overrides it: the request's slot
--- is the latest open one before this limit, and the limit is one after the start of the record behind it, since a slot that can take more
--- may be shared. Behind it are the starts of the later ones
+-- is the latest open one before its deadline and before one after the start of the record behind it, since a slot that can take more may
+-- be shared. Behind it are the starts of the later ones
 abbrev pub limitOf : ℕ → List ℕ → ℕ
 limitOf deadline [] = deadline
 limitOf deadline (start ∷ later) = min deadline (suc start)
