@@ -183,7 +183,7 @@ pub fn earlier(a: u64, b: u64) -> u64
     if a < b { a } else { b }
 }
 
-// Slots of one hour that are all open: from its first one to end - 1.
+// Slots that are all open, from the first one of an hour to end - 1.
 pub struct Stretch {
     pub hour: Hour,
     pub end: u64,

@@ -1,11 +1,12 @@
 -- Damaged tables as one table that is checked by one theorem: each clause of refusal 4 and of "Tables are sound when" broken at its
 -- bound, beside tables just within it. Each row lists the clauses that its state breaks: one alone, but for a deadline that is not
--- after the clock. The bounds of the waiting table's length and of the head stand behind it, as numbers. Assumes nothing.
-use Prim.Native.Nat.{ℕ, _*_}
-use mathlib.Core.Path.{_≡_, refl}
+-- after the clock. Two rows with a deadline 65,535 slots ahead, and one more, stand behind it, and the bounds of the waiting table's length
+-- and of the head, as numbers. Assumes nothing.
+use Prim.Native.Nat.{ℕ, _*_, _≤_}
+use mathlib.Core.Path.{_≡_, refl, ap}
 use mathlib.Core.Bool.{Bool, true, false, not, cond, _&&_, _||_, and-assoc, and-true}
 use mathlib.Core.List.{List, [], _∷_, _++_, map}
-use lib.Dec.{eqb, ltb}
+use lib.Dec.{eqb, ltb, lit≤}
 use lib.ListN.{length}
 use Rattle.spec.specs.declared.types.Head.{Head}
 use Rattle.spec.specs.declared.types.Request.{Request}
@@ -20,6 +21,11 @@ use Rattle.spec.specs.Hours.{markOf, sumFrom}
 use Rattle.spec.specs.Sound.{isHeadWithin, isAhead, isGiven, isClient, isZeroRequest, isBalanced, isSound}
 use Rattle.spec.specs.Calls.Refusals.{refusal4}
 use Rattle.spec.specs.Calls.Tick.{tickRefusals}
+use native.Mathlib.Omega.{arith}
+use Rattle.spec.proofs.Demands.Words.{AllOpen}
+use Rattle.spec.proofs.Laws.Order.{earlier}
+use Rattle.spec.proofs.Laws.Room.{open-room, hours-all-open}
+use Rattle.spec.proofs.Laws.Places.{roomy-feasible}
 use Rattle.spec.proofs.Acceptance.Computed.{hourly, allOpen, setting, refusals}
 
 -- ---- clauses
@@ -52,17 +58,21 @@ shapeTests s =
     ∷ tested waiting-count (not (ltb (length (s .waitingTable)) (s .head .waiting)))
     ∷ []
 
-abbrev soundTests : State → List ClauseTest
-soundTests s =
+-- .. where it is known whether a deadline is overfull
+abbrev soundTestsBy : Bool → State → List ClauseTest
+soundTestsBy hasRoom s =
     tested head-bounds (isHeadWithin (s .head))
     ∷ tested chart-order (isInOrder (waiting s))
     ∷ tested deadline-ahead (every (λ w. isAhead (s .head .clock) (w .deadline)) (waiting s))
     ∷ tested number-given (every (λ w. isGiven (s .head .last) (w .number)) (waiting s))
     ∷ tested client-exists (every (λ w. isClient (s .head .setup .clients) (w .client)) (waiting s))
-    ∷ tested no-overfull (hasNoOverfull (s .head) (waiting s))
+    ∷ tested no-overfull hasRoom
     ∷ tested zero-behind (every isZeroRequest (behind s))
     ∷ tested balance (everyFrom (isBalanced (waiting s)) 0 (clientTable s))
     ∷ []
+
+abbrev soundTests : State → List ClauseTest
+soundTests s = soundTestsBy (hasNoOverfull (s .head) (waiting s)) s
 
 abbrev areMet : List ClauseTest → Bool
 areMet ts = every (λ t. t .holds) ts
@@ -183,11 +193,10 @@ damages =
     ∷ breaks two (holding 4 (request 9 2 0 ∷ request 9 4 1 ∷ [])) both []
     ∷ breaks two (holding 4 (request 9 4 1 ∷ request 9 2 0 ∷ [])) both (chart-order ∷ [])
     ∷ breaks two (holding 4 (request 9 4 0 ∷ request 9 4 1 ∷ [])) both (chart-order ∷ [])
-    -- "each deadline is past the clock by 1 to 65,535"; one that is not after the clock is overfull too, for no slot is left to it
+    -- "each deadline is past the clock by 1 to 65,535"; one that is not after the clock is overfull too, for no slot is left to it. Those that
+    -- are far ahead: `far-tables`
     ∷ breaks two (holding 4 (request 6 2 0 ∷ second ∷ [])) both []
     ∷ breaks two (holding 4 (request 5 2 0 ∷ second ∷ [])) both (deadline-ahead ∷ no-overfull ∷ [])
-    ∷ breaks two (holding 4 (first ∷ request 65540 4 1 ∷ [])) both []
-    ∷ breaks two (holding 4 (first ∷ request 65541 4 1 ∷ [])) both (deadline-ahead ∷ [])
     -- "each number is from 1 to the last given"
     ∷ breaks two (holding 4 (request 7 1 0 ∷ second ∷ [])) both []
     ∷ breaks two (holding 4 (request 7 0 0 ∷ second ∷ [])) both (number-given ∷ [])
@@ -211,10 +220,35 @@ damages =
     ∷ breaks two (holding 4 (first ∷ second ∷ [])) (counts 268435456 268435454 1 ∷ counts 1 0 0 ∷ []) (balance ∷ [])
     ∷ []
 
-pub damaged-tables : map (λ (d : Damage). broken (shapeTests (d .state) ++ soundTests (d .state))) damages
-    ≡ map (λ (d : Damage). d .clauses) damages
+abbrev found : Damage → List Clause
+found d = broken (shapeTests (d .state) ++ soundTests (d .state))
+
+pub damaged-tables : map found damages ≡ map (λ (d : Damage). d .clauses) damages
 unfolding refusals numbersOf
 damaged-tables = refl
+
+-- ---- a deadline at its bound and beyond: to compute the room of 65,535 slots takes long, so that it is known by a law
+abbrev far : ℕ → List Clause → Damage
+far d clauses = breaks two (holding 4 (first ∷ request d 4 1 ∷ [])) both clauses
+
+all-open : AllOpen (setting 2 10)
+unfolding markOf sumFrom
+all-open = hours-all-open (setting 2 10) refl
+
+has-room : (d : ℕ) → 9 ≤ d → hasNoOverfull two (first ∷ request d 4 1 ∷ []) ≡ true
+has-room d l =
+    roomy-feasible two (first ∷ request d 4 1 ∷ []) ((earlier (omega arith), tt), (tt, tt))
+    (omega (arith, open-room (setting 2 10) all-open 5 7), (omega (arith, open-room (setting 2 10) all-open 5 d), tt))
+
+found-far : (d : ℕ) (clauses : List Clause) → 9 ≤ d
+    → found (far d clauses) ≡ broken (shapeTests (far d clauses .state) ++ soundTestsBy true (far d clauses .state))
+found-far d clauses l =
+    ap (λ (b : Bool). broken (shapeTests (far d clauses .state) ++ soundTestsBy b (far d clauses .state))) (has-room d l)
+
+-- "each deadline is past the clock by 1 to 65,535"
+pub far-tables : (found (far 65540 []) ≡ []) × (found (far 65541 (deadline-ahead ∷ [])) ≡ deadline-ahead ∷ [])
+unfolding refusals numbersOf
+far-tables = (found-far 65540 [] (lit≤ tt), found-far 65541 (deadline-ahead ∷ []) (lit≤ tt))
 
 -- ---- numbers at their bounds and beyond
 -- "a lent table of 1 to 2,048 records": whether a waiting table may be so long
