@@ -35,6 +35,10 @@ mark-times mark n l = omega (arith, mul-le-mul-right n l)
 pub whole-fits : (n x whole : ℕ) → whole ≤ x / n → whole * n + x % n ≤ x
 whole-fits n x whole l = omega (arith, mul-le-mul-right n l, div-add-mod' x n)
 
+-- .. and of what is left as many as its mark counts
+pub counted-slots-fit : (n x whole mark : ℕ) → whole ≤ x / n → mark ≤ 1 → whole * n + mark * (x % n) ≤ x
+counted-slots-fit n x whole mark l m = omega (arith, mark-times mark (x % n) m, whole-fits n x whole l)
+
 pub weeks-fit : (hour week : ℕ) → week ≤ hours → hour / hours * week + hour % hours ≤ hour
 weeks-fit hour week l = omega (arith, mul-le-mul-left (hour / hours) l, div-add-mod' hour hours)
 

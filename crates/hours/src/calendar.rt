@@ -135,7 +135,7 @@ pub struct Hour {
 // The hour in which a slot lies.
 fn hour_of(setup: Setup, slot: u64) -> Hour
     requires { ⌜ 1 ≤ setup .hour ⌝ }
-    ensures { λ r. ⌜ IsHour setup r × (slot < r .start + setup .hour) ⌝ }
+    ensures { λ r. ⌜ IsHour setup r × (r .start ≤ slot) × (slot < r .start + setup .hour) ⌝ }
 {
     let hours_before = slot / setup.hour;
     Hour {

@@ -22,9 +22,9 @@ use Rattle.spec.specs.Sound.{isHeadWithin, isAhead, isGiven, isClient, i
 use Rattle.spec.specs.Calls.Refusals.{refusal4}
 use Rattle.spec.specs.Calls.Tick.{tickRefusals}
 use native.Mathlib.Omega.{arith}
-use Rattle.spec.proofs.Demands.Words.{AllOpen}
+use Rattle.spec.proofs.Demands.AllOpen.{all-marked}
 use Rattle.spec.proofs.Laws.Order.{earlier}
-use Rattle.spec.proofs.Laws.Room.{open-room, hours-all-open}
+use Rattle.spec.proofs.Laws.Room.{open-room}
 use Rattle.spec.proofs.Laws.Places.{roomy-feasible}
 use Rattle.spec.proofs.Acceptance.Computed.{hourly, allOpen, setting, refusals}
 
@@ -231,14 +231,10 @@ damaged-tables = refl
 abbrev far : ℕ → List Clause → Damage
 far d clauses = breaks two (holding 4 (first ∷ request d 4 1 ∷ [])) both clauses
 
-all-open : AllOpen (setting 2 10)
-unfolding markOf sumFrom
-all-open = hours-all-open (setting 2 10) refl
-
 has-room : (d : ℕ) → 9 ≤ d → hasNoOverfull two (first ∷ request d 4 1 ∷ []) ≡ true
 has-room d l =
     roomy-feasible two (first ∷ request d 4 1 ∷ []) ((earlier (omega arith), tt), (tt, tt))
-    (omega (arith, open-room (setting 2 10) all-open 5 7), (omega (arith, open-room (setting 2 10) all-open 5 d), tt))
+    (omega (arith, open-room (setting 2 10) (all-marked 2 10 1) 5 7), (omega (arith, open-room (setting 2 10) (all-marked 2 10 1) 5 d), tt))
 
 found-far : (d : ℕ) (clauses : List Clause) → 9 ≤ d
     → found (far d clauses) ≡ broken (shapeTests (far d clauses .state) ++ soundTestsBy true (far d clauses .state))

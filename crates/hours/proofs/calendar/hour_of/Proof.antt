@@ -21,6 +21,7 @@ returns c =
     let a = c .before .before .before .args in
     let number = c .before .of-week in (
       record { others = a .slot / a .setup .hour; begins = refl; numbered = number .ensures },
+      div-mul-le-self (a .slot) (a .setup .hour),
       omega (arith, lt-div-mul-add {a = a .slot} {b = a .setup .hour} (omega arith)),
     )
 

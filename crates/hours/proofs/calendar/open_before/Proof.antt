@@ -5,7 +5,7 @@ use native.Mathlib.Omega.{arith}
 use borrow.Author.Needs.{needs}
 use Rattle.spec.specs.Hours.{markOf}
 use Rattle.spec.proofs.Laws.Room.{mark-most}
-use Rattle.hours.proofs.OpenSlots.{mark-times, room-hour-0, by-hour, whole-fits}
+use Rattle.hours.proofs.OpenSlots.{mark-times, room-hour-0, by-hour, whole-fits, counted-slots-fit}
 use Rattle.hours.proofs.calendar.open_before.Statement.{statement}
 use Rattle.hours.proofs.calendar.open_before.Tie as tie
 
@@ -51,8 +51,7 @@ mul-result-3 c =
     let whole = c .before .before .open-hours-before in
     let mark = c .before .before .before .mark-of2 in
     let number = c .before .before .before .before .of-week in
-    let counted = mark-times (mark .result) (a .slot % a .setup .hour) (omega (arith, mark-most (a .setup) (number .result))) in
-    record { fits = omega (arith, whole-fits (a .setup .hour) (a .slot) (whole .result) (whole .ensures .1)) }
+    record { fits = omega (arith, counted-slots-fit (a .setup .hour) (a .slot) (whole .result) (mark .result) (whole .ensures .1) (omega (arith, mark-most (a .setup) (number .result)))) }
 
 add-result : tie.Need-add-result
 add-result c =
@@ -60,19 +59,17 @@ add-result c =
     let whole = c .before .before .open-hours-before in
     let mark = c .before .before .before .mark-of2 in
     let number = c .before .before .before .before .of-week in
-    let counted = mark-times (mark .result) (a .slot % a .setup .hour) (omega (arith, mark-most (a .setup) (number .result))) in
-    record { fits = omega (arith, whole-fits (a .setup .hour) (a .slot) (whole .result) (whole .ensures .1)) }
+    record { fits = omega (arith, counted-slots-fit (a .setup .hour) (a .slot) (whole .result) (mark .result) (whole .ensures .1) (omega (arith, mark-most (a .setup) (number .result)))) }
 
 returns-2 : tie.Need-returns-2
 returns-2 c =
     let a = c .before .before .before .before .before .before .before .before .args in
     let whole = c .before .before .open-hours-before in
     let mark = c .before .before .before .mark-of2 in
-    let number = c .before .before .before .before .of-week in
-    let counted = mark-times (mark .result) (a .slot % a .setup .hour) (omega (arith, mark-most (a .setup) (number .result))) in (
+    let number = c .before .before .before .before .of-week in (
       by-hour (a .setup) (omega arith) (a .slot) (whole .result) (mark .result) (whole .ensures .0)
           (mark .ensures ∙ ap (markOf (a .setup)) (number .ensures)),
-      omega (arith, whole-fits (a .setup .hour) (a .slot) (whole .result) (whole .ensures .1)),
+      counted-slots-fit (a .setup .hour) (a .slot) (whole .result) (mark .result) (whole .ensures .1) (omega (arith, mark-most (a .setup) (number .result))),
     )
 
 pub open-before-spec : {M : Type 1} → statement M

@@ -4,7 +4,7 @@ use native.Mathlib.Omega.{arith}
 use borrow.Author.Needs.{needs}
 use Rattle.spec.specs.Tables.{hours}
 use Rattle.spec.proofs.Laws.Room.{mark-most}
-use Rattle.hours.proofs.OpenSlots.{mark-times, by-hour, whole-fits}
+use Rattle.hours.proofs.OpenSlots.{by-hour, whole-fits, counted-slots-fit}
 use Rattle.hours.proofs.calendar.open_before_by.Statement.{statement}
 use Rattle.hours.proofs.calendar.open_before_by.Tie as tie
 
@@ -29,32 +29,24 @@ rem-result c = search needs
 mul-result-2 : tie.Need-mul-result-2
 mul-result-2 c =
     let a = c .before .before .before .before .before .before .args in
+    let whole = c .before .before .open-hours-by in
     let mark = c .before .before .before .mark-by in
-    record {
-      fits =
-          omega (
-            arith,
-            mark-times (mark .result) (a .slot % a .setup .hour) (omega (arith, mark-most (a .setup) (a .slot / a .setup .hour % hours))),
-            whole-fits (a .setup .hour) (a .slot) 0 (omega arith),
-          );
-    }
+    record { fits = omega (arith, counted-slots-fit (a .setup .hour) (a .slot) (whole .result) (mark .result) (whole .ensures .1) (omega (arith, mark-most (a .setup) (a .slot / a .setup .hour % hours)))) }
 
 add-result : tie.Need-add-result
 add-result c =
     let a = c .before .before .before .before .before .before .args in
     let whole = c .before .before .open-hours-by in
     let mark = c .before .before .before .mark-by in
-    let counted = mark-times (mark .result) (a .slot % a .setup .hour) (omega (arith, mark-most (a .setup) (a .slot / a .setup .hour % hours))) in
-    record { fits = omega (arith, whole-fits (a .setup .hour) (a .slot) (whole .result) (whole .ensures .1)) }
+    record { fits = omega (arith, counted-slots-fit (a .setup .hour) (a .slot) (whole .result) (mark .result) (whole .ensures .1) (omega (arith, mark-most (a .setup) (a .slot / a .setup .hour % hours)))) }
 
 returns : tie.Need-returns
 returns c =
     let a = c .before .before .before .before .before .before .args in
     let whole = c .before .before .open-hours-by in
-    let mark = c .before .before .before .mark-by in
-    let counted = mark-times (mark .result) (a .slot % a .setup .hour) (omega (arith, mark-most (a .setup) (a .slot / a .setup .hour % hours))) in (
+    let mark = c .before .before .before .mark-by in (
       by-hour (a .setup) (omega arith) (a .slot) (whole .result) (mark .result) (whole .ensures .0) (mark .ensures),
-      omega (arith, whole-fits (a .setup .hour) (a .slot) (whole .result) (whole .ensures .1)),
+      counted-slots-fit (a .setup .hour) (a .slot) (whole .result) (mark .result) (whole .ensures .1) (omega (arith, mark-most (a .setup) (a .slot / a .setup .hour % hours))),
     )
 
 pub open-before-by-spec : {M : Type 1} → statement M
