@@ -20,14 +20,11 @@ use Rattle.spec.specs.Hours.{room}
 use Rattle.spec.specs.Chart.{room_to}
 use Rattle.spec.proofs.Laws.Every.{and_left, and_right, or_none}
 use Rattle.hours.specs.declared.calendar.Line.{Line}
-use Rattle.hours.specs.Week.{are_all_open, Below}
-use Rattle.hours.proofs.OpenSlots.{room_most, all_open_room}
+use Rattle.hours.specs.Week.{Below}
+use Rattle.hours.proofs.OpenSlots.{room_most}
 use Rattle.hours.specs.contracts.calendar.Line as T
 use Rattle.hours.proofs.calendar.Line.TheLaws as T'
-use Rattle.occupancy.specs.declared.open_search.Four.{Four}
-use Rattle.occupancy.specs.Fours.{four_at, is_full, is_one_full, are_above, are_eight_above, line_of_all}
-use Rattle.occupancy.specs.contracts.open_search.Four as F
-use Rattle.occupancy.proofs.open_search.Four.TheLaws as F'
+use Rattle.occupancy.specs.Fours.{is_full, is_one_full, are_above, are_eight_above}
 use Rattle.occupancy.specs.Scans.{Sorted}
 use Rattle.occupancy.proofs.Searches.{room_difference}
 use Rattle.occupancy.proofs.Searches.{overfull_at, overfull_next}
@@ -39,13 +36,6 @@ LineT = T.the_row
 abbrev pub a_line : PlainType LineT
 a_line = of_struct T.the_type T'.the_laws T'.the_plain (λ x. tt) (λ x w. refl)
 
--- ---- four deadlines by value
-abbrev pub FourT : RattleType
-FourT = F.the_row
-
-abbrev pub a_four : PlainType FourT
-a_four = of_struct F.the_type F'.the_laws F'.the_plain (λ x. tt) (λ x w. refl)
-
 -- ---- a line and four deadlines behind one another
 each_of_five : (p a b c d : Bool) → p && (a && b) && (c && d) ≡ true → (p ≡ true) × (a ≡ true) × (b ≡ true) × (c ≡ true) × (d ≡ true)
 each_of_five p a b c d e =
@@ -56,12 +46,8 @@ each_of_five p a b c d e =
 
 module _ (setup : Setup) where
   -- deadlines that the line tells of are not full
-  pub none_full : (line : Line) (n : ℕ) (four : Four) → Below setup line → are_above line n four ≡ true → is_one_full setup n four ≡ false
-  none_full line n four below e =
-      let a : ℕ = four.a in
-      let b : ℕ = four.b in
-      let c : ℕ = four.c in
-      let d : ℕ = four.d in
+  pub none_full : (line : Line) (n a b c d : ℕ) → Below setup line → are_above line n a b c d ≡ true → is_one_full setup n a b c d ≡ false
+  none_full line n a b c d below e =
       let base : ℕ = line.floor + n in
       let told = each_of_five (ltb (n + 3) line.reach) (ltb base a) (ltb (base + 1) b) (ltb (base + 2) c) (ltb (base + 3) d) e in
       let reach = ltb-true (n + 3) line.reach told.0 in
@@ -79,14 +65,6 @@ module _ (setup : Setup) where
       let floor = ltb-true _ first told.1 in
       let reach = ltb-true _ line.reach told.0 in
       lt-leb (room setup 0 d) (n + k) (below.more (n + k) d (omega (arith, floor)) (omega (arith, reach)))
-
-  -- ---- all hours open
-  module _ (all : are_all_open setup ≡ true) where
-    pub all_below : Below setup line_of_all
-    all_below = record { low = omega arith; more = λ n d past reached. omega (arith, all_open_room setup all 0 d) }
-
-    pub all_before : (clock : ℕ) → clock ≡ room setup 0 clock
-    all_before clock = omega (arith, all_open_room setup all 0 clock)
 
 -- ---- open slots before the clock and requests together: what is taken before a deadline
 module _ (head : Head) (before : ℕ) (counted : before ≡ room head.setup 0 head.clock) where
@@ -114,7 +92,7 @@ module _ (head : Head) (before : ℕ) (counted : before ≡ room head.setup 0 he
         overfull_next head ws n more j fits inside (room_left (j + more) (due j) (ap (λ (m : ℕ). is_full head.setup m (due j)) (sym taken) ∙ e))
 
     pub four_on : (i : ℕ) → i + 4 ≤ n
-        → is_one_full head.setup (before + (i + more)) (four_at ws i) ≡ false
+        → is_one_full head.setup (before + (i + more)) (due i) (due (i + 1)) (due (i + 2)) (due (i + 3)) ≡ false
         → overfull_at head ws n more (i + 4) ≡ overfull_at head ws n more i
     four_on i last e =
         let taken : ℕ = before + (i + more) in

@@ -1,10 +1,10 @@
-// The search for the first overfull deadline. Open slots before a deadline take a division, so that most records are gone over by eights and
-// by fours, with sums alone, and only those that a line does not tell of one by one.
-ghost use Rattle.std.specs.Prelude.{◌≡◌, true, ◌+◌, ◌≤◌, ◌^◌, length, take, drop};
+// The search for the first overfull deadline by open slots. Open slots before a deadline take a division, so that most records are gone
+// over by eights and by fours, with sums alone, and only those that a line does not tell of one by one.
+ghost use Rattle.std.specs.Prelude.{◌≡◌, ◌+◌, ◌≤◌, ◌^◌, length, take, drop};
 ghost use Rattle.spec.specs.Tables.{most_records, clock_end, deadlines_of};
 ghost use Rattle.spec.specs.Hours.{room};
-ghost use Rattle.hours.specs.Week.{are_all_open, Counted, Below};
-ghost use Rattle.occupancy.specs.Fours.{line_of_all, four_at, are_above, are_eight_above, is_full, is_one_full};
+ghost use Rattle.hours.specs.Week.{Counted, Below};
+ghost use Rattle.occupancy.specs.Fours.{are_above, are_eight_above, is_full, is_one_full};
 ghost use Rattle.occupancy.specs.Scans.{Sorted, overfull_from};
 
 use hours::calendar::Line;
@@ -13,52 +13,14 @@ use spec::bounds::HOURS;
 use spec::types::{Head, Request, Setup};
 use table::waiting;
 
-// With all hours open the open slots before a deadline are all slots before it, and one line tells of every deadline.
-fn line_of_all() -> Line
-    ensures { result ≡ line_of_all }
-{
-    Line {
-        floor: 0,
-        reach: 18446744073709551615,
-    }
-}
-
-// The deadlines of four records, one behind the other.
-#[derive(Drop)]
-pub struct Four {
-    a: u64,
-    b: u64,
-    c: u64,
-    d: u64,
-}
-
-// The deadlines of four records from one index on.
-fn four_at(t: &[Request], at: usize) -> Four
-    requires { at + 4 ≤ length t.now }
-    ensures { result ≡ four_at t.now at }
-{
-    let a = waiting::get(t, at);
-    let b = waiting::get(t, at + 1);
-    let c = waiting::get(t, at + 2);
-    let d = waiting::get(t, at + 3);
-    Four {
-        a: a.deadline,
-        b: b.deadline,
-        c: c.deadline,
-        d: d.deadline,
-    }
-}
-
-// Whether four deadlines have more open slots before them than are taken, as far as a line tells. Five sums and no division; all five are
-// tested, since they take less time than branches between them.
-fn are_roomy(held: Line, taken: u64, four: Four) -> bool
+// Whether four deadlines, one behind the other, have more open slots before them than are taken, as far as a line tells. Five sums and
+// no division; all five are tested, since they take less time than branches between them.
+fn are_roomy(held: Line, taken: u64, a: u64, b: u64, c: u64, d: u64) -> bool
     requires { (held.floor ≤ 2 ^ 50) × (taken ≤ 2 ^ 50) }
-    ensures { result ≡ are_above held taken four }
+    ensures { result ≡ are_above held taken a b c d }
 {
     let base = held.floor + taken;
-    (taken + 3 < held.reach)
-        & ((base < four.a) & (base + 1 < four.b))
-        & ((base + 2 < four.c) & (base + 3 < four.d))
+    (taken + 3 < held.reach) & ((base < a) & (base + 1 < b)) & ((base + 2 < c) & (base + 3 < d))
 }
 
 // Whether eight deadlines, none before the first of them, have more open slots before them than are taken, as far as a line tells: where
@@ -87,24 +49,33 @@ struct Seen {
 
 // Whether one of four deadlines is full, where `taken` open slots are taken before the first, and one more before each of the others. The
 // line held tells of most fours; where it does not, the first one's own line; and where that does not, each deadline is looked at.
-fn look_at_four(setup: Setup, counts: &[u8], held: Line, taken: u64, four: Four) -> Seen
+fn look_at_four(
+    setup: Setup,
+    counts: &[u8],
+    held: Line,
+    taken: u64,
+    a: u64,
+    b: u64,
+    c: u64,
+    d: u64,
+) -> Seen
     requires { Counted setup counts.now × (1 ≤ setup.hour) × Below setup held × (taken ≤ 2 ^ 50) }
-    ensures { Below setup result.line × (result.full ≡ is_one_full setup taken four) }
+    ensures { Below setup result.line × (result.full ≡ is_one_full setup taken a b c d) }
 {
-    if are_roomy(held, taken, four) {
+    if are_roomy(held, taken, a, b, c, d) {
         return Seen {
             line: held,
             full: false,
         };
     }
-    let line = calendar::line_by(setup, counts, four.a);
-    if are_roomy(line, taken, four) {
+    let line = calendar::line_by(setup, counts, a);
+    if are_roomy(line, taken, a, b, c, d) {
         return Seen { line, full: false };
     }
-    let first = is_full(setup, counts, taken, four.a);
-    let second = is_full(setup, counts, taken + 1, four.b);
-    let third = is_full(setup, counts, taken + 2, four.c);
-    let fourth = is_full(setup, counts, taken + 3, four.d);
+    let first = is_full(setup, counts, taken, a);
+    let second = is_full(setup, counts, taken + 1, b);
+    let third = is_full(setup, counts, taken + 2, c);
+    let fourth = is_full(setup, counts, taken + 3, d);
     Seen {
         line,
         full: (first | second) | (third | fourth),
@@ -166,36 +137,18 @@ fn roomy_fours(
         if n < at + 4 {
             break at;
         }
-        let four = four_at(t, at);
+        let a = waiting::get(t, at);
+        let b = waiting::get(t, at + 1);
+        let c = waiting::get(t, at + 2);
+        let d = waiting::get(t, at + 3);
         let taken = before + (at + more) as u64;
-        let seen = look_at_four(head.setup, counts, line, taken, four);
+        let seen = look_at_four(
+            head.setup, counts, line, taken, a.deadline, b.deadline, c.deadline, d.deadline,
+        );
         if seen.full {
             break at;
         }
         line = seen.line;
-        i = at + 4;
-    }
-}
-
-// The same with all hours open: one line serves for every turn, and where it does not tell of four records, one of them is full.
-pub fn roomy_in_all(head: Head, t: &[Request], from: usize, n: usize, more: usize) -> usize
-    requires { (n ≤ length t.now) × (n + more ≤ most_records) × (from ≤ n) × (head.clock ≤ clock_end) × (are_all_open head.setup ≡ true)
-        × Sorted (take n (deadlines_of t.now)) }
-    ensures { (result ≤ n)
-        × (overfull_from head (result + more) (drop result (take n (deadlines_of t.now)))
-        ≡ overfull_from head (from + more) (drop from (take n (deadlines_of t.now)))) }
-{
-    let line = line_of_all();
-    let mut i = from;
-    loop {
-        let at = roomy_eights(head, t, line, head.clock, i, n, more);
-        if n < at + 4 {
-            break at;
-        }
-        let four = four_at(t, at);
-        if !are_roomy(line, head.clock + (at + more) as u64, four) {
-            break at;
-        }
         i = at + 4;
     }
 }

@@ -65,13 +65,13 @@ pub fn due_by(t: &[Request], n: usize, deadline: u64) -> usize
     low
 }
 
-// The search with all hours open: by eights and fours up to the first four of which one is full, and from there one by one.
+// The first overfull deadline among those of the records from one index to another, where `more` requests besides come before each: one
+// that has not more slots up to it than requests before it. 0 where there is none. All slots are open.
 fn overfull_in_all(head: Head, t: &[Request], from: usize, n: usize, more: usize) -> u64
-    requires { (n ≤ length t.now) × (n + more ≤ most_records) × (from ≤ n) × (head.clock ≤ clock_end) × (are_all_open head.setup ≡ true)
-        × Sorted (take n (deadlines_of t.now)) }
+    requires { (n ≤ length t.now) × (n + more ≤ most_records) × (from ≤ n) × (head.clock ≤ clock_end) × (are_all_open head.setup ≡ true) }
     ensures { result ≡ overfull_from head (from + more) (drop from (take n (deadlines_of t.now))) }
 {
-    let mut i = open_search::roomy_in_all(head, t, from, n, more);
+    let mut i = from;
     loop {
         if n <= i {
             break 0;
@@ -84,21 +84,17 @@ fn overfull_in_all(head: Head, t: &[Request], from: usize, n: usize, more: usize
     }
 }
 
-// The first overfull deadline among those of the records from one index to another, which ascend, where `more` requests besides come before
-// each: one that has not more open slots up to it than requests before it. 0 where there is none. How to search is chosen once; where no
-// record is left to look at, no hour is counted either.
-pub fn overfull_from(head: Head, t: &[Request], from: usize, n: usize, more: usize) -> u64
+// The same as `overfull_in_all`, by open slots, of records whose deadlines ascend. Where no record is left to look at, the hours are not
+// counted either.
+pub fn overfull_in_open(head: Head, t: &[Request], from: usize, n: usize, more: usize) -> u64
     requires { (n ≤ length t.now) × (n + more ≤ most_records) × (from ≤ n) × (head.clock ≤ clock_end) × (1 ≤ head.setup.hour)
         × Sorted (take n (deadlines_of t.now)) }
     ensures { result ≡ overfull_from head (from + more) (drop from (take n (deadlines_of t.now))) }
 {
-    if n <= from {
-        return 0;
+    if from < n {
+        return open_search::overfull_by_counts(head, t, from, n, more);
     }
-    if marks::are_all_open(head.setup) {
-        return overfull_in_all(head, t, from, n, more);
-    }
-    open_search::overfull_by_counts(head, t, from, n, more)
+    0
 }
 
 // The first overfull deadline among those of n waiting records and a new one, looked for from the new one's place on: those before it
@@ -111,7 +107,10 @@ pub fn first_overfull(head: Head, t: &[Request], n: usize, place: usize, deadlin
     if !has_room(head, place as u64, deadline) {
         return deadline;
     }
-    overfull_from(head, t, place, n, 1)
+    if marks::are_all_open(head.setup) {
+        return overfull_in_all(head, t, place, n, 1);
+    }
+    overfull_in_open(head, t, place, n, 1)
 }
 
 // How many of n waiting records are candidates, where so many are due by the first overfull deadline: those, and none where no

@@ -9,11 +9,11 @@ use lib.ListN.{length, take, drop, replicate}
 use Rattle.spec.specs.declared.types.Head.{Head}
 use Rattle.spec.specs.declared.types.Request.{Request}
 use Rattle.spec.specs.Every.{every, every_from}
-use Rattle.spec.specs.Tables.{most_clients, most_records, client_width, records_of, State, state_of}
+use Rattle.spec.specs.Tables.{most_clients, most_records, client_width, zero_request, records_of, State, state_of}
 use Rattle.spec.specs.Sound.{is_zero_request}
 use Rattle.spec.proofs.Laws.Sound.{Shaped, HeadWithin, head_facts}
 use Rattle.sound.specs.Checks.{tally_size, tallied_of, does_balance, Bounded, Countable, Passed}
-use Rattle.sound.specs.Checks.{before_first, are_next, have_room, head_refusal, contents_refusal, tables_refusal}
+use Rattle.sound.specs.Checks.{are_next, have_room, head_refusal, contents_refusal, tables_refusal}
 use Rattle.sound.proofs.RecordTests.{shape_facts}
 use Rattle.sound.proofs.Tally.{zero_countable}
 use Rattle.sound.proofs.Verdict.{head_refused, head_passed, found_contents, contents_refused, contents_passed, sound_refused}
@@ -66,7 +66,7 @@ module _ (head : Head) (ws : List Request) (xs : List ℕ) where
 
     -- and else the room is asked
     module _ (none : contents_refusal s ≡ 0) where
-      pub room_asked : Bounded head head.waiting × (head.waiting ≤ length ws) × (are_next head (before_first head) (take head.waiting ws) ≡ true)
+      pub room_asked : Bounded head head.waiting × (head.waiting ≤ length ws) × (are_next head 0 zero_request (take head.waiting ws) ≡ true)
       room_asked =
           (next_asked.0, next_asked.1, (contents_passed s (head_passed s asked).0 (head_passed s asked).1 none).0)
 

@@ -65,7 +65,7 @@ pub record Turn (head : Head) (ys : List Request) (start : ℕ) (s : PassState) 
   pub tally : List ℕ
   pub before_is : Is RequestT before (vals before)
   pub size : length tally ≡ length s.1
-  pub behind : before ≡ record_before head ys i
+  pub behind : before ≡ record_before ys i
   pub reached : OnTheWay head ys start s n i passed tally
 
 -- a turn that is gone on with: a record is left, and all have passed

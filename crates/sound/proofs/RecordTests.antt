@@ -24,7 +24,7 @@ use Rattle.spec.specs.Order.{comes_before}
 use Rattle.spec.specs.Sound.{waiting_of, is_zero_request, is_balanced}
 use Rattle.spec.specs.Calls.Refusals.{refusal4}
 use Rattle.spec.proofs.Laws.Every.{Value, is_true, is_false, value}
-use Rattle.spec.proofs.Laws.Order.{Compared, compared, before as ordered, after as unordered, earlier, alike, later, alike_later, before_facts, before_deadline}
+use Rattle.spec.proofs.Laws.Order.{Compared, compared, before as ordered, after as unordered, earlier, alike, later, alike_later}
 use Rattle.spec.proofs.Laws.Layout.{whole_records}
 use Rattle.spec.proofs.Laws.Sound.{within_test, Shaped}
 use Rattle.table.proofs.Remaining.{rest_none, records_rest}
@@ -32,45 +32,48 @@ use Rattle.table.proofs.MovedRecords.{not_not}
 use Rattle.sound.specs.Checks.{has_shape, is_next, does_balance, balances_at, are_balanced_from, tally_size, tallied_of, Tallied}
 use Rattle.sound.proofs.Tally.{tally_zero}
 
--- ---- chart order as one comparison: a deadline may be followed by itself only where the number is larger
+-- ---- chart order as one comparison: a deadline may follow itself only where the number is larger
 -- what a deadline is lowered by
 pub one_at_most : (x : Bool) (n : ℕ) → 1 ≤ n → bool_byte x ≤ n
 one_at_most true n some = some
 one_at_most false n some = omega arith
 
 module _ (a b : Request) where
-  pub one_comparison : 1 ≤ a.deadline
-      → ltb (a.deadline - bool_byte (ltb a.number b.number)) b.deadline ≡ comes_before a b
+  pub one_comparison : 1 ≤ b.deadline
+      → leb a.deadline (b.deadline - bool_byte (leb b.number a.number)) ≡ comes_before a b
   one_comparison some =
-      go (ltb a.number b.number) (comes_before a b) (test (suc a.number) b.number) (compared a b)
+      go (leb b.number a.number) (comes_before a b) (test b.number a.number) (compared a b)
     where
-      go : (x y : Bool) → Test (suc a.number) b.number x → Compared a b y → ltb (a.deadline - bool_byte x) b.deadline ≡ y
-      go true true (holds n) (ordered (earlier g)) = lt-ltb (a.deadline - 1) b.deadline (omega arith)
-      go true true (holds n) (ordered (alike e m)) = lt-ltb (a.deadline - 1) b.deadline (omega arith)
-      go true false (holds n) (unordered (later g)) = le-ltb (a.deadline - 1) b.deadline (omega arith)
-      go true false (holds n) (unordered (alike_later e m)) = absurd (omega arith)
-      go false true (fails n) (ordered (earlier g)) = lt-ltb (a.deadline - 0) b.deadline (omega arith)
-      go false true (fails n) (ordered (alike e m)) = absurd (omega arith)
-      go false false (fails n) (unordered (later g)) = le-ltb (a.deadline - 0) b.deadline (omega arith)
-      go false false (fails n) (unordered (alike_later e m)) = le-ltb (a.deadline - 0) b.deadline (omega arith)
+      go : (x y : Bool) → Test b.number a.number x → Compared a b y → leb a.deadline (b.deadline - bool_byte x) ≡ y
+      go true true (holds n) (ordered (earlier g)) = le-leb a.deadline (b.deadline - 1) (omega arith)
+      go true true (holds n) (ordered (alike e m)) = absurd (omega arith)
+      go true false (holds n) (unordered (later g)) = lt-leb a.deadline (b.deadline - 1) (omega arith)
+      go true false (holds n) (unordered (alike_later e m)) = lt-leb a.deadline (b.deadline - 1) (omega arith)
+      go false true (fails n) (ordered (earlier g)) = le-leb a.deadline (b.deadline - 0) (omega arith)
+      go false true (fails n) (ordered (alike e m)) = le-leb a.deadline (b.deadline - 0) (omega arith)
+      go false false (fails n) (unordered (later g)) = lt-leb a.deadline (b.deadline - 0) (omega arith)
+      go false false (fails n) (unordered (alike_later e m)) = absurd (omega arith)
 
-module _ (head : Head) (before w : Request) where
-  -- ---- of a record that passes the other tests, only the order is left to ask
-  pub next_order : 1 ≤ w.number → w.number ≤ head.last → w.client < head.setup.clients
-      → is_next head before w ≡ comes_before before w
-  unfolding is_next
-  next_order some most owned =
-      rw (within_test 1 head.last w.number some most, lt-ltb w.client head.setup.clients owned)
+-- ---- of a record that passes the other tests, only the order is left to ask
+pub next_order : (head : Head) (i : ℕ) (before w : Request)
+    → 1 ≤ w.number
+    → w.number ≤ head.last
+    → w.client < head.setup.clients
+    → ltb (head.clock + i) w.deadline ≡ true
+    → is_next head i before w ≡ comes_before before w
+unfolding is_next
+next_order head i before w some most owned ahead =
+    rw (
+      within_test 1 head.last w.number some most,
+      lt-ltb w.client head.setup.clients owned,
+      ahead,
+    )
 
-  -- ---- a record that may stand where it does has a client that exists, and a deadline that is not before the one before it
-  pub next_client : is_next head before w ≡ true → w.client < head.setup.clients
-  unfolding is_next
-  next_client e =
-      let p = simp and-eq-true_iff at e in ltb-true w.client head.setup.clients p.0.1
-
-  pub next_later : is_next head before w ≡ true → before.deadline ≤ w.deadline
-  unfolding is_next
-  next_later e = let p = simp and-eq-true_iff at e in before_deadline before w (before_facts before w p.1)
+-- ---- a record that may stand where it does has a client that exists
+pub next_client : (head : Head) (i : ℕ) (before w : Request) → is_next head i before w ≡ true → w.client < head.setup.clients
+unfolding is_next
+next_client head i before w e =
+    let p = simp and-eq-true_iff at e in ltb-true w.client head.setup.clients p.0.0.1
 
 -- ---- a pass with one verdict: that so far, b, and that on what is left make up the whole. A turn takes the next test into b. It
 -- ends where b fails, or where nothing is left

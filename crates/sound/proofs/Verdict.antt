@@ -8,12 +8,12 @@ use mathlib.Core.Logic.{◌≢◌}
 use native.Mathlib.Omega.{arith}
 use lib.ListN.{length, take, replicate}
 use Rattle.spec.specs.Every.{every, every_from}
-use Rattle.spec.specs.Tables.{State, waiting, behind, client_table}
+use Rattle.spec.specs.Tables.{zero_request, State, waiting, behind, client_table}
 use Rattle.spec.specs.Setup.{first_match}
 use Rattle.spec.specs.Sound.{is_head_within, is_zero_request, is_balanced, is_sound}
 use Rattle.spec.proofs.Laws.Every.{and_left, Value, is_true, is_false, value}
 use Rattle.spec.proofs.Laws.Sound.{head_facts}
-use Rattle.sound.specs.Checks.{tallied_of, tally_size, does_balance, Passed, before_first, are_next, have_room, contents_refusal, tables_refusal, head_refusal}
+use Rattle.sound.specs.Checks.{tallied_of, tally_size, does_balance, Passed, are_next, have_room, contents_refusal, tables_refusal, head_refusal}
 use Rattle.sound.proofs.RecordTests.{balanced_tally, shape_of, shape_facts, shape_refused}
 use Rattle.sound.proofs.Pass.{sound_pass}
 
@@ -22,10 +22,10 @@ head_refusal_of s = head_refusal s.head (length s.waiting_table) (length s.clien
 
 -- ---- lengths that fit and a head within its bounds: what the passes find
 module _ (s : State) (shaped : shape_of s ≡ true) (headed : is_head_within s.head ≡ true) where
-  -- whether the records passed but for their room, those behind them are zero and the clients' counts balance
+  -- whether the records passed where all slots count, those behind them are zero and the clients' counts balance
   abbrev contents : Bool
   contents =
-      are_next s.head (before_first s.head) (waiting s)
+      are_next s.head 0 zero_request (waiting s)
       && (every is_zero_request (behind s) && every_from (is_balanced (waiting s)) 0 (client_table s))
 
   pub found_contents : (tally : List ℕ) (next zero balanced : Bool) → Passed s.head (waiting s) (replicate tally_size 0) next tally
@@ -42,7 +42,7 @@ module _ (s : State) (shaped : shape_of s ≡ true) (headed : is_head_within s.h
   contents_sound : is_sound s ≡ contents && have_room s.head 0 (waiting s)
   contents_sound =
       sound_pass s
-      ∙ rw headed (go (are_next s.head (before_first s.head) (waiting s)) (have_room s.head 0 (waiting s)) (every is_zero_request (behind s))
+      ∙ rw headed (go (are_next s.head 0 zero_request (waiting s)) (have_room s.head 0 (waiting s)) (every is_zero_request (behind s))
       (every_from (is_balanced (waiting s)) 0 (client_table s)))
     where
       go : (a r z b : Bool) → ((a && r) && z && b) ≡ (a && (z && b)) && r
@@ -65,14 +65,14 @@ module _ (s : State) (shaped : shape_of s ≡ true) (headed : is_head_within s.h
 
   -- contents that call for nothing: the records passed, and the room by open slots is left to ask
   pub contents_passed : contents_refusal s ≡ 0
-      → (are_next s.head (before_first s.head) (waiting s) ≡ true) × (is_sound s ≡ have_room s.head 0 (waiting s))
+      → (are_next s.head 0 zero_request (waiting s) ≡ true) × (is_sound s ≡ have_room s.head 0 (waiting s))
   unfolding contents_refusal
   contents_passed h = go contents refl
     where
       go : (x : Bool) → contents ≡ x
-          → (are_next s.head (before_first s.head) (waiting s) ≡ true) × (is_sound s ≡ have_room s.head 0 (waiting s))
+          → (are_next s.head 0 zero_request (waiting s) ≡ true) × (is_sound s ≡ have_room s.head 0 (waiting s))
       go true e = (
-        and_left (are_next s.head (before_first s.head) (waiting s))
+        and_left (are_next s.head 0 zero_request (waiting s))
             (every is_zero_request (behind s) && every_from (is_balanced (waiting s)) 0 (client_table s)) e,
         contents_sound ∙ rw e,
       )

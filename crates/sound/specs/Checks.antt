@@ -1,5 +1,5 @@
--- The tests of one pass over the waiting records, of one over the clients, and of the search for room in the waiting records. Assumes
--- nothing.
+-- The tests of one pass over the waiting records, of one over the clients, and of a second one over the waiting records where hours are
+-- closed. Assumes nothing.
 use Rattle.std.specs.Prelude.{ℕ, zero, suc, ◌+◌, ◌*◌, ◌%◌, ◌≤◌, ◌<◌, ◌≡◌, Bool, true, cond, ◌&&◌, List, [], ◌∷◌, leb, ltb, eqb, length, get_or, set, take, drop}
 use Rattle.spec.specs.declared.types.Head.{Head}
 use Rattle.spec.specs.declared.types.Request.{Request}
@@ -19,17 +19,14 @@ unfoldable pub has_shape : Head → ℕ → ℕ → Bool
 has_shape head records numbers =
     is_within 1 most_records records && eqb numbers (client_width * head.setup.clients) && leb head.waiting records
 
--- the clauses of soundness that speak of waiting records, but for how far ahead a deadline is (`is_near`) and for room (`have_room`), of one
--- record behind the one before it
-unfoldable pub is_next : Head → Request → Request → Bool
-is_next head before w =
+-- the clauses of soundness that speak of waiting records, but for how far ahead a deadline is (`is_near`) and for closed slots
+-- (`have_room`), of one record: its index, the record before it, the record
+unfoldable pub is_next : Head → ℕ → Request → Request → Bool
+is_next head i before w =
     is_given head.last w.number
     && is_client head.setup.clients w.client
+    && ltb (head.clock + i) w.deadline
     && comes_before before w
-
--- what stands before the first record: a record with a number that is given stands behind it just where its deadline is past the clock
-abbrev pub before_first : Head → Request
-before_first head = record { deadline = head.clock + 1; number = 0; client = 0 }
 
 -- ---- a count per client, in four parts: records are counted in them by turns, and a client's count is the sum of its four
 abbrev pub parts : ℕ
@@ -77,17 +74,17 @@ PassState = Bool × List ℕ
 -- one turn, of the record w at the index i, behind the one before it: it is counted if it passes and all so far did
 unfoldable pub turn : Head → ℕ → Request → Request → PassState → PassState
 turn head i before w s =
-    (s.0 && is_next head before w, counted_if (s.0 && is_next head before w) i w s.1)
+    (s.0 && is_next head i before w, counted_if (s.0 && is_next head i before w) i w s.1)
 
--- the record before an index
-abbrev pub record_before : Head → List Request → ℕ → Request
-record_before head ys zero = before_first head
-record_before head ys (suc i) = get_or ys i zero_request
+-- the record before an index, zero where there is none
+abbrev pub record_before : List Request → ℕ → Request
+record_before ys zero = zero_request
+record_before ys (suc i) = get_or ys i zero_request
 
 -- so many turns over the records of a table, the first at the index i
 unfoldable pub turns : Head → List Request → ℕ → ℕ → PassState → PassState
 turns head ys i zero s = s
-turns head ys i (suc k) s = turns head ys (suc i) k (turn head i (record_before head ys i) (get_or ys i zero_request) s)
+turns head ys i (suc k) s = turns head ys (suc i) k (turn head i (record_before ys i) (get_or ys i zero_request) s)
 
 -- a deadline is past the clock by no more than it may
 abbrev pub is_near : Head → ℕ → Bool
@@ -97,10 +94,10 @@ is_near head deadline = leb deadline (head.clock + most_ahead)
 abbrev pub with_last_near : Head → Request → PassState → PassState
 with_last_near head last s = (s.0 && is_near head last.deadline, s.1)
 
--- whether all of them are as they should be, behind the one before them; deadlines ascend, so that all are near if the last is
-unfoldable pub are_next : Head → Request → List Request → Bool
-are_next head before [] = is_near head before.deadline
-are_next head before (w ∷ ws) = is_next head before w && are_next head w ws
+-- whether all of them are as they should be, the first with the index i; deadlines ascend, so that all are near if the last is
+unfoldable pub are_next : Head → ℕ → Request → List Request → Bool
+are_next head i before [] = is_near head before.deadline
+are_next head i before (w ∷ ws) = is_next head i before w && are_next head (suc i) w ws
 
 -- whether each has room for those before it and itself, by open slots; the first has the index i
 unfoldable pub have_room : Head → ℕ → List Request → Bool
@@ -125,17 +122,17 @@ pub record Tallied (ws : List Request) (tally₀ tally : List ℕ) : Type 0 wher
 
 -- what the pass over the records finds: whether they are as they should be, and then the count per client
 pub record Passed (head : Head) (ws : List Request) (tally₀ : List ℕ) (r : Bool) (tally : List ℕ) : Type 0 where
-  pub verdict : r ≡ are_next head (before_first head) ws
+  pub verdict : r ≡ are_next head 0 zero_request ws
   pub tallied : r ≡ true → Tallied ws tally₀ tally
 
 -- what the tables call for, before a call's own refusals: 4 or 5, or 0 where neither matches
 unfoldable pub tables_refusal : State → ℕ
 tables_refusal s = first_match (refusal4 s ∷ refusal5 s ∷ [])
 
--- what the contents of tables that fit call for, but for the room of the waiting records: 5, or 0
+-- what the contents of tables that fit call for, where all slots count: 5, or 0
 unfoldable pub contents_refusal : State → ℕ
 contents_refusal s =
-    cond (are_next s.head (before_first s.head) (waiting s)
+    cond (are_next s.head 0 zero_request (waiting s)
     && (every is_zero_request (behind s) && every_from (is_balanced (waiting s)) 0 (client_table s))) 0 5
 
 -- what the lengths and the head call for, before any record is looked at: 4 or 5, or 0

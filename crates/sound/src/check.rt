@@ -1,5 +1,5 @@
 // The refusal that the tables call for: first by the lengths and the head, then by the waiting records, those behind them, and the
-// clients' counts, each record and each client looked at once, and at last by the room of the waiting records.
+// clients' counts, each record and each client looked at once, and each waiting record once more where hours are closed.
 ghost use Rattle.std.specs.Prelude.{◌+◌, ◌*◌, ◌/◌, ◌≤◌, ◌<◌, ◌≡◌, cond, ◌&&◌, length, take};
 ghost use Rattle.spec.specs.Every.{every_from};
 ghost use Rattle.spec.specs.Tables.{most_clients, client_width, records_of, state_of};
@@ -145,7 +145,7 @@ fn verdict(next: bool, zero: bool, balanced: bool) -> u64
     5
 }
 
-// The refusal that the contents of the tables call for, but for the room of the waiting records, if lengths and head call for none.
+// The refusal that the contents of the tables call for where all slots count, if lengths and head call for none.
 fn contents_refusal(waiting: &[Request], numbers: &[u32], head: Head) -> u64
     requires { head_refusal head (length waiting.now) (length numbers.now) ≡ 0 }
     ensures { result ≡ contents_refusal (state_of head waiting.now numbers.now) }
@@ -158,8 +158,8 @@ fn contents_refusal(waiting: &[Request], numbers: &[u32], head: Head) -> u64
     verdict(next, zero, balanced)
 }
 
-// The refusal that the tables call for, 0 where there is none. The room is asked last and apart: whatever lives across the pass over
-// the records takes one of its registers, which every call pays for.
+// The refusal that the tables call for, 0 where there is none. The room by open slots is asked last and apart: whatever lives across the
+// pass over the records takes one of its registers, which every call pays for.
 pub fn tables_refusal(waiting: &[Request], numbers: &[u32], head: Head) -> u64
     ensures { result ≡ tables_refusal (state_of head waiting.now numbers.now) }
 {

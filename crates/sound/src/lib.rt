@@ -1,4 +1,4 @@
-// Soundness of the tables: each record and each client looked at once, and then the room of the waiting records.
+// Soundness of the tables, each record and each client looked at once, and each waiting record once more where hours are closed.
 pub mod check;
 mod records;
 mod room;

@@ -1,43 +1,35 @@
 // The waiting records one after the other, and those behind them: each is tested once.
 ghost use Rattle.std.specs.Prelude.{◌+◌, ◌-◌, ◌%◌, ◌≤◌, ◌≡◌, true, ◌&&◌, length, take, drop};
 ghost use Rattle.spec.specs.Every.{every};
-ghost use Rattle.spec.specs.Tables.{clock_end};
+ghost use Rattle.spec.specs.Tables.{most_records, clock_end};
 ghost use Rattle.spec.specs.Sound.{is_zero_request};
-ghost use Rattle.sound.specs.Checks.{before_first, is_next, is_near, Countable, Bounded, turn, turns, record_before, with_last_near, Passed};
+ghost use Rattle.sound.specs.Checks.{is_next, is_near, Countable, Bounded, turn, turns, record_before, with_last_near, Passed};
 
+use occupancy::overfull;
 use spec::bounds;
 use spec::types::{Head, Request};
 use table::waiting;
 
-// What stands before the first record: what comes behind it has a deadline past the clock.
-fn before_first(head: Head) -> Request
-    requires { head.clock ≤ clock_end }
-    ensures { result ≡ before_first head }
+// Whether w can stand at the index i, behind the record before it. All slots count here: `room::have_room` asks for room by open slots, and
+// `is_near` asks of the last record how far ahead it is. Chart order takes one comparison: w's deadline counts one less where its number is
+// not the larger. Branches on the deadlines take longer where few records wait: docs/landings/04-session.md.
+pub(crate) fn is_next(head: Head, i: u64, before: Request, w: Request) -> bool
+    requires { (head.clock ≤ clock_end) × (i ≤ most_records) }
+    ensures { result ≡ is_next head i before w }
 {
-    Request {
-        deadline: head.clock + 1,
-        number: 0,
-        client: 0,
-    }
-}
-
-// Whether w can stand behind the record before it, but for its room, which `room::have_room` asks, and for how far ahead it is, which `is_near`
-// asks of the last record. Chart order takes one comparison: the deadline before w's counts one less where w's number is the larger. Branches
-// on the deadlines take longer where few records wait: docs/landings/04-session.md.
-pub(crate) fn is_next(head: Head, before: Request, w: Request) -> bool
-    requires { 1 ≤ before.deadline }
-    ensures { result ≡ is_next head before w }
-{
-    if head.last < w.number {
+    if w.number < 1 {
         return false;
     }
-    if w.number < 1 {
+    if head.last < w.number {
         return false;
     }
     if head.setup.clients <= w.client {
         return false;
     }
-    (before.deadline - (before.number < w.number) as u64) < w.deadline
+    if !overfull::is_ahead_by(head, i, w.deadline) {
+        return false;
+    }
+    before.deadline <= w.deadline - (w.number <= before.number) as u64
 }
 
 // Whether a deadline is past the clock by at most 65,535.
@@ -49,7 +41,7 @@ pub(crate) fn is_near(head: Head, deadline: u64) -> bool
 }
 
 // One turn of the pass over the records, told whether all before it passed: whether they and this one do, a record that may
-// stand behind the one before it; if so it is counted. The tally has four parts, used by turns: adding to one place
+// stand at its index behind the one before it; if so it is counted. The tally has four parts, used by turns: adding to one place
 // twice in a row waits for the store, and with few clients most records would.
 pub(crate) fn check_record(
     ok: bool,
@@ -59,13 +51,13 @@ pub(crate) fn check_record(
     before: Request,
     w: Request,
 ) -> bool
-    requires { Bounded head i × Countable 1 tally.old × (ok ≡ true → 1 ≤ before.deadline) }
+    requires { Bounded head i × Countable 1 tally.old }
     ensures { (result, tally.new) ≡ turn head i before w (ok, tally.old) }
 {
     if !ok {
         return false;
     }
-    if !is_next(head, before, w) {
+    if !is_next(head, i as u64, before, w) {
         return false;
     }
     let at = (i % 4) * bounds::MOST_CLIENTS + w.client as usize;
@@ -75,8 +67,7 @@ pub(crate) fn check_record(
 
 // Four turns, from the index i on. Each is told whether those before it passed, so that there is no branch between them.
 fn check_four(t: &[Request], tally: &mut [u16], head: Head, i: usize, before: Request) -> bool
-    requires { Bounded head (i + 4) × (i + 4 ≤ length t.now) × (before ≡ record_before head t.now i) × Countable 4 tally.old
-        × (1 ≤ before.deadline) }
+    requires { Bounded head (i + 4) × (i + 4 ≤ length t.now) × (before ≡ record_before t.now i) × Countable 4 tally.old }
     ensures { (result, tally.new) ≡ turns head t.now i 4 (true, tally.old) }
 {
     let a = waiting::get(t, i);
@@ -94,7 +85,11 @@ fn check_fours(t: &[Request], tally: &mut [u16], head: Head, n: usize) -> bool
     requires { Bounded head n × (n ≤ length t.now) × (n % 4 ≡ 0) × Countable n tally.old }
     ensures { (result, tally.new) ≡ turns head t.now 0 n (true, tally.old) }
 {
-    let mut before = before_first(head);
+    let mut before = Request {
+        deadline: 0,
+        number: 0,
+        client: 0,
+    };
     let mut passed = true;
     let mut i = 0;
     while (i < n) & passed {
@@ -105,13 +100,17 @@ fn check_fours(t: &[Request], tally: &mut [u16], head: Head, n: usize) -> bool
     passed
 }
 
-// The record before an index.
-fn previous(head: Head, t: &[Request], i: usize) -> Request
-    requires { (head.clock ≤ clock_end) × (i ≤ length t.now) }
-    ensures { result ≡ record_before head t.now i }
+// The record before an index, zero where there is none.
+fn previous(t: &[Request], i: usize) -> Request
+    requires { i ≤ length t.now }
+    ensures { result ≡ record_before t.now i }
 {
     if i == 0 {
-        return before_first(head);
+        return Request {
+            deadline: 0,
+            number: 0,
+            client: 0,
+        };
     }
     waiting::get(t, i - 1)
 }
@@ -119,12 +118,11 @@ fn previous(head: Head, t: &[Request], i: usize) -> Request
 // The turns of the records from one index on, one at a time, if all before it passed, until one does not pass; and whether the
 // last is near.
 fn check_rest(t: &[Request], tally: &mut [u16], head: Head, from: usize, n: usize, ok: bool) -> bool
-    requires { Bounded head n × (n ≤ length t.now) × (from ≤ n) × Countable (n - from) tally.old
-        × (ok ≡ true → 1 ≤ (record_before head t.now from).deadline) }
+    requires { Bounded head n × (n ≤ length t.now) × (from ≤ n) × Countable (n - from) tally.old }
     ensures { (result, tally.new)
-        ≡ with_last_near head (record_before head t.now n) (turns head t.now from (n - from) (ok, tally.old)) }
+        ≡ with_last_near head (record_before t.now n) (turns head t.now from (n - from) (ok, tally.old)) }
 {
-    let mut before = previous(head, t, from);
+    let mut before = previous(t, from);
     let mut passed = ok;
     let mut i = from;
     while (i < n) & passed {
@@ -138,7 +136,7 @@ fn check_rest(t: &[Request], tally: &mut [u16], head: Head, from: usize, n: usiz
 }
 
 // Whether the first n records are as waiting ones should be, and how many of them each client has. Deadlines ascend, so that
-// only the last is asked whether it is near; where there is none, what stands before the first is asked.
+// only the last is asked whether it is near; where there is none, the zero record is asked.
 pub(crate) fn are_next(t: &[Request], tally: &mut [u16], head: Head, n: usize) -> bool
     requires { Bounded head n × (n ≤ length t.now) × Countable n tally.old }
     ensures { Passed head (take n t.now) tally.old result tally.new }

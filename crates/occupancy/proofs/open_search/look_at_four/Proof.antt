@@ -14,7 +14,7 @@ returns c =
     let start = c.before.before.before in
     let a = start.args in
     let above = sym c.before.are-roomy.ensures ∙ c.if1.true in
-    (start.requires.2, sym (none_full a.setup a.held a.taken a.four start.requires.2 above))
+    (start.requires.2, sym (none_full a.setup a.held a.taken a.a a.b a.c a.d start.requires.2 above))
 
 line-by-requires : tie.Need-line-by-requires
 line-by-requires c κs = search rules
@@ -27,7 +27,7 @@ returns-2 c =
     let a = c.before.before.before.before.before.before.args in
     let line = c.before.before.line-by in
     let above = sym c.before.are-roomy2.ensures ∙ c.if2.true in
-    (line.ensures, sym (none_full a.setup line.result a.taken a.four line.ensures above))
+    (line.ensures, sym (none_full a.setup line.result a.taken a.a a.b a.c a.d line.ensures above))
 
 is-full-requires : tie.Need-is-full-requires
 is-full-requires c κs = search rules

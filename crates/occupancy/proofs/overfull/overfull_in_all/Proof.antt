@@ -1,9 +1,9 @@
--- `occupancy::overfull::overfull_in_all` meets its contract: a walk of `roomy_in_all` on the `&[Request]`, which is passed on, and of a loop that
--- breaks with a value in two places, with `table::waiting::get` and `is_ahead_by`, a covered function. A turn stands at any place from which
--- the search finds what it finds from the first (`Turn`).
+-- `occupancy::overfull::overfull_in_all` meets its contract: a walk with a loop that breaks with a value in two places,
+-- `table::waiting::get` on the `&[Request]`, which is passed on, and `is_ahead_by`, a covered function. A turn stands at any place from
+-- which the search finds what it finds from the first (`Turn`).
 -- Assumes nothing.
 use Rattle.walk.proofs.Prelude.{◌≡◌, refl, ◌∙◌, Bool, ℕ, ◌+◌, ◌<◌, ◌≤◌, ◌-◌, ◌^◌, lt_of_le_of_lt, lt_of_lt_of_le, add-one-le, add-one-dec, arith, List, [], ◌∷◌, get_or, ltb, ltb→lt, nltb→le, leb→le, nleb→lt, lit<, Ura, w64, vint, SProp, Memory, Routine, Tables, Fun, ◌$◌, !, lit, of_opd, bin, un, jumps, and_then, no_more, u64, triple_of}
-use Rattle.walk.proofs.Prelude.{heard, shown, taken, so, Shape, Walk, proved, var, vars, field_var, sets, sets_last, gives, iterates, fit, of_number, of_flag, calls_for, calls_giving, branches_out, number, passed_on, made, copies, computes}
+use Rattle.walk.proofs.Prelude.{heard, shown, taken, so, Shape, Walk, proved, var, vars, field_var, sets, sets_last, gives, iterates, fit, of_number, of_flag, calls_giving, branches_out, number, passed_on, made, copies, computes}
 use Rattle.spec.specs.declared.types.Request.{Request}
 use Rattle.spec.specs.Tables.{most_records, zero_request}
 use Rattle.spec.specs.Chart.{room_to}
@@ -13,7 +13,6 @@ use Rattle.table.proofs.MovedRecords.{not_not}
 use Rattle.table.proofs.waiting.get as get
 use Rattle.hours.proofs.OpenSlots.{all_open_room}
 use Rattle.occupancy.proofs.Searches.{Turn, overfull_here, overfull_next, overfull_none}
-use Rattle.occupancy.proofs.open_search.roomy_in_all as roomy
 use Rattle.occupancy.proofs.overfull.is_ahead_by as is-ahead-by
 use Rattle.occupancy.proofs.overfull.overfull_in_all as f
 use types.Logic.{Logic}
@@ -29,20 +28,17 @@ module _ {M : Type 1} {𝓤 : Ura M} (𝓛 : Logic 𝓤) (mem : Memory → SProp
     code = f.Code.function;
     lies = λ κs a. refl;
     callees =
-        (roomy.Symbol.name, triple_of 𝓛 roomy.signature (roomy.spec 𝓛 mem run))
-        ∷ (get.Symbol.name, triple_of 𝓛 get.signature (get.spec 𝓛 mem run))
+        (get.Symbol.name, triple_of 𝓛 get.signature (get.spec 𝓛 mem run))
         ∷ (is-ahead-by.Symbol.name, triple_of 𝓛 is-ahead-by.signature (is-ahead-by.spec 𝓛 mem run))
         ∷ [];
   }
 
   walk : (𝓣 : Tables 𝓤 H) → Walk shape 𝓣
-  walk 𝓣 known-roomy known-get known-ahead κs qs head head-is table start start_is n n-is more more-is g Q leaves bs =
+  walk 𝓣 known-get known-ahead κs qs head head-is table start start_is n n-is more more-is g Q leaves bs =
       let ys : List Request = table.list in
       heard ! _ (λ within.
-      -- let mut i = open_search::roomy_in_all(head, t, from, n, more);
-      calls_for ! 𝓣 (0 ∷ []) (the_head 𝓛 head head-is ∷ passed_on 𝓛 table ∷ number 𝓛 start start_is.1 ∷ number 𝓛 n n-is.1 ∷ number 𝓛 more more-is.1 ∷ []) (of_number w64)
-      (λ c. known-roomy) (λ c h. h) (so 𝓤 within) refl (λ c. vars ! (refl, (refl, (refl, (refl, (refl, tt)))))) (λ _. refl) (λ place last₁ told-place kept₁ place_is.
-      iterates ! 𝓣 {X = Turn head ys n more start} (λ t. n - t.i) (λ t. []) (λ t. (6, vint w64 t.i) ∷ []) (record { i = place; inside = told-place.0; left = told-place.1 }) refl (λ t turn.
+      copies ! refl refl (tt, fit start_is.1) $
+      iterates ! 𝓣 {X = Turn head ys n more start} (λ t. n - t.i) (λ t. []) (λ t. (6, vint w64 t.i) ∷ []) (record { i = start; inside = within.2; left = refl }) refl (λ t turn.
       let i : ℕ = t.i in
       let i-fits : i < 2 ^ 64 = lt_of_le_of_lt t.inside n-is.1 in
       computes ! refl refl tt refl (tt, tt) $
@@ -75,15 +71,12 @@ module _ {M : Type 1} {𝓤 : Ura M} (𝓛 : Logic 𝓤) (mem : Memory → SProp
       (so 𝓤 (overfull_here head ys n more i within.0 less (omega (arith, room, nltb→le (head.clock + (i + more)) w.deadline full)) ∙ t.left)))
       -- i += 1
       (λ held. sets_last ! (bin ! (var ! refl) (lit ! tt) (fit next_fits)) refl (tt, fit next_fits) $
-      turn.continues ! (record { i = i + 1; inside = add-one-le less; left = overfull_next head ys n more i within.0 less (omega (arith, room, ltb→lt (head.clock + (i + more)) w.deadline (not_not ahead held))) ∙ t.left }) (add-one-dec n i less) refl)))))))
+      turn.continues ! (record { i = i + 1; inside = add-one-le less; left = overfull_next head ys n more i within.0 less (omega (arith, room, ltb→lt (head.clock + (i + more)) w.deadline (not_not ahead held))) ∙ t.left }) (add-one-dec n i less) refl))))))
 
 pub overfull-in-all-spec : {M : Type 1} → f.Statement.statement M
 unfolding f.Code.routine
 overfull-in-all-spec 𝓤 𝓛 𝓜 𝓡 =
     proved 𝓛 𝓜 𝓡 (shape 𝓛) (walk 𝓛) f.Code.env f.Key.name (f.Code.unfolded 𝓤 𝓛.H 𝓜 𝓡) (
-      (roomy.Symbol.routine, f.Code.calls-occupancy::open-search::roomy-in-all, roomy.Met.met 𝓤 𝓛 𝓜 𝓡),
-      (
-        (get.Symbol.routine, f.Code.calls-table::waiting::get, get.Met.met 𝓤 𝓛 𝓜 𝓡),
-        ((is-ahead-by.Symbol.routine, f.Code.calls-occupancy::overfull::is-ahead-by, is-ahead-by.Met.met 𝓤 𝓛 𝓜 𝓡), tt),
-      ),
+      (get.Symbol.routine, f.Code.calls-table::waiting::get, get.Met.met 𝓤 𝓛 𝓜 𝓡),
+      ((is-ahead-by.Symbol.routine, f.Code.calls-occupancy::overfull::is-ahead-by, is-ahead-by.Met.met 𝓤 𝓛 𝓜 𝓡), tt),
     )

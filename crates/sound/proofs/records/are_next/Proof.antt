@@ -5,7 +5,7 @@ use Rattle.walk.proofs.Prelude.{shown, lent, taken, so, Shape, Walk, heard, var,
 use Rattle.spec.specs.declared.types.Request.{Request}
 use Rattle.table.proofs.Requests.{RequestT}
 use Rattle.table.proofs.Heads.{a_head, the_head}
-use Rattle.sound.proofs.Turns.{first_some, fewer_bounded, sets_out, turns_on, pass_told}
+use Rattle.sound.proofs.Turns.{fewer_bounded, sets_out, turns_on, pass_told}
 use Rattle.sound.proofs.Tally.{fewer_countable}
 use Rattle.sound.proofs.records.check_fours as fours
 use Rattle.sound.proofs.records.check_rest as rest_of
@@ -44,11 +44,10 @@ module _ {M : Type 1} {𝓤 : Ura M} (𝓛 : Logic 𝓤) (mem : Memory → SProp
       calls_for ! 𝓣 (0 ∷ 1 ∷ []) (passed_on 𝓛 t ∷ mut_of 𝓛 tally tally₀ refl ∷ the_head 𝓛 head head-is ∷ number 𝓛 m m-fits ∷ []) of_flag
       (λ c. known-fours) (λ c h. h) (so 𝓤 (fewer_bounded m within.0 less, omega (arith, within.1), omega arith, fewer_countable tally₀ n m within.2 less)) refl (λ c. vars ! (refl, (refl, (refl, (refl, tt))))) (λ _. refl) (λ p last₁ told₁ kept₁ _.
       let tally₁ : List ℕ = last₁.1.0 in
-      let reached = turns_on (sets_out head ys 0 n n true tally₀ (omega arith) within.2 (λ _. first_some head)) within.0 m m (omega arith) less told₁ in
       -- check_rest(t, tally, head, m, n, p)
       relends ! tally refl $
       calls_for ! 𝓣 (0 ∷ 1 ∷ []) (passed_on 𝓛 t ∷ mut_of 𝓛 tally tally₁ kept₁.1.0 ∷ the_head 𝓛 head head-is ∷ number 𝓛 m m-fits ∷ number 𝓛 n n-is.1 ∷ flag 𝓛 p ∷ []) of_flag
-      (λ c. known-rest) (λ c h. h) (so 𝓤 (within.0, within.1, less, reached.countable, reached.past)) refl (λ c. vars ! (refl, (refl, (refl, (refl, (refl, (refl, tt))))))) (λ _. refl) (λ r last₂ told₂ kept₂ _.
+      (λ c. known-rest) (λ c h. h) (so 𝓤 (within.0, within.1, less, (turns_on (sets_out head ys 0 n n true tally₀ (omega arith) within.2) within.0 m m (omega arith) less told₁).countable)) refl (λ c. vars ! (refl, (refl, (refl, (refl, (refl, (refl, tt))))))) (λ _. refl) (λ r last₂ told₂ kept₂ _.
       gives ! refl refl $ leaves (vbool r) r (last₂.1.0, tt) (kept₂.1.0 ∙ kept₁.1.0, tt) (made 𝓛 of_flag r refl)
       (so 𝓤 (pass_told head ys m n tally₀ tally₁ last₂.1.0 p r within.0 within.1 within.2 less told₁ told₂)))))
 

@@ -14,14 +14,14 @@ use Rattle.sound.proofs.records.check_record.Tie as tie
 
 -- a record that passes has a client that exists
 owned : (c : tie.Else2) → c.before.before.before.before.args.w.client < most_clients
-owned c = omega (arith, next_client _ _ _ (sym c.before.is-next.ensures ∙ not-false _ c.if2.false))
+owned c = omega (arith, next_client _ _ _ _ (sym c.before.is-next.ensures ∙ not-false _ c.if2.false))
 
 returns : tie.Need-returns
 unfolding turn
 returns c = rw (not-true c.before.before.args.ok c.if1.true)
 
 is-next-requires : tie.Need-is-next-requires
-is-next-requires c κs = c.before.before.requires.2 (not-false _ c.if1.false)
+is-next-requires c κs = search rules
 
 returns-2 : tie.Need-returns-2
 unfolding turn

@@ -40,12 +40,12 @@ module _ {M : Type 1} {𝓤 : Ura M} (𝓛 : Logic 𝓤) (mem : Memory → SProp
       let ys : List Request = t.list in
       let tally₀ : List ℕ = tally.list in
       heard ! _ (λ within.
-      -- let mut before = previous(head, t, from);
-      calls_giving ! 𝓣 (0 ∷ []) (the_head 𝓛 head head-is ∷ passed_on 𝓛 t ∷ number 𝓛 start start_is.1 ∷ []) a_request (record_before head ys start) (λ c. known-previous) (λ c h. h) (so 𝓤 (within.0.clock, le_trans within.2 within.1)) refl (λ c. vars ! (refl, (refl, (refl, tt)))) (λ _. refl) (λ _ before_is.
+      -- let mut before = previous(t, from);
+      calls_giving ! 𝓣 (0 ∷ []) (passed_on 𝓛 t ∷ number 𝓛 start start_is.1 ∷ []) a_request (record_before ys start) (λ c. known-previous) (λ c h. h) (so 𝓤 (le_trans within.2 within.1)) refl (λ c. vars ! (refl, (refl, tt))) (λ _. refl) (λ _ before_is.
       copies ! refl refl (tt, tt) $
       copies ! refl refl (tt, fit start_is.1) $
       iterates ! 𝓣 (λ (u : Turn head ys start (ok, tally₀) n). n - u.i) (λ u. (1, ‵ (Lent_at tally u.tally)) ∷ []) (λ u. (7, mach u.before) ∷ (8, vbool u.passed) ∷ (9, vint w64 u.i) ∷ [])
-      (record { i = start; before = record_before head ys start; passed = ok; tally = tally₀; before_is = before_is; size = refl; behind = refl; reached = sets_out head ys start n (n - start) ok tally₀ (omega (arith, within.2)) within.3 within.4 }) refl (λ u turn.
+      (record { i = start; before = record_before ys start; passed = ok; tally = tally₀; before_is = before_is; size = refl; behind = refl; reached = sets_out head ys start n (n - start) ok tally₀ (omega (arith, within.2)) within.3 }) refl (λ u turn.
       let i : ℕ = u.i in
       computes ! refl refl tt refl (tt, tt) $
       computes ! refl refl tt refl (tt, tt) $
@@ -58,11 +58,11 @@ module _ {M : Type 1} {𝓤 : Ura M} (𝓛 : Logic 𝓤) (mem : Memory → SProp
       -- passed = check_record(true, tally, head, i, before, w);
       relends ! tally refl $
       calls_for ! 𝓣 (1 ∷ []) (flag 𝓛 true ∷ mut_of 𝓛 tally u.tally u.size ∷ the_head 𝓛 head head-is ∷ number 𝓛 i (lt_trans on.0 n-is.1) ∷ request 𝓛 u.before u.before_is ∷ request 𝓛 w is ∷ []) of_flag
-      (λ c. Known-step) (λ c h. h) (so 𝓤 (may_step on.1 within.0 u.behind on.0)) refl (λ c. and_then ! (true_lit !) (vars ! (refl, (refl, (refl, (refl, (refl, tt))))))) (λ _. refl) (λ r last told kept _.
+      (λ c. Known-step) (λ c h. h) (so 𝓤 (may_step on.1 within.0 on.0)) refl (λ c. and_then ! (true_lit !) (vars ! (refl, (refl, (refl, (refl, (refl, tt))))))) (λ _. refl) (λ r last told kept _.
       copies ! refl refl ((lawful 𝓛).typed w _ is).0 $
       -- i += 1
       adds_last ! (lt_of_le_of_lt (add-one-le on.0) n-is.1) tt refl refl refl $
-      turn.continues ! (record { i = i + 1; before = w; passed = r; tally = last.1.0; before_is = is; size = kept.0 ∙ u.size; behind = comes_next head ys i (i + 1) refl; reached = steps_on on.1 within.0 u.behind on.0 (i + 1) refl told }) (add-one-dec n i on.0) refl)))
+      turn.continues ! (record { i = i + 1; before = w; passed = r; tally = last.1.0; before_is = is; size = kept.0 ∙ u.size; behind = comes_next ys i (i + 1) refl; reached = steps_on on.1 within.0 u.behind on.0 (i + 1) refl told }) (add-one-dec n i on.0) refl)))
       (λ over. turn.breaks ! $
       -- let near = is_near(head, before.deadline);
       calls_giving ! 𝓣 [] (the_head 𝓛 head head-is ∷ number 𝓛 u.before.deadline (deadline_fits u.before u.before_is) ∷ []) of_flag (is_near head u.before.deadline) (λ c. known-near) (λ c h. h) (so 𝓤 within.0.clock) refl
