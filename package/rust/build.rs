@@ -1,5 +1,5 @@
 // Links the archive of the proved calls: the file that WELSBELL_ARCHIVE names, or libwelsbell.a in this crate's folder, as a package
-// has it, or the one that `rt staticlib welsbell` writes in the repository. What it holds goes to cargo's folder, so that the file may
+// has it, or the one that `package/build` writes in the repository. What it holds goes to cargo's folder, so that the file may
 // have any name.
 use std::env::var_os;
 use std::fs::{read, write};
@@ -33,7 +33,7 @@ fn missing(archive: &Path, reason: &str) -> ! {
         archive.display()
     );
     eprintln!("A package of Welsbell has it as lib/libwelsbell.a, and again as libwelsbell.a in the folder of this crate.");
-    eprintln!("In the repository `rt staticlib welsbell` writes it to target/staticlib/libwelsbell.a.");
+    eprintln!("In the repository `package/build` writes it to target/staticlib/libwelsbell.a.");
     eprintln!("Where it stands elsewhere, set {VARIABLE} to its absolute path.");
     exit(1)
 }

@@ -42,7 +42,7 @@ pub fn find() -> Result<PathBuf, Failure> {
 
 /// What happened, and what to do.
 fn missing(what: &str) -> Failure {
-    Failure::Failed(format!("{what}: `rt check session_main` builds it, or {VARIABLE} names it"))
+    Failure::Failed(format!("{what}: `package/build` builds it, or {VARIABLE} names it"))
 }
 
 impl Program {

@@ -18,7 +18,7 @@ use table::clients::Count;
 use table::{clients, waiting};
 
 // What a submit does to the waiting table.
-#[derive(Drop)]
+#[derive(Clone, Copy)]
 pub enum Decision {
     Refuse { number: u64 },
     // The new record goes in at `place`.
@@ -29,7 +29,7 @@ pub enum Decision {
 
 // What became of the new record: which one went out for it, itself where none did, and how many waiting records stood behind it when
 // it was put in.
-#[derive(Drop)]
+#[derive(Clone, Copy)]
 pub struct Insertion {
     pub gone: Request,
     pub shift: usize,
@@ -130,7 +130,7 @@ fn place_without(place: usize, other: usize) -> usize
 
 // A drop as it is done to the waiting table: the record at `out` goes and the new one goes in at `at`, as they stand without each other.
 // `shift` is how many of the waiting records stood behind the new one while all were there.
-#[derive(Drop)]
+#[derive(Clone, Copy)]
 pub struct Exchange {
     pub out: usize,
     pub at: usize,

@@ -171,7 +171,7 @@ pub fn put_answer(out: &mut [u8], at: usize, answer: Answer) -> usize
 }
 
 // Where the segments' lines end, and how many they are.
-#[derive(Drop)]
+#[derive(Clone, Copy)]
 struct Drawn {
     end: usize,
     count: u64,

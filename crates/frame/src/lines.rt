@@ -3,7 +3,7 @@ ghost use Rattle.std.specs.Prelude.{◌≡◌};
 ghost use Rattle.frame.specs.Lines.{Behind, part, line_at};
 
 // "The frame reader holds the lent buffer and how far it has read"
-#[derive(Drop)]
+#[derive(Clone, Copy)]
 pub struct Reader<'a> {
     pub buffer: &'a [u8],
     pub at: usize,

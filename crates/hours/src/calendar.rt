@@ -100,7 +100,7 @@ pub fn open_before_by(setup: Setup, counts: &[u8], slot: u64) -> u64
 
 // What the open slots before every deadline are not below: a deadline more than n slots behind the floor has more than n open slots
 // before it, as long as n is less than the reach. Two sums tell so, where the open slots themselves take a division.
-#[derive(Drop)]
+#[derive(Clone, Copy)]
 pub struct Line {
     pub floor: u64,
     pub reach: u64,
@@ -127,7 +127,7 @@ pub fn line_by(setup: Setup, counts: &[u8], slot: u64) -> Line
 }
 
 // An hour: its number in the week, and its first slot.
-#[derive(Drop)]
+#[derive(Clone, Copy)]
 pub struct Hour {
     pub number: u64,
     pub start: u64,
@@ -185,7 +185,7 @@ pub fn earlier(a: u64, b: u64) -> u64
 }
 
 // Slots that are all open, from the first one of an hour to end - 1.
-#[derive(Drop)]
+#[derive(Clone, Copy)]
 pub struct Stretch {
     pub hour: Hour,
     pub end: u64,

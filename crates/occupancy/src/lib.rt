@@ -1,4 +1,6 @@
 // Document 01, "Chart and victim": start slots and segments; the room in slots, overfull deadlines, and the victim.
+#![tactic(auto)]
+
 pub mod open_search;
 pub mod overfull;
 pub mod segments;

@@ -41,7 +41,7 @@ fn is_full(setup: Setup, counts: &[u8], taken: u64, deadline: u64) -> bool
 }
 
 // A look at four deadlines: the line to hold for the next four, and whether one of these is full.
-#[derive(Drop)]
+#[derive(Clone, Copy)]
 struct Seen {
     line: Line,
     full: bool,

@@ -148,7 +148,7 @@ pub fn note_last_of_each(t: &[Request], latest: &mut [u16], from: usize, to: usi
 }
 
 // A client's last candidate: its place and 1, or 0 where it has none. Beside it the client's counts.
-#[derive(Drop)]
+#[derive(Clone, Copy)]
 struct LastCandidate {
     at: u16,
     counts: Counts,

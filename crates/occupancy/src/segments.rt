@@ -8,7 +8,7 @@ use hours::calendar;
 use spec::types::Setup;
 
 // A segment's two ends, and the index of the first start slot behind it.
-#[derive(Drop)]
+#[derive(Clone, Copy)]
 pub struct Run {
     pub left: u64,
     pub right: u64,

@@ -13,7 +13,7 @@ use table::waiting;
 const LAST: u64 = 18446744073709551615;
 
 // Where the chart stands: the start slot of the record behind, and the open slots among which it lies.
-#[derive(Drop)]
+#[derive(Clone, Copy)]
 struct Reached {
     next: u64,
     open: Stretch,

@@ -1,5 +1,7 @@
 // The recorder's read queue: its calls, over the head, by value, and lent tables. Nothing is asked of the caller: where tables
 // or arguments are not as they should be the call is refused by its number, and head, tables and output stay as they were.
+#![tactic(auto)]
+
 mod submission;
 
 ghost use Rattle.std.specs.Prelude.{◌≡◌};

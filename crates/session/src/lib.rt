@@ -1,4 +1,6 @@
 // The session over lent tables: `feed` answers the lines of a part of the input, `turns::finish` what is owed at its end.
+#![tactic(auto)]
+
 pub mod turns;
 pub mod types;
 

@@ -3,7 +3,7 @@ use spec::types::{Frame, Head};
 
 // Where a session stands between two lines. Of the tables that it is lent, the first `records` waiting records and as many client
 // records as the head has clients are in use.
-#[derive(Drop)]
+#[derive(Clone, Copy)]
 pub struct Session {
     pub head: Head,
     pub records: u64,
@@ -12,7 +12,7 @@ pub struct Session {
 }
 
 // Where the session stands after a part of the input, how much of that is used, and how much of the output is written.
-#[derive(Drop)]
+#[derive(Clone, Copy)]
 pub struct Fed {
     pub session: Session,
     pub used: usize,
@@ -24,7 +24,7 @@ pub struct Fed {
 }
 
 // What stands next in the input.
-#[derive(Drop)]
+#[derive(Clone, Copy)]
 pub struct NextLine {
     // No line can be answered.
     pub ends: bool,
@@ -37,7 +37,7 @@ pub struct NextLine {
 }
 
 // How much of the tables is lent to a call: waiting records, and numbers of client records.
-#[derive(Drop)]
+#[derive(Clone, Copy)]
 pub struct Share {
     pub records: usize,
     pub numbers: usize,

@@ -1,4 +1,2 @@
 pub mod Loop
 pub mod ReadAnswers
-pub mod LoopTurn
-pub mod Values

@@ -1,5 +1,5 @@
 -- Laws of what a read answers: a number of characters, or less than 0. Assumes nothing.
-use Prim.Native.Nat.{ℕ, ◌-◌, ◌≤◌, ◌<◌, ◌^◌}
+use Prim.Native.Nat.{ℕ, ◌≤◌, ◌<◌, ◌^◌}
 use mathlib.Core.Bool.{true, false, false≢true}
 use mathlib.Core.Path.{◌≡◌, refl}
 use native.Mathlib.Omega.{arith}
@@ -7,8 +7,7 @@ use borrow.Author.Tests.{ltb-false, le-ltb}
 use lib.Dec.{T}
 use lib.IntN.{ℤ, pos, negsuc, nat_abs}
 use lib.Signed.{mag, lt_z, non_neg}
-use Rattle.libc.specs.Io.{Moved}
-use Rattle.session_main.specs.Program.{buffer_length, amount_of, is_negative}
+use Rattle.session_main.specs.Program.{buffer_length, amount_of, is_negative, Moved}
 
 pub above_zero : (z : ℤ) → lt_z (pos 0) z ≡ true → T (non_neg z) × (nat_abs z ≡ mag z) × (nat_abs z ≡ amount_of z)
 above_zero (pos n) e = (tt, refl, refl)

@@ -11,7 +11,6 @@
 -- is said, or none.
 -- Assumes nothing.
 use Rattle.std.specs.Prelude.{ℕ, ◌+◌, ◌-◌, ◌≤◌, ◌<◌, Bool, true, false, not, cond, ◌&&◌, List, [], ◌∷◌, ◌++◌, ◌≡◌, eqb, ℤ, pos, negsuc, length, take, drop}
-use Rattle.libc.specs.Io.{Moved}
 use Rattle.session.specs.declared.types.Fed.{Fed}
 use Rattle.spec.specs.Lines.Session.{session as session_of}
 use Rattle.table.specs.Widths.{largest64}
@@ -43,6 +42,11 @@ is_negative (negsuc n) = true
 
 abbrev pub is_failed : Got → Bool
 is_failed got = is_negative got.answer
+
+-- what a read that is handed n characters of room may answer: -1, or how many it moved, at most n
+abbrev pub Moved : ℕ → ℤ → Type 0
+Moved n (pos k) = k ≤ n
+Moved n (negsuc k) = k ≡ 0
 
 -- a read changes only what stands behind the first `have` characters, and delivers no more than there is room for
 abbrev pub ReadBehind : ℕ → List ℕ → List ℕ → Got → Type 0

@@ -7,10 +7,11 @@ use crate::system;
 use crate::system::{Got, Receipt};
 use session::turns;
 use session::types::{Fed, Session};
+use std::io::{Stderr, Stdin, Stdout};
 
 // Where the program stands. A loop that reads to the end of the input needs a number that falls, since nothing says that the input
 // ends: `turns`, which starts at the largest; 0 ends the program.
-#[derive(Drop)]
+#[derive(Clone, Copy)]
 pub struct Progress {
     pub session: Session,
     // So many characters at the front of the buffer are still to be fed.
@@ -65,14 +66,14 @@ fn after_read(progress: Progress, got: Got) -> Progress
 }
 
 // Reads more of the input behind what is still to be fed, unless lines are left.
-pub(crate) fn read_on(progress: Progress, buffer: &mut [u8]) -> Progress
+pub(crate) fn read_on(input: Stdin, progress: Progress, buffer: &mut [u8]) -> Progress
     requires { (length buffer.old ≡ buffer_length) × CanRead progress.full progress }
     ensures { ReadsOn progress.full progress buffer.old buffer.new result }
 {
     if progress.full {
         return progress;
     }
-    let got = system::read_behind(buffer, progress.have);
+    let got = system::read_behind(input, buffer, progress.have);
     after_read(progress, got)
 }
 
@@ -146,7 +147,13 @@ fn move_to_front(buffer: &mut [u8], from: usize, n: usize)
 }
 
 // When the front of the buffer is fed: what was not used of it goes to the front, and the answers are written.
-pub(crate) fn go_on(progress: Progress, fed: Fed, buffer: &mut [u8], out: &mut [u8]) -> Progress
+pub(crate) fn go_on(
+    output: Stdout,
+    progress: Progress,
+    fed: Fed,
+    buffer: &mut [u8],
+    out: &mut [u8],
+) -> Progress
     requires { (0 < progress.turns) × (length buffer.old ≡ buffer_length) × (progress.have ≤ buffer_length) × (fed.used ≤ progress.have)
         × (most_bytes ≤ length out.old) × (fed.put ≤ length out.old) }
     ensures { GoesOn progress fed buffer.old out.old buffer.new out.new result }
@@ -154,20 +161,26 @@ pub(crate) fn go_on(progress: Progress, fed: Fed, buffer: &mut [u8], out: &mut [
     let n = put_next(progress, fed, out);
     let next = after_feed(progress, fed, n);
     move_to_front(buffer, fed.used, next.have);
-    let receipt = system::write_front(out, next.put);
+    let receipt = system::write_front(output, out, next.put);
     after_write(next, receipt)
 }
 
 // Says what kept the program from the end of the input, and hands back whether there was something to say.
-pub(crate) fn say_why(progress: Progress) -> bool
+pub(crate) fn say_why(errors: Stderr, progress: Progress) -> bool
     ensures { result ≡ progress.unwritten || progress.unreadable }
 {
     if progress.unwritten {
-        system::say(b"session_main: the answers could not be written, the session is over\n");
+        system::say(
+            errors,
+            b"session_main: the answers could not be written, the session is over\n",
+        );
         return true;
     }
     if progress.unreadable {
-        system::say(b"session_main: the input could not be read, the session is over\n");
+        system::say(
+            errors,
+            b"session_main: the input could not be read, the session is over\n",
+        );
         return true;
     }
     false

@@ -87,6 +87,7 @@ verdict_end false left whole e h = h
 -- where none is gone on with although b holds, none is left
 pub stops : (more b : Bool) → more && b ≡ false → T b → more ≡ false
 stops more true e h = sym (and-true more) ∙ e
+stops more false e h = elim h [ ]
 
 module _ {A : Type 0} (b : Bool) (x : A) (xs l : List A) (whole : Bool) (e : l ≡ x ∷ xs) where
   pub every_turn : (test : A → Bool) → b && every test l ≡ whole → (b && test x) && every test xs ≡ whole

@@ -3,7 +3,7 @@
 
 // "A record has a deadline, a request number and a client." Laid out as C does, for programs in other languages.
 #[repr(C)]
-#[derive(Drop)]
+#[derive(Clone, Copy)]
 pub struct Request {
     pub deadline: u64,
     pub number: u64,
@@ -11,7 +11,7 @@ pub struct Request {
 }
 
 // "The client table has one record a client: submitted, served, dropped"
-#[derive(Drop)]
+#[derive(Clone, Copy)]
 pub struct Counts {
     pub submitted: u32,
     pub served: u32,
@@ -21,7 +21,7 @@ pub struct Counts {
 // "Open takes clients and period", and document 02, 2.2: "Open takes slots per hour and 168 open-or-closed marks": what open sets and no
 // other call changes. `hour` is the slots per hour. The marks are 168 bits, "first hour in the highest bit, 1 meaning open", in four
 // numbers, each named by its first hour, so that there is no bit of which no paper speaks.
-#[derive(Drop)]
+#[derive(Clone, Copy)]
 pub struct Setup {
     pub clients: u64,
     pub period: u64,
@@ -44,7 +44,7 @@ pub const ZERO_SETUP: Setup = Setup {
 };
 
 // "The head, passed and handed back: clients, period, clock, last request number, waiting count.", and what document 02 adds to a setup.
-#[derive(Drop)]
+#[derive(Clone, Copy)]
 pub struct Head {
     pub setup: Setup,
     pub clock: u64,
@@ -53,7 +53,7 @@ pub struct Head {
 }
 
 // What a call answers. `reading` in specs/Calls/Readings.antt gives the paper's number and values of each case.
-#[derive(Drop)]
+#[derive(Clone, Copy)]
 pub enum Answer {
     Opened,
     Kept {
@@ -94,14 +94,14 @@ pub enum Answer {
 }
 
 // What a call hands back: the head after it, and beside it the answer.
-#[derive(Drop)]
+#[derive(Clone, Copy)]
 pub struct Reply {
     pub head: Head,
     pub answer: Answer,
 }
 
 // A session line, document 01, "Session lines"; `Bad` is a line that is no frame.
-#[derive(Drop)]
+#[derive(Clone, Copy)]
 pub enum Frame {
     Open { setup: Setup, records: u64 },
     Submit { client: u64, deadline: u64 },

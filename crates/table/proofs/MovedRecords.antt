@@ -5,14 +5,16 @@ use Prim.Native.Nat.{ℕ, zero, suc, ◌+◌, ◌-◌, ◌≤◌, ◌<◌, ◌^�
 use mathlib.Core.Path.{◌≡◌, refl, sym, ap, ◌∙◌}
 use mathlib.Core.Bool.{Bool, true, false, cond, not, ◌&&◌, true≢false}
 use mathlib.Core.Logic.{◌≢◌}
-use mathlib.Core.List.{List, [], ◌∷◌, ◌++◌, map}
+use mathlib.Core.List.{List, [], ◌∷◌, ◌++◌, map, append-nil}
 use native.Mathlib.Nat.{zero-add, add-zero, suc-add, le_of_lt}
 use native.Mathlib.Numerals.{add-one}
 use native.Mathlib.Omega.{arith}
 use borrow.Author.Tests.{lt-ltb, le-ltb, le-leb, lt-leb}
+use borrow.Rule.Slice.PartMut.{put_mid}
 use lib.Dec.{T, ltb, leb, eqb, ltb→lt, nltb→le, leb→le, nleb→lt, eqb→eq, eqb_refl, T_not}
-use lib.ListN.{length, get_or, set, take, drop, length-set, get_or-map, length-map, length-drop, take-append-drop}
+use lib.ListN.{length, get_or, set, take, drop, length-set, get_or-map, length-map, length-drop, take-append-drop, drop_of_length-le}
 use lib.Seq.{get_or-take, paste-suc, length-paste, take_all, length-take-le, take-append_seam, drop-append_seam}
+use Rattle.std.proofs.lemmas.List.{take_rest}
 use Rattle.spec.specs.declared.types.Request.{Request}
 use Rattle.spec.specs.Tables.{zero_request}
 use Rattle.spec.specs.Order.{insert_at, remove_at}
@@ -159,6 +161,14 @@ module _ (a i : ℕ) (ys : List Request) (h : a ≤ i) (k : i < length ys) where
           → Slid (cond b i a) (cond b a i) ys (take a ys ++ zs)
       go true t = rw (far, add-zero) at t
       go false t = rw (far, add-zero) at t
+
+  -- the same where the part was lent to its end, and then put back
+  pub moved_part : (up : Bool) (zs : List Request)
+      → Slid (cond up (i - a) 0) (cond up 0 (i - a)) (take (length ys - a) (drop a ys)) zs
+      → Slid (cond up i a) (cond up a i) ys (put_mid a (length ys - a) ys zs)
+  moved_part up zs s =
+      rw (drop_of_length-le (drop a ys) {i = length ys - a} (omega (arith, length-drop a ys)), append-nil zs)
+      (moved up zs (rw (take_rest ys a) at s))
 
 -- ---- one put in for another
 

@@ -86,7 +86,7 @@ fn saturating_next(n: u32) -> u32
 }
 
 // One of a client's counts.
-#[derive(Drop)]
+#[derive(Clone, Copy)]
 pub enum Count {
     Submitted,
     Served,

@@ -1,1 +1,2 @@
 // The kit for proofs by hand is in proofs/; there is no code.
+#![tactic(auto)]

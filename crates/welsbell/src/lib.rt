@@ -2,6 +2,8 @@
 // order of their fields, and beside them stand the marks of the hours as 21 bytes, first hour in the highest bit. The result is the
 // answer's kind; its values go over the front of an array, and what stands behind them stays.
 // Nothing is asked of the caller but pointers that are good for what is behind them, none lent twice.
+#![tactic(auto)]
+
 mod numbers;
 
 ghost use Rattle.std.specs.Prelude.{◌≡◌};

@@ -102,7 +102,7 @@ pub(crate) fn write_marks(hours: &mut [u8; MARK_BYTES], marks: &[u8; MARK_BYTES]
 }
 
 // An answer as numbers: its kind, and its values, which are the first `count` of `numbers`.
-#[derive(Drop)]
+#[derive(Clone, Copy)]
 struct Values {
     kind: u64,
     numbers: [u64; MOST_VALUES],

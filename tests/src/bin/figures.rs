@@ -38,7 +38,7 @@ fn crates() -> Vec<String> {
 fn proved(count: &str) -> u64 {
     let verdict = |name: &String| {
         let log = text_of(&format!("target/log/{name}.say"));
-        let line = log.lines().find(|line| line.starts_with("logic=proved ")).map(str::to_string);
+        let line = log.lines().rev().find(|line| line.starts_with("logic=proved ")).map(str::to_string);
         line.unwrap_or_else(|| fail(format!("{name} is not proved")))
     };
     let count_in = |line: &str| -> u64 {

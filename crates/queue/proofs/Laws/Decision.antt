@@ -1,13 +1,13 @@
 -- What a submit decides, refused or not, and what it is told to decide it. Assumes nothing.
 use Prim.Native.Nat.{ℕ, ◌<◌}
-use mathlib.Core.Path.{◌≡◌, refl, sym}
+use mathlib.Core.Path.{◌≡◌}
 use mathlib.Core.Logic.{◌≢◌}
 use mathlib.Core.Bool.{Bool, true, false, cond}
 use mathlib.Core.List.{List, ◌∷◌}
 use native.Mathlib.Omega.{arith}
 use borrow.Author.Tests.{eq-eqb, ne_eqb}
 use lib.Dec.{eqb}
-use lib.ListN.{length, get_or, take, drop, replicate}
+use lib.ListN.{get_or, take, drop, replicate}
 use Rattle.slots.proofs.Laws.Tests.{Same, same_yes, same_no, same}
 use Rattle.spec.specs.declared.types.Head.{Head}
 use Rattle.spec.specs.Tables.{most_clients, zero_counts, State, waiting, deadlines_of, clients_of, client_table}

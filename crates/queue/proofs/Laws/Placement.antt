@@ -5,11 +5,11 @@ use mathlib.Core.Logic.{◌≢◌}
 use mathlib.Core.List.{List, [], ◌∷◌, ◌++◌}
 use native.Mathlib.Omega.{arith}
 use borrow.Author.Tests.{lt-ltb, le-ltb, le-leb}
-use lib.ListN.{length, get_or, take, drop, replicate, length-take, length-drop, get_or-append}
+use lib.ListN.{length, get_or, take, drop, replicate, length-take, get_or-append}
 use lib.Seq.{get_or-take}
 use Rattle.slots.proofs.Laws.Tests.{Order, le, gt, order}
 use Rattle.spec.specs.declared.types.Request.{Request}
-use Rattle.spec.specs.Tables.{zero_request, State, waiting, behind, holding, next_state}
+use Rattle.spec.specs.Tables.{zero_request, State, waiting, holding, next_state}
 use Rattle.spec.specs.Setup.{first_match}
 use Rattle.spec.specs.Order.{place_of, insert_at, put_in_order, remove_at}
 use Rattle.spec.specs.Calls.Outcomes.{Outcome}
@@ -17,11 +17,11 @@ use Rattle.spec.specs.Calls.Submit.{submit_refusals, new_request, new_shift, kep
 use Rattle.spec.specs.Calls.{outcome_of, submit}
 use Rattle.spec.proofs.Laws.Every.{length_insert, length_remove, remove_insert, get_d_insert}
 use Rattle.spec.proofs.Laws.Order.{place_most, length_put}
-use Rattle.spec.proofs.Laws.Accepted.{Ready, SubmitReady, submit_ready, tick_ready, waiting_length, table_held}
+use Rattle.spec.proofs.Laws.Accepted.{SubmitReady, submit_ready, waiting_length, table_held}
 use Rattle.spec.proofs.Calls.Victim.{victim_place_lem}
 use Rattle.spec.proofs.Calls.Fair.{new_place_and_shift}
 use Rattle.table.specs.Widths.{largest64}
-use Rattle.table.specs.Records.{replaced, taken_out, shift_at, inserted, removed, removed_out}
+use Rattle.table.specs.Records.{replaced, taken_out, shift_at, inserted}
 use Rattle.table.proofs.MovedRecords.{are_in_lem, first_out, second_out, insert_front, remove_front}
 use Rattle.decide.specs.declared.submit.Decision.{Decision}
 use Rattle.decide.specs.declared.submit.Decision.TheVariants.{Refuse, Keep, Drop}
@@ -205,8 +205,8 @@ module _ (client deadline : ℕ) (s : State) (ready : SubmitReady client deadlin
 -- what an accepted submit's answer says of its insertion: the shift, and the victim where there is one
 abbrev pub InsertionFor : ℕ → ℕ → State → Decision → Insertion → Type 0
 InsertionFor client deadline s (Refuse number) p = Unit {0}
-InsertionFor client deadline s (Keep place) p = p.shift ≡ new_shift client deadline s
-InsertionFor client deadline s (Drop place victim) p =
+InsertionFor client deadline s (Keep _) p = p.shift ≡ new_shift client deadline s
+InsertionFor client deadline s (Drop _ victim) p =
     (p.gone ≡ request_at victim client deadline s) × (p.shift ≡ new_shift client deadline s)
 
 -- ---- the number of an accepted submit's record fits

@@ -1,33 +1,26 @@
 -- What the parts of a submit come to together. Assumes nothing.
 use Prim.Native.Nat.{ℕ, suc, ◌<◌}
 use mathlib.Core.Path.{◌≡◌, refl, sym, ap, subst, ◌∙◌}
-use mathlib.Core.Bool.{Bool, true, false, cond}
 use mathlib.Core.List.{List}
 use native.Mathlib.Omega.{arith}
-use lib.Dec.{eqb}
-use lib.ListN.{length, get_or}
+use lib.ListN.{length}
 use Rattle.spec.specs.declared.types.Head.{Head}
 use Rattle.spec.specs.declared.types.Request.{Request}
-use Rattle.spec.specs.declared.types.Counts.{Counts}
-use Rattle.spec.specs.declared.types.Answer.TheVariants.{Charted, Refused}
-use Rattle.spec.specs.Tables.{zero_request, zero_counts, numbers_of, State, client_table, waiting, next_state, state_of}
+use Rattle.spec.specs.Tables.{zero_request, numbers_of, State, client_table, waiting, next_state, state_of}
 use Rattle.spec.specs.Setup.{first_match}
 use Rattle.spec.specs.Order.{place_of, remove_at}
-use Rattle.spec.specs.Sound.{waiting_of}
-use Rattle.spec.specs.Calls.Outcomes.{Outcome, refusing}
+use Rattle.spec.specs.Calls.Outcomes.{Outcome}
 use Rattle.spec.specs.Calls.Submit.{submit_refusals, new_request, new_shift, counted_in, with_new, kept, dropped_at, victim_place, request_at}
-use Rattle.spec.specs.Calls.Report.{report_refusals, report_accepted}
-use Rattle.spec.specs.Calls.Chart.{chart_refusals, chart_accepted}
-use Rattle.spec.specs.Calls.{chart, outcome_of, report, submit}
+use Rattle.spec.specs.Calls.{outcome_of, submit}
 use Rattle.spec.proofs.Laws.Every.{length_remove, all_at}
 use Rattle.spec.proofs.Laws.Order.{length_put}
 use Rattle.spec.proofs.Laws.Sound.{ClientExists}
-use Rattle.spec.proofs.Laws.Accepted.{SubmitReady, submit_ready, report_ready, waiting_length}
+use Rattle.spec.proofs.Laws.Accepted.{SubmitReady, submit_ready, waiting_length}
 use Rattle.spec.proofs.Calls.Victim.{victim_place_lem}
 use Rattle.spec.proofs.Calls.Keeps.{Tidy, tidy, tidy_put}
 use Rattle.table.specs.declared.clients.Count.TheVariants as count
 use Rattle.table.specs.Widths.{largest64, saturating_next}
-use Rattle.table.specs.Clients.{changed_at, one_more_unless_full, waiting_count}
+use Rattle.table.specs.Clients.{changed_at, one_more_unless_full}
 use Rattle.table.proofs.ChangedCounts.{more_numbers}
 use Rattle.decide.specs.declared.submit.Decision.{Decision}
 use Rattle.decide.specs.declared.submit.Insertion.{Insertion}

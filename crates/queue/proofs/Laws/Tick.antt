@@ -8,7 +8,6 @@ use borrow.Author.Tests.{lt-ltb, le-leb, eq-eqb, ne_eqb}
 use lib.Dec.{eqb}
 use lib.ListN.{length, get_or, replicate, length-drop, length-map, get_or-map}
 use lib.Seq.{get_or-take, ext_get_or}
-use Rattle.slots.proofs.Laws.Tests.{Same, same_yes, same_no, same}
 use Rattle.spec.specs.declared.types.Head.{Head}
 use Rattle.spec.specs.declared.types.Request.{Request}
 use Rattle.spec.specs.declared.types.Counts.{Counts}

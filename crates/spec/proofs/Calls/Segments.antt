@@ -1,7 +1,7 @@
 -- The segments of a chart are the longest runs of touching intervals: document 01, "Chart and victim", and document 02, 2.2. Assumes
 -- nothing.
-use Prim.Native.Nat.{ℕ, zero, suc, ◌+◌, ◌-◌, ◌≤◌, ◌<◌, min}
-use mathlib.Core.Path.{◌≡◌, refl, sym, ap, ◌∙◌}
+use Prim.Native.Nat.{ℕ, zero, suc, ◌-◌, ◌≤◌, ◌<◌, min}
+use mathlib.Core.Path.{◌≡◌, refl, sym, ap, ◌∙◌, subst}
 use mathlib.Core.Bool.{Bool, true, false, cond}
 use mathlib.Core.List.{List, [], ◌∷◌, ◌++◌, map}
 use mathlib.Core.Logic.{◌↔◌}
@@ -169,7 +169,7 @@ module _ (setup : Setup) where
       → suc (last_or s run) ≡ right → Apart setup (record { left = s; right = right } ∷ gs) → segments_of setup starts ≡ gs
       → segments_of setup (s ∷ run ++ starts) ≡ record { left = s; right = right } ∷ gs
   unfolding segments_of
-  run_joined s [] right starts gs n e a h = rw (← e, h) (join_far s gs (rw (← e) at a))
+  run_joined s [] right starts gs n e a h = rw (← e, h) (join_far s gs (subst (λ (r : ℕ). Apart setup (record { left = s; right = r } ∷ gs)) (sym e) a))
   run_joined s (x ∷ run) right starts gs n e a h =
       ap (join_left setup s) (run_joined x run right starts gs n.1 e (apart_left x (record { left = s; right = right }) gs a) h)
       ∙ rw (eq-eqb (room setup (suc s) x) 0 n.0)

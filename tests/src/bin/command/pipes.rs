@@ -190,7 +190,7 @@ fn hold_programs(welsbell: &Welsbell, checks: &mut Checks) {
         ended(command.arg(arguments).args((arguments != "run").then_some("-")).env_remove(VARIABLE), WORDS)
     };
     let run_with = |program: &str| ended(welsbell.command("read -").env(VARIABLE, program), WORDS);
-    let to_do = "`rt check session_main` builds it";
+    let to_do = "`package/build` builds it";
     let mut hold = |what: &str, ended: Result<Ended, String>, code: i32, out: &[&str], err: &[&str]| {
         checks.hold(what, ended.and_then(|ended| ended.hold(code, out, err)));
     };
