@@ -3,4 +3,3 @@ pub mod TurnWalk
 pub mod Laws
 pub mod Parts
 pub mod TurnsTogether
-pub mod Values

@@ -1,4 +1,4 @@
--- One turn in the terms of its walk: each part is told by an equation, and the tables come back with the lent parts in front.
+-- One turn in the terms of its code: each part is told by an equation, and the tables come back with the lent parts in front.
 -- Assumes nothing.
 use Prim.Native.Nat.{ℕ, ◌+◌, ◌≤◌, ◌*◌}
 use mathlib.Core.Bool.{Bool, true, false, not}

@@ -3,7 +3,7 @@
 use Prim.Native.Nat.{ℕ, zero, suc, ◌+◌, ◌-◌, ◌≤◌, ◌<◌, ◌*◌}
 use mathlib.Core.Bool.{Bool, true, false, false≢true, not, cond, ◌&&◌, ◌||◌}
 use mathlib.Core.List.{List, [], ◌++◌, append-nil}
-use mathlib.Core.Path.{◌≡◌, refl, sym, ◌∙◌, subst, subst₂}
+use mathlib.Core.Path.{◌≡◌, refl, sym, ap, ◌∙◌, subst, subst₂}
 use native.Mathlib.Omega.{arith}
 use borrow.Author.Tests.{ltb-true, ltb-false, leb-true, lt-ltb, le-ltb, le-leb, eqb-true}
 use lib.Dec.{ltb, leb, eqb}
@@ -11,12 +11,13 @@ use lib.ListN.{length, drop, length-append, length-take, length-drop}
 use Rattle.spec.specs.declared.types.Answer.{Answer}
 use Rattle.spec.specs.declared.types.Answer.TheVariants.{Refused}
 use Rattle.spec.specs.declared.types.Frame.{Frame}
-use Rattle.spec.specs.declared.types.Frame.TheVariants.{Bad}
+use Rattle.spec.specs.declared.types.Frame.TheVariants.{Open, Bad}
+use Rattle.spec.specs.declared.types.Setup.{Setup}
 use Rattle.spec.specs.Tables.{most_records, most_clients, client_width}
-use Rattle.spec.specs.Lines.Frames.{frame_of, answer_line, longest_frame}
+use Rattle.spec.specs.Lines.Frames.{frame_of, answer_line, longest_frame, Task, task}
 use Rattle.spec.specs.Lines.Session.{text_of}
 use Rattle.spec.proofs.Laws.Every.{or_none, same_test}
-use Rattle.spec.proofs.Calls.CallKinds.{NotOpen, not_open}
+use Rattle.spec.proofs.Calls.CallKinds.{Asks, asks_open, asks_chart, asks_nothing, asks_call, asks, NotOpen, not_open}
 use Rattle.frame.specs.Lines.{NoFeed, FirstFeed, slice}
 use Rattle.frame.specs.LineLengths.{most_bytes}
 use Rattle.frame.proofs.FrameKinds.{frame_length}
@@ -153,20 +154,39 @@ line_within input used line behind h =
 -- ---- what stands next, by what its turn says
 pub next_as : (line : List ℕ) (behind : ℕ) (fed : Fed) (can : Bool) (turn : NextLine) (ends full : Bool) → turn.ends ≡ ends → turn.full ≡ full
     → NextIf ends full line behind fed can turn → Next line behind fed can turn
-next_as line behind fed can turn ends full e f = subst₂ (λ (x y : Bool). NextIf x y line behind fed can turn) (sym e) (sym f)
+next_as line behind fed can turn b b₁ e f = subst₂ (λ (x y : Bool). NextIf x y line behind fed can turn) (sym e) (sym f)
 
 -- ---- frames that open no session
-module _ (f : Frame) (others : NotOpen f) where
+-- one names no lengths
+pub no_open : (f : Frame) → ((setup : Setup) (records : ℕ) → f ≡ Open setup records → ⊥) → (task f).named ≡ []
+no_open f = by_case (asks f)
+  where
+    by_case : {f : Frame} → Asks f → ((setup : Setup) (records : ℕ) → f ≡ Open setup records → ⊥) → (task f).named ≡ []
+    by_case (asks_open setup records) other = absurd (other setup records refl)
+    by_case asks_chart other = refl
+    by_case asks_nothing other = refl
+    by_case (asks_call frame c e no-open none) other = ap (λ (t : Task). t.named) e
+
+module _ (f : Frame) (none : (task f).named ≡ []) where
   -- it is lent what is in use
-  pub share_other : (s : Session)
+  pub share_in_use : (s : Session)
       → (records_for f s ≡ up_to most_records s.records) × (numbers_for f s ≡ client_width * up_to most_clients s.head.setup.clients)
   unfolding records_for numbers_for
-  share_other s = rw (not_open f others) (refl, refl)
+  share_in_use s = rw none (refl, refl)
 
   -- and as many records are in use after it
-  pub after_other : (a : Answer) (before : ℕ) → records_after f a before ≡ before
+  pub records_kept : (a : Answer) (before : ℕ) → records_after f a before ≡ before
   unfolding records_after
-  after_other a before = rw (not_open f others)
+  records_kept a before = rw none
+
+-- the same by the tags of frames
+module _ (f : Frame) (others : NotOpen f) where
+  pub share_other : (s : Session)
+      → (records_for f s ≡ up_to most_records s.records) × (numbers_for f s ≡ client_width * up_to most_clients s.head.setup.clients)
+  share_other = share_in_use f (not_open f others)
+
+  pub after_other : (a : Answer) (before : ℕ) → records_after f a before ≡ before
+  after_other = records_kept f (not_open f others)
 
 -- ---- room, and the end of the input
 pub room_left : (put out : ℕ) → put ≤ out → leb most_bytes (out - put) ≡ leb (put + most_bytes) out
