@@ -1,12 +1,13 @@
 -- Laws of digits: the table of their values, fields read from the front, and fields written from the back. Assumes nothing.
 use Prim.Native.Nat.{ℕ, zero, suc, ◌+◌, ◌-◌, ◌*◌, ◌/◌, ◌%◌, ◌^◌, ◌≤◌, ◌<◌}
 use mathlib.Core.Path.{◌≡◌, refl, sym, ◌∙◌}
-use mathlib.Core.Bool.{true, false}
+use mathlib.Core.Bool.{Bool, true, false, cond}
 use mathlib.Core.List.{List, ◌∷◌, ◌++◌, append-nil}
 use native.Mathlib.Nat.{zero-add, pow-suc, pow-le-pow_right}
 use native.Mathlib.Numerals.{add-one}
 use native.Mathlib.Omega.{arith}
-use borrow.Author.Tests.{ltb-true, lt-ltb, le-ltb}
+use borrow.Author.Tests.{ltb-true, ltb-false, lt-ltb, le-ltb}
+use lib.Dec.{ltb}
 use lib.ListN.{length, get_or, take, drop, set, drop_of_length-le, length-set, take-append-drop}
 use lib.Seq.{drop-cons, append_snoc, take-add, drop_at, length-take-le, take-set-lt, drop-set-lt, get_or-set_same, take-take}
 use Rattle.spec.specs.Every.{every}
@@ -118,3 +119,12 @@ module _ (out : List ℕ) (at end : ℕ) where
   put_end k left front field z h f e =
       let p : at + 0 ≡ at = omega arith in
       sym (take-append-drop at (take end out)) ∙ rw (take-take at end out h, f, ← rw (z, p) at e)
+
+-- ---- a character written: figures and letters by one rule
+pub by_rule : (v : ℕ) → v < 16 → 48 + v + 7 * ((v + 6) / 16) ≡ character_of v
+unfolding character_of
+by_rule v h = go (ltb v 10) refl
+  where
+    go : (b : Bool) → ltb v 10 ≡ b → 48 + v + 7 * ((v + 6) / 16) ≡ cond b (0x30 + v) (0x41 + v - 10)
+    go true e = let l : v < 10 = ltb-true v 10 e in omega arith
+    go false e = let l : 10 ≤ v = ltb-false v 10 e in omega arith

@@ -1,7 +1,7 @@
 -- Laws of frames: a line of digits is what its kind byte and its length make it, and which lines are none. Assumes nothing.
 use Prim.Native.Nat.{ℕ, ◌≤◌}
-use mathlib.Core.Path.{◌≡◌, refl, ◌∙◌}
-use mathlib.Core.Bool.{true, false, and-false}
+use mathlib.Core.Path.{◌≡◌, refl, sym, ◌∙◌}
+use mathlib.Core.Bool.{Bool, true, false, and-false}
 use mathlib.Core.List.{List, [], ◌∷◌, map}
 use native.Mathlib.Omega.{arith}
 use borrow.Author.Tests.{ne_eqb}
@@ -18,6 +18,11 @@ pub frame_digits : (line : List ℕ) → every is_digit line ≡ true
     → frame_of line ≡ frame_among frame_kinds (field_at 0 1 line) (length line) line
 unfolding frame_of frame_with
 frame_digits line e = rw e
+
+-- .. and where the kind byte is read, which computes the kind of the list
+pub frame_read : (line : List ℕ) (all : Bool) (read byte : ℕ) → all ≡ every is_digit line → all ≡ true
+    → read ≡ field_at 0 1 line → read ≡ byte → frame_of line ≡ frame_among frame_kinds byte (length line) line
+frame_read line all read byte e t k is = rw (← is, k) (frame_digits line (sym e ∙ t))
 
 pub frame_other : (line : List ℕ) → every is_digit line ≡ false → frame_of line ≡ Bad
 unfolding frame_of

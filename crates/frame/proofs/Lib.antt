@@ -2,5 +2,4 @@ pub mod FieldDigits
 pub mod FrameKinds
 pub mod LineParts
 pub mod Reader
-pub mod ReaderCalls
 pub mod LinesPut
