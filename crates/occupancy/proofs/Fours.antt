@@ -1,17 +1,14 @@
--- Deadlines looked at by fours and by eights: what a line tells of them, and what the search comes to where none of them is full. A line as
--- walks pass it on.
+-- Deadlines looked at by fours and by eights: what a line tells of them, and what the search comes to where none of them is full.
 -- Assumes nothing.
 use Prim.Native.Nat.{ℕ, zero, suc, ◌+◌, ◌^◌, ◌≤◌, ◌<◌}
 use mathlib.Core.Path.{◌≡◌, refl, ap, sym, ◌∙◌}
 use mathlib.Core.Bool.{Bool, true, false, ◌&&◌, ◌||◌, and-eq-true_iff}
 use mathlib.Core.List.{List}
-use denote.RattleType.{RattleType}
 use native.Mathlib.Omega.{arith}
 use borrow.Author.Tests.{ltb-true, lt-leb, leb-true, leb-false}
 use lib.Dec.{ltb}
 use lib.ListN.{length, get_or, take, length-map, get_or-map}
 use lib.Seq.{length-take-le, get_or-take}
-use Rattle.walk.proofs.Plain.{PlainType, of_struct}
 use Rattle.spec.specs.declared.types.Setup.{Setup}
 use Rattle.spec.specs.declared.types.Head.{Head}
 use Rattle.spec.specs.declared.types.Request.{Request}
@@ -22,19 +19,10 @@ use Rattle.spec.proofs.Laws.Every.{and_left, and_right, or_none}
 use Rattle.hours.specs.declared.calendar.Line.{Line}
 use Rattle.hours.specs.Week.{Below}
 use Rattle.hours.proofs.OpenSlots.{room_most}
-use Rattle.hours.specs.contracts.calendar.Line as T
-use Rattle.hours.proofs.calendar.Line.TheLaws as T'
 use Rattle.occupancy.specs.Fours.{is_full, is_one_full, are_above, are_eight_above}
 use Rattle.occupancy.specs.Scans.{Sorted}
 use Rattle.occupancy.proofs.Searches.{room_difference}
 use Rattle.occupancy.proofs.Searches.{overfull_at, overfull_next}
-
--- ---- a line by value
-abbrev pub LineT : RattleType
-LineT = T.the_row
-
-abbrev pub a_line : PlainType LineT
-a_line = of_struct T.the_type T'.the_laws T'.the_plain (λ x. tt) (λ x w. refl)
 
 -- ---- a line and four deadlines behind one another
 each_of_five : (p a b c d : Bool) → p && (a && b) && (c && d) ≡ true → (p ≡ true) × (a ≡ true) × (b ≡ true) × (c ≡ true) × (d ≡ true)

@@ -174,6 +174,7 @@ fn counts_with(numbers: &[u32], client: u64, c: u64) -> Counts
 }
 
 // Whether a's miss ratio, dropped divided by submitted, is smaller than b's. Multiplied out, so nothing is rounded.
+#[tactic(auto, unfolding(spec::specs::Chart::has_smaller_ratio))]
 fn has_smaller_ratio(a: Counts, b: Counts) -> bool
     ensures { result ≡ has_smaller_ratio a b }
 {
