@@ -1,6 +1,6 @@
 -- The table of counts of open hours: how it is made, bit by bit and number by number, and what it tells. Assumes nothing.
-use Prim.Native.Nat.{ℕ, suc, ◌+◌, ◌-◌, ◌%◌, ◌≤◌, ◌<◌}
-use mathlib.Core.Path.{◌≡◌, refl, ap, sym, ◌∙◌}
+use Prim.Native.Nat.{ℕ, suc, ◌+◌, ◌-◌, ◌≤◌, ◌<◌}
+use mathlib.Core.Path.{◌≡◌, refl, ap, ◌∙◌}
 use mathlib.Core.List.{List}
 use native.Mathlib.Omega.{arith}
 use lib.ListN.{length, get_or, set, length-set}
@@ -9,7 +9,6 @@ use Rattle.slots.proofs.Laws.Tests.{le, gt, order}
 use Rattle.spec.specs.declared.types.Setup.{Setup}
 use Rattle.spec.specs.Tables.{hours}
 use Rattle.spec.specs.Hours.{bit, mark_of, sum_from}
-use Rattle.spec.proofs.Laws.Room.{mark_most}
 use Rattle.hours.specs.Week.{Counted, CountedTo, CountedOn}
 use Rattle.hours.proofs.Sums.{sum_suc}
 use Rattle.hours.proofs.MarkedHours.{Holds, holds_0, holds_64, holds_128, holds_160, behind, highest, highest_most, among_most}
