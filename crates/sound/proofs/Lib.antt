@@ -4,5 +4,6 @@ pub mod Turns
 pub mod Zeros
 pub mod PassWalks
 pub mod Pass
+pub mod Rooms
 pub mod Verdict
 pub mod Contents

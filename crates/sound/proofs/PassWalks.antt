@@ -1,61 +1,21 @@
--- The passes over the records in a walk.
---     reads            `table::waiting::get` on the function's first slice, at i: the record is in a local
+-- The passes over the records, one turn after the other.
 --     Turn             where a turn of a loop stands: how far the pass has come (`OnTheWay`), and that the record before is in hand
--- Assumes `Logic`, and that the callee meets its contract.
-use mathlib.Core.Path.{◌≡◌, subst}
+--     first_made ..    how far it has come after each of four turns in a row
+-- Assumes nothing.
+use mathlib.Core.Path.{◌≡◌, refl, subst, ◌∙◌}
 use mathlib.Core.Bool.{Bool, true, ◌&&◌}
-use Prim.Native.Nat.{ℕ, ◌<◌}
-use native.Mathlib.Nat.{lt_trans}
-use mathlib.Core.List.{List, [], ◌∷◌}
+use Prim.Native.Nat.{ℕ, ◌+◌, ◌<◌}
+use mathlib.Core.List.{List}
+use native.Mathlib.Omega.{arith}
 use lib.ListN.{length, get_or}
 use lib.Dec.{T, ltb, ltb→lt}
 use lib.Ieee.Bits.{is_true}
-use seplogic.Ra.Ura.{Ura}
-use mir.Syntax.{Opd as Operand, Body, seq, place, call}
 use mir.Facts.{and_yes}
-use base.Logic.{emp}
-use base.Fml.{Lft, Share}
-use prog.Wp.{Env, Tables}
-use types.Logic.{Logic}
-use contract.Monad.{fact}
-use types.Kit.{Item, ‵, raw, Post, runs, Seq}
-use denote.Laws.{Is}
-use denote.Triple.Statement.{Contract, Triple}
-use denote.Triple.Spec.{triple_of}
 use Rattle.spec.specs.declared.types.Head.{Head}
 use Rattle.spec.specs.declared.types.Request.{Request}
 use Rattle.spec.specs.Tables.{zero_request}
-use Rattle.table.proofs.Requests.{RequestT, mach, vals, a_request}
-use Rattle.table.proofs.waiting.get as get
-use Rattle.walk.proofs.Prelude.{so, vars, passed_on, Param, number, calls_giving}
-use Rattle.walk.proofs.Enter.{Slice}
-use Rattle.walk.proofs.Locals.{held, Vars}
-use Rattle.walk.proofs.Slices.At.{items, sourced, holes}
-use Rattle.walk.proofs.Slices.Calls.{restored, Takes}
-use Rattle.walk.proofs.Slices.Loans.{Choices, Requires, keeps, machine}
-use Rattle.sound.specs.Checks.{PassState, record_before}
-use Rattle.sound.proofs.Turns.{OnTheWay}
-
--- ---- a record read
-module _ {M : Type 1} {𝓤 : Ura M} (𝓛 : Logic 𝓤) where
-  abbrev pub GetParams : {κ : Lft} {s : Share} (t : Slice RequestT κ s) (i : ℕ) → i < length t.list → List (Param 𝓛)
-  GetParams t i here = passed_on 𝓛 t ∷ number 𝓛 i (lt_trans here t.room.0) ∷ []
-
--- the contract of `get`, whose clauses name neither the memory nor a routine's run
-abbrev pub Get : {M : Type 1} {𝓤 : Ura M} (𝓛 : Logic 𝓤) → Contract 𝓤
-Get {𝓤 = 𝓤} 𝓛 = triple_of 𝓛 get.signature (get.spec 𝓛 (λ _. emp 𝓤) (λ _ _ _. emp 𝓤))
-
-module _ {M : Type 1} {𝓤 : Ura M} {𝓛 : Logic 𝓤} {K : Type 0} {Γ : List (Item 𝓤)} {E : Env 𝓤 𝓛.H} {xs : List Operand} {q : Post 𝓤 𝓛.H} {x : ℕ} {rest : Body} where
-  open 𝓛 use {H}
-
-  pub reads : K → (𝓣 : Tables 𝓤 H) → Triple 𝓤 (𝓣.C get.Symbol.name) (Get 𝓛) → {κ : Lft} {s : Share} (t : Slice RequestT κ s) (i : ℕ) (here : i < length t.list)
-      → let ps : List (Param 𝓛) = GetParams 𝓛 t i here in
-      let Δ : List (Item 𝓤) = restored 𝓛 Γ (0 ∷ []) ps (tt, (tt, tt)) in
-      items 𝓛 (0 ∷ []) Γ ≡ sourced 𝓛 ps → ((c : Choices ps) → Vars 𝓛 (raw (Requires ps c (fact 𝓤 (i < length t.list))) ∷ ‵ (keeps ps c) ∷ holes 𝓛 (0 ∷ []) Γ) E xs (machine ps)) → Takes 𝓛 Δ E x RequestT
-      → (Is RequestT (get_or t.list i zero_request) (vals (get_or t.list i zero_request)) → Seq K 𝓛 (held 𝓛 Δ E x (mach (get_or t.list i zero_request))) (runs 𝓣.C 𝓣.Λ E rest q))
-      → Seq K 𝓛 Γ (runs 𝓣.C 𝓣.Λ E (seq (call get.Symbol.name xs (place x [])) rest) q)
-  reads k 𝓣 known t i here e vs at go =
-      calls_giving k 𝓣 (0 ∷ []) (GetParams 𝓛 t i here) a_request (get_or t.list i zero_request) (λ c. known) (λ c h. h) (so 𝓤 here) e (λ c. vars k (vs c)) (λ ws. at) (λ ws. go)
+use Rattle.sound.specs.Checks.{Bounded, Countable, PassState, turn, turns, record_before}
+use Rattle.sound.proofs.Turns.{OnTheWay, comes_next, sets_out, steps_on, turns_made}
 
 -- ---- a loop
 pub record Turn (head : Head) (ys : List Request) (start : ℕ) (s : PassState) (n : ℕ) : Type 0 where
@@ -63,7 +23,6 @@ pub record Turn (head : Head) (ys : List Request) (start : ℕ) (s : PassState) 
   pub before : Request
   pub passed : Bool
   pub tally : List ℕ
-  pub before_is : Is RequestT before (vals before)
   pub size : length tally ≡ length s.1
   pub behind : before ≡ record_before ys i
   pub reached : OnTheWay head ys start s n i passed tally
@@ -74,3 +33,34 @@ pub goes_on : {head : Head} {ys : List Request} {start : ℕ} {s : PassState} {n
 goes_on {head} {ys} {start} {s} {n} t h =
     let both = and_yes (ltb t.i n) t.passed h in
     (ltb→lt t.i n both.0, subst (λ (p : Bool). OnTheWay head ys start s n t.i p t.tally) (is_true t.passed both.1) t.reached)
+
+-- ---- one more turn, of the record at the index
+pub one_on : {head : Head} {ys : List Request} {start n i : ℕ} {s : PassState} {passed r : Bool} {tally zs : List ℕ} {before w : Request}
+    → OnTheWay head ys start s n i passed tally → Bounded head n → before ≡ record_before ys i → w ≡ get_or ys i zero_request → i < n
+    → (j : ℕ) → j ≡ i + 1 → (r, zs) ≡ turn head i before w (passed, tally) → OnTheWay head ys start s n j r zs
+one_on h b behind is less j e told = steps_on h b behind less j e (rw is at told)
+
+-- ---- four turns, one by one, from the index i on: the first, the second, the third and the last
+module _ {head : Head} (ys : List Request) (i : ℕ) {before a : Request} {t₀ t₁ : List ℕ} {p : Bool} (bounds : Bounded head (i + 4))
+    (few : Countable 4 t₀) (behind : before ≡ record_before ys i) (a_is : a ≡ get_or ys i zero_request)
+    (told₁ : (p, t₁) ≡ turn head i before a (true, t₀)) where
+  pub first_made : OnTheWay head ys i (true, t₀) (i + 4) (i + 1) p t₁
+  first_made = one_on (sets_out head ys i (i + 4) 4 true t₀ refl few) bounds behind a_is (omega arith) (i + 1) refl told₁
+
+  module _ {b : Request} {t₂ : List ℕ} {q : Bool} (b_is : b ≡ get_or ys (i + 1) zero_request)
+      (told₂ : (q, t₂) ≡ turn head (i + 1) a b (p, t₁)) where
+    pub second_made : OnTheWay head ys i (true, t₀) (i + 4) (i + 2) q t₂
+    second_made = one_on first_made bounds (a_is ∙ comes_next ys i (i + 1) refl) b_is (omega arith) (i + 2) (omega arith) told₂
+
+    module _ {c : Request} {t₃ : List ℕ} {r : Bool} (c_is : c ≡ get_or ys (i + 2) zero_request)
+        (told₃ : (r, t₃) ≡ turn head (i + 2) b c (q, t₂)) where
+      pub third_made : OnTheWay head ys i (true, t₀) (i + 4) (i + 3) r t₃
+      third_made =
+          one_on second_made bounds (b_is ∙ comes_next ys (i + 1) (i + 2) (omega arith)) c_is (omega arith) (i + 3) (omega arith) told₃
+
+      module _ {d : Request} {t₄ : List ℕ} {u : Bool} (d_is : d ≡ get_or ys (i + 3) zero_request)
+          (told₄ : (u, t₄) ≡ turn head (i + 3) c d (r, t₃)) where
+        pub four_made : (u, t₄) ≡ turns head ys i 4 (true, t₀)
+        four_made =
+            let behind₃ : c ≡ record_before ys (i + 3) = c_is ∙ comes_next ys (i + 2) (i + 3) (omega arith) in
+            turns_made (one_on third_made bounds behind₃ d_is (omega arith) (i + 4) (omega arith) told₄) bounds 4 refl refl

@@ -14,6 +14,7 @@ use spec::types::{Counts, Head, Request, Setup};
 use table::clients;
 
 // The number of the first refusal of a setup that matches, 0 where none does.
+#[tactic(auto, unfolding(spec::specs::Setup::first_match, spec::specs::Setup::setup_refusals))]
 pub fn setup_refusal(setup: Setup) -> u64
     ensures { result ≡ first_match (setup_refusals setup) }
 {
@@ -33,6 +34,7 @@ pub fn setup_refusal(setup: Setup) -> u64
 }
 
 // Whether the head is within its bounds.
+#[tactic(auto, unfolding(spec::specs::Sound::is_head_within))]
 pub(crate) fn is_head_within(head: Head) -> bool
     ensures { result ≡ is_head_within head }
 {
@@ -42,6 +44,7 @@ pub(crate) fn is_head_within(head: Head) -> bool
 }
 
 // Whether a waiting table of so many records and a client table of so many numbers fit the head.
+#[tactic(auto, unfolding(crate::specs::Checks::has_shape))]
 pub(crate) fn has_shape(head: Head, records: usize, numbers: usize) -> bool
     ensures { result ≡ has_shape head records numbers }
 {
@@ -51,6 +54,7 @@ pub(crate) fn has_shape(head: Head, records: usize, numbers: usize) -> bool
 }
 
 // The refusal that lengths and head call for: 4 or 5, 0 where there is none.
+#[tactic(auto, unfolding(crate::specs::Checks::head_refusal))]
 fn head_refusal(head: Head, records: usize, numbers: usize) -> u64
     ensures { result ≡ head_refusal head records numbers }
 {
@@ -68,6 +72,7 @@ const COUNTS: u32 = bounds::MOST_COUNTED + 1;
 
 // Whether a client's counts balance with those waiting, counted in four parts. The sum is of 32 bits, so that several clients can
 // be looked at in one go: it cannot wrap, since served and dropped are cut to their bound, and a count that is cut is refused.
+#[tactic(auto, using(crate::proofs::RecordTests::cut_balance))]
 pub(crate) fn does_balance(k: Counts, a: u16, b: u16, c: u16, d: u16) -> bool
     ensures { result ≡ does_balance k (a + b + c + d) }
 {

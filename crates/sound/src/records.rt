@@ -13,6 +13,7 @@ use table::waiting;
 // Whether w can stand at the index i, behind the record before it. All slots count here: `room::have_room` asks for room by open slots, and
 // `is_near` asks of the last record how far ahead it is. Chart order takes one comparison: w's deadline counts one less where its number is
 // not the larger. Branches on the deadlines take longer where few records wait: docs/landings/04-session.md.
+#[tactic(auto, unfolding(crate::specs::Checks::is_next))]
 pub(crate) fn is_next(head: Head, i: u64, before: Request, w: Request) -> bool
     requires { (head.clock ≤ clock_end) × (i ≤ most_records) }
     ensures { result ≡ is_next head i before w }
@@ -43,6 +44,7 @@ pub(crate) fn is_near(head: Head, deadline: u64) -> bool
 // One turn of the pass over the records, told whether all before it passed: whether they and this one do, a record that may
 // stand at its index behind the one before it; if so it is counted. The tally has four parts, used by turns: adding to one place
 // twice in a row waits for the store, and with few clients most records would.
+#[tactic(auto, using(crate::proofs::RecordTests::next_client), unfolding(crate::specs::Checks::turn))]
 pub(crate) fn check_record(
     ok: bool,
     tally: &mut [u16],
@@ -147,6 +149,7 @@ pub(crate) fn are_next(t: &[Request], tally: &mut [u16], head: Head, n: usize) -
 }
 
 // Whether a record is zero, by one test of the bits of its fields.
+#[tactic(auto, using(crate::proofs::RecordTests::bits_zero))]
 pub(crate) fn is_zero(w: Request) -> bool
     ensures { result ≡ is_zero_request w }
 {
@@ -154,6 +157,7 @@ pub(crate) fn is_zero(w: Request) -> bool
 }
 
 // Whether four records are zero, by one test of the bits of all their fields.
+#[tactic(auto, using(crate::proofs::RecordTests::bits_zero_four))]
 pub(crate) fn are_zero_four(a: Request, b: Request, c: Request, d: Request) -> bool
     ensures { result ≡ is_zero_request a && is_zero_request b && (is_zero_request c && is_zero_request d) }
 {
