@@ -6,10 +6,9 @@ use mathlib.Core.Bool.{Bool, true, false, cond, not, and-false}
 use mathlib.Core.List.{List, [], ◌∷◌, ◌++◌}
 use native.Mathlib.Omega.{arith}
 use borrow.Author.Tests.{le-ltb, lt-ltb, lt-leb, eq-eqb, ne_eqb, ltb-true, ltb-false}
-use lib.Dec.{ltb, eqb}
-use lib.ListN.{length, get_or, length-replicate}
-use Rattle.spec.specs.declared.types.Setup.{Setup}
-use Rattle.spec.specs.Tables.{most_ahead, most_counted, zero_request, zero_counts, State, client_table}
+use lib.Dec.{ltb}
+use lib.ListN.{get_or}
+use Rattle.spec.specs.Tables.{most_ahead, most_counted, zero_counts, State, client_table}
 use Rattle.spec.specs.Setup.{Refusal, first_match}
 use Rattle.spec.specs.Chart.{room_to}
 use Rattle.spec.specs.Calls.Refusals.{refusal6, refusal7, refusal15, refusal8, refusal9, refusal10}

@@ -1,18 +1,17 @@
 -- What the parts of an exported call come to together. Assumes nothing.
 use Prim.Native.Nat.{ℕ}
-use mathlib.Core.Path.{◌≡◌, refl, sym, ap, subst, ◌∙◌}
+use mathlib.Core.Path.{◌≡◌, sym, ap, subst, ◌∙◌}
 use mathlib.Core.Bool.{false}
 use mathlib.Core.List.{List, [], ◌∷◌}
 use Rattle.spec.specs.declared.types.Setup.{Setup}
 use Rattle.spec.specs.declared.types.Head.{Head}
 use Rattle.spec.specs.declared.types.Request.{Request}
-use Rattle.spec.specs.declared.types.Answer.{Answer}
-use Rattle.spec.specs.declared.types.Answer.TheVariants.{Opened, Refused}
+use Rattle.spec.specs.declared.types.Answer.TheVariants.{Opened}
 use Rattle.spec.specs.Every.{first_or}
 use Rattle.spec.specs.Tables.{State, state_of}
 use Rattle.spec.specs.Calls.Readings.{kind_of}
 use Rattle.spec.specs.Calls.Outcomes.{Outcome}
-use Rattle.spec.specs.Calls.Open.{open_refusals, open_accepted}
+use Rattle.spec.specs.Calls.Open.{open_accepted}
 use Rattle.spec.specs.Calls.{Call, opening, outcome_of, accepted_of, refusals_of, meaning}
 use Rattle.spec.proofs.Laws.Accepted.{Decided, accepts, refuses}
 use Rattle.spec.proofs.Calls.Refused.{outcome_decided, state_stays, setup_same}

@@ -1,3 +1,2 @@
-pub mod ExportedCalls
 pub mod ExportLaws
 pub mod Lists

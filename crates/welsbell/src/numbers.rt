@@ -122,6 +122,7 @@ impl Values {
 }
 
 // An answer's kind and values, document 01, "Session lines": kinds and the order of values are the paper's.
+#[tactic(auto, unfolding(crate::specs::Numbers::value_numbers))]
 fn values_of(answer: Answer) -> Values
     ensures { (result.kind ≡ kind_of answer) × (take result.count result.numbers ≡ value_numbers answer) × (result.count ≤ 5) }
 {

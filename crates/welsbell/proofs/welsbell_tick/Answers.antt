@@ -1,0 +1,10 @@
+-- `welsbell::welsbell_tick` meets its contract. Assumes nothing.
+use mathlib.Core.Path.{refl}
+use Rattle.spec.specs.Calls.{tick}
+use Rattle.welsbell.proofs.ExportLaws.{exports_written}
+use Rattle.welsbell.proofs.welsbell_tick.Goals as goal
+
+pub returns : goal.returns
+returns c =
+    exports_written tick c.args.head.now c.args.hours.now c.args.values.now c.head_of-h.ensures
+    c.tick-reply.ensures c.write_values.ensures refl c.write_head.new.numbers c.write_head.ensures
