@@ -3,7 +3,7 @@
 -- What no contract says of the program, since none says what a system call does:
 --     in src/system.rt     what the calls of `read` and of `write_all` do, and that what they answer is what is handed on
 --     in src/progress.rt       that `read_behind` and `write_front` are called once, where they stand, and which line `say_why` says
---     in src/main.rt       that `main` calls `serve` and `say_why`
+--     in src/main.rt       that `main` calls `serve` and `say_why`, and that the streams that it hands them are the standard ones
 -- So `ProgramRan` speaks of some reads and some writes; that they are the ones made is shown by test, in tests/src/bin/session.rs. Each
 -- session of `CASES` fails where other characters are read or written than those, or some of them not or twice, or where a good read or
 -- write is taken for a failed one; `try_unread_answers` and `try_nonblocking_output` fail where a failed write is taken for a good one,

@@ -4,5 +4,6 @@ pub mod Counts
 pub mod Largest
 pub mod Passing
 pub mod Windows
+pub mod Alone
 pub mod Printed
 pub mod SinceOpen

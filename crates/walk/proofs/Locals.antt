@@ -17,9 +17,9 @@ use mathlib.Core.Path.{◌≡◌, sym, subst}
 use mathlib.Core.Option.{some}
 use mathlib.Core.List.{List, [], ◌∷◌}
 use seplogic.Ra.Ura.{Ura}
-use seplogic.Ra.TreeShare.{full_share}
+use base.Fraction.{full_share}
 use lib.Dec.{T, ltb}
-use mir.Syntax.{Sym, Ty, Tys, ty_struct, ty_int, w64, field, place, copy, int, int_neg, int_big, float, opd_true, opd_false, opd_unit, ptr_const, Opd as Operand, Rv as RValue, Op2, op2, add, unsigned, rv_opd, Body, seq, assign, return}
+use mir.Syntax.{Sym, Ty, Tys, ty_struct, ty_int, w64, field, place, copy, int, int_neg, int_big, float, opd_true, opd_false, opd_unit, ptr_const, size_of, align_of, num_of, fn_addr, vtable, Opd as Operand, Rv as RValue, Op2, op2, add, unsigned, rv_opd, Body, seq, assign, return}
 use mir.Val.{Val, vint, vstruct, Vals, WT, has_ty, Dom, op2_chk, op2_val}
 use mir.Fields.{get_v, set_v}
 use base.Logic.{SProp}
@@ -96,6 +96,11 @@ module _ {M : Type 1} {𝓤 : Ura M} (𝓛 : Logic 𝓤) (Γ : List (Item 𝓤))
   Vars (opd_false ∷ xs) (v ∷ vs) = ⊥ × Unit {2}
   Vars (opd_unit ∷ xs) (v ∷ vs) = ⊥ × Unit {2}
   Vars (ptr_const n ∷ xs) (v ∷ vs) = ⊥ × Unit {2}
+  Vars (size_of τ ∷ xs) (v ∷ vs) = ⊥ × Unit {2}
+  Vars (align_of τ ∷ xs) (v ∷ vs) = ⊥ × Unit {2}
+  Vars (num_of w τ ∷ xs) (v ∷ vs) = ⊥ × Unit {2}
+  Vars (fn_addr f σ ∷ xs) (v ∷ vs) = ⊥ × Unit {2}
+  Vars (vtable τ ss ∷ xs) (v ∷ vs) = ⊥ × Unit {2}
 
 fit_at : {τ : Ty} {n : ℕ} → τ ≡ ty_int w64 → n < 2 ^ 64 → T (has_ty τ (vint w64 n)) × WT (vint w64 n)
 fit_at {n = n} e less = subst (λ (τ : Ty). T (has_ty τ (vint w64 n)) × WT (vint w64 n)) (sym e) (tt, fit less)
@@ -130,6 +135,11 @@ module _ {M : Type 1} {𝓤 : Ura M} {𝓛 : Logic 𝓤} {K : Type 0} {Γ : List
   all_vars t (opd_false ∷ xs) (v ∷ vs) e = absurd e.0
   all_vars t (opd_unit ∷ xs) (v ∷ vs) e = absurd e.0
   all_vars t (ptr_const n ∷ xs) (v ∷ vs) e = absurd e.0
+  all_vars t (size_of τ ∷ xs) (v ∷ vs) e = absurd e.0
+  all_vars t (align_of τ ∷ xs) (v ∷ vs) e = absurd e.0
+  all_vars t (num_of w τ ∷ xs) (v ∷ vs) e = absurd e.0
+  all_vars t (fn_addr f σ ∷ xs) (v ∷ vs) e = absurd e.0
+  all_vars t (vtable τ ss ∷ xs) (v ∷ vs) e = absurd e.0
 
   pub vars : K → {xs : List Operand} {vs : List Val} → Vars 𝓛 Γ E xs vs → Opds K 𝓛 Γ E xs vs
   vars t {xs} {vs} e = all_vars t xs vs e

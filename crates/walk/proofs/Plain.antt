@@ -62,7 +62,7 @@ abbrev pub of_enum : (T : ED.Declared) → EL.Laws T → Plainss (ED.variants T)
 of_enum T laws plain few last silent =
     record { val = EL.val T laws; tells = EL.tells T laws; lawful = λ 𝓛. EL.lawful T laws 𝓛 few; makes = λ 𝓛. EL.makes T plain 𝓛; last = last; silent = silent }
 
-pub made : {M : Type 1} {𝓤 : Ura M} (𝓛 : Logic 𝓤) {T : RattleType} (p : PlainType T) (x : T.Denot) → Is T x (p.val x ∷ []) → ent 𝓤 (emp 𝓤) (sem 𝓛 (T.own x (p.val x ∷ [])))
+pub made : {M : Type 1} {𝓤 : Ura M} (𝓛 : Logic 𝓤) {T : RattleType} (p : PlainType T) (x : T.Denot) → Is T x (p.val x ∷ []) → ent 𝓤 (emp 𝓤) (sem 𝓛 (T.own_val x (p.val x ∷ [])))
 made {𝓤 = 𝓤} 𝓛 p x is = p.makes 𝓛 x (p.val x ∷ []) is
 
 pub fit : {w : Width} {n : ℕ} → n < 2 ^ bits w → Fits w n

@@ -12,7 +12,7 @@ use mir.Syntax.{Fn}
 use prog.Wp.{Heap, Calls, Tables, Closed}
 use prog.Model.{Model}
 use prog.Memory.{Memory}
-use prog.Routine.{Name, Routine, Env}
+use prog.Routine.{Callee, Routine, Env}
 use base.Logic.{SProp}
 use types.Logic.{Logic}
 use contract.Monad.{Fun}
@@ -30,20 +30,20 @@ pub record Shape {M : Type 1} {𝓤 : Ura M} (𝓛 : Logic 𝓤) : Type 3 where
   pub clauses : Clauses 𝓤 (ended_of params result)
   pub code : Fn
   pub lies : Lies {𝓛 = 𝓛} params result clauses code
-  pub callees : List (Name × Contract 𝓤)
+  pub callees : List (Callee × Contract 𝓤)
 
 module _ {M : Type 1} (𝓤 : Ura M) (H : Heap 𝓤) where
   -- from a triple of each callee
-  abbrev pub Knows : Calls 𝓤 H → List (Name × Contract 𝓤) → Type 2 → Type 2
+  abbrev pub Knows : Calls 𝓤 H → List (Callee × Contract 𝓤) → Type 2 → Type 2
   Knows C [] P = P
   Knows C (k ∷ cs) P = Triple 𝓤 (C k.0) k.1 → Knows C cs P
 
   module _ (𝓜 : Model 𝓤 H) (𝓡 : Running 𝓤 H 𝓜) (γ : Env) where
-    abbrev pub Cites : List (Name × Contract 𝓤) → Type 1
+    abbrev pub Cites : List (Callee × Contract 𝓤) → Type 1
     Cites [] = Unit {1}
     Cites (k ∷ cs) = ((r : Routine) × (γ k.0 ≡ r) × Triple 𝓤 (𝓡.run r) k.1) × Cites cs
 
-    cite_all : (cs : List (Name × Contract 𝓤)) (P : Type 2) → Cites cs → Knows (tables 𝓤 H 𝓜 𝓡 γ).C cs P → P
+    cite_all : (cs : List (Callee × Contract 𝓤)) (P : Type 2) → Cites cs → Knows (tables 𝓤 H 𝓜 𝓡 γ).C cs P → P
     cite_all [] P t k = k
     cite_all (c ∷ cs) P t k = cite_all cs P t.1 (k (cited 𝓤 H c.1 𝓜 𝓡 γ c.0 t.0.0 t.0.1 t.0.2))
 
@@ -56,7 +56,7 @@ module _ {M : Type 1} {𝓤 : Ura M} {𝓛 : Logic 𝓤} (s : Shape 𝓛) where
 module _ {M : Type 1} {𝓤 : Ura M} (𝓛 : Logic 𝓤) (𝓜 : Model 𝓤 𝓛.H) (𝓡 : Running 𝓤 𝓛.H 𝓜) (s : Shape 𝓛) where
   open 𝓛 use {H}
 
-  pub proves : (γ : Env) (k : Name) → Closed 𝓤 H (tables 𝓤 H 𝓜 𝓡 γ).C (tables 𝓤 H 𝓜 𝓡 γ).Λ k s.code → ((𝓣 : Tables 𝓤 H) → Walk s 𝓣) → Cites 𝓤 H 𝓜 𝓡 γ s.callees
+  pub proves : (γ : Env) (k : Callee) → Closed 𝓤 H (tables 𝓤 H 𝓜 𝓡 γ).C (tables 𝓤 H 𝓜 𝓡 γ).Λ k s.code → ((𝓣 : Tables 𝓤 H) → Walk s 𝓣) → Cites 𝓤 H 𝓜 𝓡 γ s.callees
       → Triple 𝓤 ((tables 𝓤 H 𝓜 𝓡 γ).C k) (triple_of 𝓛 (signature_of s.params s.result) (closing 𝓛 (ended_of s.params s.result) s.clauses))
   unfolding tables_of
   proves γ k closed walk cites =
@@ -69,9 +69,9 @@ module _ {M : Type 1} {𝓤 : Ura M} (𝓛 : Logic 𝓤) (𝓜 : Model 𝓤 𝓛
   open 𝓛 use {H}
 
   abbrev the_shape : Shape 𝓛
-  the_shape = s 𝓜.mem 𝓡.run
+  the_shape = s 𝓜.mem 𝓡.returns
 
-  pub proved : ((mem : Memory → SProp 𝓤) (run : Routine → Fun 𝓤) (𝓣 : Tables 𝓤 H) → Walk (s mem run) 𝓣) → (γ : Env) (k : Name)
+  pub proved : ((mem : Memory → SProp 𝓤) (run : Routine → Fun 𝓤) (𝓣 : Tables 𝓤 H) → Walk (s mem run) 𝓣) → (γ : Env) (k : Callee)
       → Closed 𝓤 H (tables 𝓤 H 𝓜 𝓡 γ).C (tables 𝓤 H 𝓜 𝓡 γ).Λ k the_shape.code → Cites 𝓤 H 𝓜 𝓡 γ the_shape.callees
       → Triple 𝓤 ((tables 𝓤 H 𝓜 𝓡 γ).C k) (triple_of 𝓛 (signature_of the_shape.params the_shape.result) (closing 𝓛 (ended_of the_shape.params the_shape.result) the_shape.clauses))
-  proved walk γ k closed cites = proves 𝓛 𝓜 𝓡 the_shape γ k closed (walk 𝓜.mem 𝓡.run) cites
+  proved walk γ k closed cites = proves 𝓛 𝓜 𝓡 the_shape γ k closed (walk 𝓜.mem 𝓡.returns) cites

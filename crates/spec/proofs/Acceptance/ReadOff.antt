@@ -153,7 +153,7 @@ reopened = refl
 abbrev unrefused : List Call
 unrefused = submit 1 9 ∷ tick ∷ submit 1 1 ∷ submit 1 2 ∷ submit 0 1 ∷ []
 
--- This list meets the condition of `Lists/Windows.calls_alone`, so that its windows are those that its calls say.
+-- This list meets the condition of `Lists/Alone.calls_alone`, so that its windows are those that its calls say.
 pub unrefused_windows :
     (exists is_refused_event (history start unrefused) ≡ false)
     × (call_windows unrefused ≡ since 1 9 ∷ since 0 1 ∷ since 0 2 ∷ since 0 1 ∷ [])

@@ -1,7 +1,7 @@
 -- The kinds of calls, an open, a submit, a tick, and calls that change nothing, as report and chart; and what a frame asks for, an open,
 -- a chart, nothing, or any other call. Of what is proved of the definitions `call_kind` alone goes by cases on calls, and `asks` alone by
 -- cases on frames. The laws of all calls and of all frames go by these kinds, so that a new call that changes nothing, with a frame of its
--- own, has its clauses here; in `session` the proof of the function that makes a frame's call has an arm for it besides. Assumes nothing.
+-- own, has its clauses here and nowhere else. Assumes nothing.
 use Prim.Native.Nat.{ℕ, ◌≤◌}
 use mathlib.Core.Path.{◌≡◌, refl, sym, ap, ◌∙◌}
 use mathlib.Core.Bool.{false}

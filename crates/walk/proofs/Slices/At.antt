@@ -10,7 +10,7 @@ use mathlib.Core.Path.{◌≡◌, refl, sym, ap, subst}
 use Prim.Native.Nat.{ℕ, ◌≤◌}
 use mathlib.Core.List.{List, [], ◌∷◌}
 use seplogic.Ra.Ura.{Ura}
-use mir.Syntax.{Name, Place, Opd as Operand, Body, seq, call}
+use mir.Syntax.{Callee, Place, Opd as Operand, Body, seq, call}
 use mir.Val.{Val}
 use base.Logic.{SProp, ent, sep, emp, via, mono_l, mono_r, emp∗, comm∗, assoc∗, assoc', snd∗}
 use base.Fml.{ftrue}
@@ -18,14 +18,14 @@ use prog.Wp.{Env, Calls, Loops}
 use types.Logic.{Logic, sem}
 use sound.WpLaws.{FmC}
 use types.Kit.{Item, ‵, mean, ⋆, nth, del, put, pull, fill, push, pop, Post, Goal, runs, lands, Seq, Step, step, ◌$◌, move}
-use denote.RattleType.{RattleType}
+use denote.RattleType.{RattleType, RowLaws}
 use lib.ListN.{length}
 use base.Fml.{Lft, Share}
 use mir.Syntax.{named}
 use denote.Slice.{Room}
 use Rattle.walk.proofs.Enter.{Slice}
 use Rattle.walk.proofs.Locals.{back, puts}
-use Rattle.walk.proofs.Slices.Lent.{Elements, of_slice}
+use Rattle.walk.proofs.Slices.Lent.{Elements, ShownFree, of_slice}
 use Rattle.walk.proofs.Slices.Parts.{part_lent, part_shared, room_less}
 use Rattle.walk.proofs.Slices.Loans.{Param, value, loan, relent, shared, passed, Choices, Lasts, Knowns, machine, Requires, Ensures, Operands, sources, backs, calls_with}
 
@@ -99,23 +99,23 @@ module _ {M : Type 1} {𝓤 : Ura M} (𝓛 : Logic 𝓤) where
       (via 𝓤 (sep 𝓤 Bs (⋆ 𝓛 (put 𝓛 i (‵ (l.back ws.0)) Γ))) (mono_r 𝓤 Bs (refill i (‵ (l.back ws.0)) Γ))
       (returned ps π ws.1 (put 𝓛 i (‵ (l.back ws.0)) Γ))))
 
-module _ {M : Type 1} {𝓤 : Ura M} {𝓛 : Logic 𝓤} {K : Type 0} {Γ : List (Item 𝓤)} {E : Env 𝓤 𝓛.H} {C : Calls 𝓤 𝓛.H} {f : Name} {xs : List Operand} {Λ : Loops 𝓤 𝓛.H} {q : Post 𝓤 𝓛.H} {d : Place} {rest : Body} where
+module _ {M : Type 1} {𝓤 : Ura M} {𝓛 : Logic 𝓤} {K : Type 0} {Γ : List (Item 𝓤)} {E : Env 𝓤 𝓛.H} {C : Calls 𝓤 𝓛.H} {f : Callee} {xs : List Operand} {Λ : Loops 𝓤 𝓛.H} {q : Post 𝓤 𝓛.H} {d : Place} {rest : Body} where
   open 𝓛 use {H}
 
   pub calls_at : K → FmC 𝓤 H 𝓛.laws C → (π : List ℕ) (ps : List (Param 𝓛)) (Pre : SProp 𝓤) → ent 𝓤 (emp 𝓤) Pre → (S : RattleType) (ψ : S.Denot → Lasts ps → Type 0)
       → ((c : Choices ps) → ent 𝓤 (Requires ps c Pre) (C f (machine ps) (Ensures ps c S ψ)))
       → items 𝓛 π Γ ≡ sourced 𝓛 ps
       → Operands K 𝓛 (holes 𝓛 π Γ) E xs ps Pre
-      → ((w : Val) (r : S.Denot) (ws : Lasts ps) → ψ r ws → Knowns ps ws → Seq K 𝓛 (‵ (S.own r (w ∷ [])) ∷ fills 𝓛 ps π ws (holes 𝓛 π Γ)) (lands C Λ E d w rest q))
+      → ((w : Val) (r : S.Denot) (ws : Lasts ps) → ψ r ws → Knowns ps ws → Seq K 𝓛 (‵ (S.own_val r (w ∷ [])) ∷ fills 𝓛 ps π ws (holes 𝓛 π Γ)) (lands C Λ E d w rest q))
       → Seq K 𝓛 Γ (runs C Λ E (seq (call f xs d) rest) q)
   calls_at t fm π ps Pre pre S ψ met e ops k = record {
     prf = via 𝓤 (sep 𝓤 (sem 𝓛 (sources ps)) (⋆ 𝓛 (holes 𝓛 π Γ))) (takes 𝓛 ps π Γ e)
         (via 𝓤 (⋆ 𝓛 (‵ (sources ps) ∷ holes 𝓛 π Γ)) (push 𝓛 (‵ (sources ps)) (holes 𝓛 π Γ))
         (calls_with {Λ = Λ} {q = q} {d = d} {rest = rest} t fm ps Pre pre S ψ met ops (λ w r ws h known. move t (1 ∷ []) $ record {
-          prf = via 𝓤 (sep 𝓤 (sem 𝓛 (S.own r (w ∷ []))) (⋆ 𝓛 (‵ (backs ps ws) ∷ holes 𝓛 π Γ))) (pop 𝓛 (‵ (S.own r (w ∷ []))) (‵ (backs ps ws) ∷ holes 𝓛 π Γ))
-              (via 𝓤 (sep 𝓤 (sem 𝓛 (S.own r (w ∷ []))) (⋆ 𝓛 (fills 𝓛 ps π ws (holes 𝓛 π Γ))))
-              (mono_r 𝓤 (sem 𝓛 (S.own r (w ∷ []))) (via 𝓤 (sep 𝓤 (sem 𝓛 (backs ps ws)) (⋆ 𝓛 (holes 𝓛 π Γ))) (pop 𝓛 (‵ (backs ps ws)) (holes 𝓛 π Γ)) (returned 𝓛 ps π ws (holes 𝓛 π Γ))))
-              (via 𝓤 (⋆ 𝓛 (‵ (S.own r (w ∷ [])) ∷ fills 𝓛 ps π ws (holes 𝓛 π Γ))) (push 𝓛 (‵ (S.own r (w ∷ []))) (fills 𝓛 ps π ws (holes 𝓛 π Γ))) (k w r ws h known).prf));
+          prf = via 𝓤 (sep 𝓤 (sem 𝓛 (S.own_val r (w ∷ []))) (⋆ 𝓛 (‵ (backs ps ws) ∷ holes 𝓛 π Γ))) (pop 𝓛 (‵ (S.own_val r (w ∷ []))) (‵ (backs ps ws) ∷ holes 𝓛 π Γ))
+              (via 𝓤 (sep 𝓤 (sem 𝓛 (S.own_val r (w ∷ []))) (⋆ 𝓛 (fills 𝓛 ps π ws (holes 𝓛 π Γ))))
+              (mono_r 𝓤 (sem 𝓛 (S.own_val r (w ∷ []))) (via 𝓤 (sep 𝓤 (sem 𝓛 (backs ps ws)) (⋆ 𝓛 (holes 𝓛 π Γ))) (pop 𝓛 (‵ (backs ps ws)) (holes 𝓛 π Γ)) (returned 𝓛 ps π ws (holes 𝓛 π Γ))))
+              (via 𝓤 (⋆ 𝓛 (‵ (S.own_val r (w ∷ [])) ∷ fills 𝓛 ps π ws (holes 𝓛 π Γ))) (push 𝓛 (‵ (S.own_val r (w ∷ []))) (fills 𝓛 ps π ws (holes 𝓛 π Γ))) (k w r ws h known).prf));
         })).prf);
   }
 
@@ -124,13 +124,13 @@ module _ {M : Type 1} {𝓤 : Ura M} (𝓛 : Logic 𝓤) {R : RattleType} {κ : 
   abbrev pub mut_of : (zs : List R.Denot) → length zs ≡ length s.list → Param 𝓛
   mut_of zs e = loan (relent 𝓛 R (named 0) κ q s.ghost s.block s.offset zs (length s.list) (subst (Room R) (sym e) s.room) e)
 
-  abbrev pub shr_of : (zs : List R.Denot) → length zs ≡ length s.list → Param 𝓛
-  shr_of zs e = loan (shared 𝓛 R (named 0) κ q s.ghost s.block s.offset zs (length s.list) (subst (Room R) (sym e) s.room) e)
+  abbrev pub shr_of : (zs : List R.Denot) → length zs ≡ length s.list → ShownFree 𝓛 R → Param 𝓛
+  shr_of zs e sh = loan (shared 𝓛 R (named 0) κ q s.ghost s.block s.offset zs (length s.list) (subst (Room R) (sym e) s.room) e sh)
 
   abbrev pub mut_own : Param 𝓛
   mut_own = mut_of s.list refl
 
-  abbrev pub shr_own : Param 𝓛
+  abbrev pub shr_own : ShownFree 𝓛 R → Param 𝓛
   shr_own = shr_of s.list refl
 
   module _ (zs : List R.Denot) (e : length zs ≡ length s.list) (m : ℕ) (le : m ≤ length zs) where
@@ -143,11 +143,11 @@ module _ {M : Type 1} {𝓤 : Ura M} (𝓛 : Logic 𝓤) {R : RattleType} {κ : 
     abbrev pub mut_front : Param 𝓛
     mut_front = loan (part_lent 𝓛 elements m le (room_less R room le))
 
-    abbrev pub shr_front : Param 𝓛
-    shr_front = loan (part_shared 𝓛 elements m le (room_less R room le))
+    abbrev pub shr_front : ShownFree 𝓛 R → Param 𝓛
+    shr_front sh = loan (part_shared 𝓛 elements m le (room_less R room le) sh)
 
-  abbrev pub passed_on : Param 𝓛
-  passed_on = loan (passed 𝓛 R (named 0) κ q s.ghost s.block s.offset s.list (length s.list))
+  abbrev pub passed_on : RowLaws R → Param 𝓛
+  passed_on lw = loan (passed 𝓛 R (named 0) κ q s.block s.offset s.list (length s.list) lw)
 
 -- ---- a local's cell taken out of its place, as an array that is lent is, and put back: no other local moves
 module _ {M : Type 1} {𝓤 : Ura M} {𝓛 : Logic 𝓤} {K : Type 0} {Γ : List (Item 𝓤)} {G : Goal 𝓤 𝓛.H} where
