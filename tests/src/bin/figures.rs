@@ -31,7 +31,9 @@ fn numbers<const COUNT: usize>(said: &str, words: &str) -> [u64; COUNT] {
 fn crates() -> Vec<String> {
     let list = text_of("crates.txt");
     let lines = list.lines().filter(|line| !line.starts_with('#'));
-    lines.filter_map(|line| line.split_once(':')).map(|(name, _)| name.to_string()).collect()
+    // Behind the name of a static library stands that it is one.
+    let names = lines.filter_map(|line| line.split_once(':')?.0.split_whitespace().next());
+    names.map(str::to_string).collect()
 }
 
 /// The sum of a count in the prover's verdicts, `functions=16`, of all crates.
