@@ -1,7 +1,7 @@
-// The calls for programs in other languages, and the version. A setup and a head are arrays of their numbers, in the
-// order of their fields, and beside them stand the marks of the hours as 21 bytes, first hour in the highest bit. The result is the
-// answer's kind; its values go over the front of an array, and what stands behind them stays.
-// Nothing is asked of the caller but pointers that are good for what is behind them, none lent twice.
+// The five calls over numbers in arrays, and the version, for the crate that exports them to programs in other languages. A setup and a head
+// are arrays of their numbers, in the order of their fields, and beside them stand the marks of the hours as 21 bytes, first hour in the
+// highest bit. The result is the answer's kind; its values go over the front of an array, and what stands behind them stays.
+// Nothing is asked of the caller.
 #![tactic(auto)]
 
 mod numbers;
@@ -12,22 +12,20 @@ ghost use Rattle.spec.specs.Calls.Chart.{chart_output};
 ghost use Rattle.spec.specs.Calls.{opening, submit, tick, report, chart};
 ghost use Rattle.welsbell.specs.Numbers.{version, setup_with, head_of, Exported};
 
-use numbers::{HEAD_WIDTH, MARK_BYTES, MOST_VALUES, SETUP_WIDTH};
+pub use numbers::{HEAD_WIDTH, MARK_BYTES, MOST_VALUES, SETUP_WIDTH};
 use spec::types::Request;
 
 const VERSION: u64 = 4;
 
 // The archive's version: a header of another version does not fit it.
-#[unsafe(no_mangle)]
-pub extern "C" fn welsbell_version() -> u64
+pub fn welsbell_version() -> u64
     ensures { result ≡ version }
 {
     VERSION
 }
 
 // Open: every record of both tables becomes zero.
-#[unsafe(no_mangle)]
-pub extern "C" fn welsbell_open(
+pub fn welsbell_open(
     head: &mut [u64; HEAD_WIDTH],
     hours: &mut [u8; MARK_BYTES],
     waiting: &mut [Request],
@@ -51,8 +49,7 @@ pub extern "C" fn welsbell_open(
 }
 
 // Submit: a request of a client with a deadline.
-#[unsafe(no_mangle)]
-pub extern "C" fn welsbell_submit(
+pub fn welsbell_submit(
     head: &mut [u64; HEAD_WIDTH],
     hours: &[u8; MARK_BYTES],
     waiting: &mut [Request],
@@ -73,8 +70,7 @@ pub extern "C" fn welsbell_submit(
 }
 
 // Tick: one slot passes.
-#[unsafe(no_mangle)]
-pub extern "C" fn welsbell_tick(
+pub fn welsbell_tick(
     head: &mut [u64; HEAD_WIDTH],
     hours: &[u8; MARK_BYTES],
     waiting: &mut [Request],
@@ -93,8 +89,7 @@ pub extern "C" fn welsbell_tick(
 }
 
 // Report: a client's three counts and its waiting count. Head and tables are only read.
-#[unsafe(no_mangle)]
-pub extern "C" fn welsbell_report(
+pub fn welsbell_report(
     head: &[u64; HEAD_WIDTH],
     hours: &[u8; MARK_BYTES],
     waiting: &[Request],
@@ -113,8 +108,7 @@ pub extern "C" fn welsbell_report(
 }
 
 // Chart: the start slots into the output. Head and tables are only read.
-#[unsafe(no_mangle)]
-pub extern "C" fn welsbell_chart(
+pub fn welsbell_chart(
     head: &[u64; HEAD_WIDTH],
     hours: &[u8; MARK_BYTES],
     waiting: &[Request],

@@ -8,14 +8,14 @@ use queue::Reply;
 use spec::types::{Answer, Head, Setup};
 
 // How many numbers there are: a setup's beside its marks, a head's, which are its setup's and three more, and an answer's at most.
-pub(crate) const SETUP_WIDTH: usize = 3;
+pub const SETUP_WIDTH: usize = 3;
 
-pub(crate) const HEAD_WIDTH: usize = SETUP_WIDTH + 3;
+pub const HEAD_WIDTH: usize = SETUP_WIDTH + 3;
 
-pub(crate) const MOST_VALUES: usize = 5;
+pub const MOST_VALUES: usize = 5;
 
 // How many bytes the 168 marks are.
-pub(crate) const MARK_BYTES: usize = 21;
+pub const MARK_BYTES: usize = 21;
 
 // A byte as a number of 64 bits.
 fn wide(byte: u8) -> u64
