@@ -1,5 +1,5 @@
 pub mod Reply
-pub mod Refusal
+pub mod Matches
 pub mod Open
 pub mod Submit
 pub mod Tick

@@ -1,29 +1,31 @@
-// Chart, the call: its refusal, and what it hands back.
+// Chart, the call: why it is refused, and what it hands back.
 ghost use Rattle.std.specs.Prelude.{◌≡◌};
-ghost use Rattle.decide.specs.Chart.{chart_match, chart_reply};
+ghost use Rattle.spec.specs.Tables.{state_of};
+ghost use Rattle.spec.specs.Setup.{first_match};
+ghost use Rattle.spec.specs.Reasons.{refused_by};
+ghost use Rattle.spec.specs.Calls.Chart.{chart_refusals};
+ghost use Rattle.decide.specs.Chart.{chart_reply};
 
-use crate::reply;
-use spec::types::{Answer, Head, Reply};
+use sound::check::check_tables;
+use spec::types::{Answer, Head, Reason, Reply, Request};
 
-// The number of the first refusal that matches, or 0, by the length of the output.
-pub fn refusal(tables: u64, head: Head, entries: usize) -> u64
-    ensures { result ≡ chart_match tables head entries }
+// Why a chart is refused, by the first refusal that matches.
+pub fn check(head: Head, waiting: &[Request], clients: &[u32], output: &[u64]) -> Result<(), Reason>
+    ensures { refused_by result ≡ first_match (chart_refusals output.now (state_of head waiting.now clients.now)) }
 {
-    if tables != 0 {
-        return tables;
+    check_tables(waiting, clients, head)?;
+    if (output.len() as u64) < head.waiting {
+        return Err(Reason::ShortOutput);
     }
-    if (entries as u64) < head.waiting {
-        return 12;
-    }
-    0
+    Ok(())
 }
 
 // The reply of a chart: how many start slots it writes.
-pub fn reply(head: Head, refusal: u64) -> Reply
-    ensures { result ≡ chart_reply refusal head }
+pub fn reply(head: Head) -> Reply
+    ensures { result ≡ chart_reply head }
 {
     let answer = Answer::Charted {
         count: head.waiting,
     };
-    reply::unless(refusal, head, Reply { head, answer })
+    Reply { head, answer }
 }

@@ -1,4 +1,5 @@
-// What each call has to do, by values alone: its refusal, what becomes of the client table, and what it hands back. A file a call.
+// What each call has to do: why it is refused, what becomes of the client table, and what it hands back. A file a call.
+// Head and tables are three arguments, since a caller of the library lends them so.
 #![tactic(auto)]
 
 pub mod chart;

@@ -1,54 +1,41 @@
-// Open: its refusal, and what it hands back.
+// Open: why it is refused, and what it hands back.
 ghost use Rattle.std.specs.Prelude.{◌≡◌};
-ghost use Rattle.decide.specs.Open.{open_match, open_reply, open_numbers};
+ghost use Rattle.spec.specs.declared.types.Head.{Head};
+ghost use Rattle.spec.specs.Tables.{state_of};
+ghost use Rattle.spec.specs.Setup.{first_match};
+ghost use Rattle.spec.specs.Reasons.{refused_by};
+ghost use Rattle.spec.specs.Calls.Open.{open_refusals};
+ghost use Rattle.decide.specs.Open.{open_reply};
 
-use crate::reply;
-use sound::check;
+use sound::check::check_setup;
 use spec::bounds;
-use spec::types::{Answer, Head, Reply, Setup};
-use table::clients;
+use spec::types::{Answer, Head, Reason, Reply, Request, Setup};
+use table::clients::are_records;
 
-// The number of the first refusal that matches, or 0, by the lengths of the tables.
-pub fn refusal(setup: Setup, records: usize, numbers: usize) -> u64
-    ensures { result ≡ open_match setup records numbers }
+// Why an open is refused, by the first refusal that matches, whatever the head.
+pub fn check(waiting: &[Request], clients: &[u32], setup: Setup) -> Result<(), Reason>
+    ensures { (head : Head) → refused_by result ≡ first_match (open_refusals setup (state_of head waiting.now clients.now)) }
 {
-    let bad = check::setup_refusal(setup);
-    if bad != 0 {
-        return bad;
+    check_setup(setup)?;
+    if !((1 <= waiting.len()) & (waiting.len() <= bounds::MOST_RECORDS)) {
+        return Err(Reason::Lengths);
     }
-    if !((1 <= records) & (records <= bounds::MOST_RECORDS)) {
-        return 4;
+    if !are_records(clients.len(), setup.clients) {
+        return Err(Reason::Lengths);
     }
-    if !clients::are_records(numbers, setup.clients) {
-        return 4;
-    }
-    0
-}
-
-// Every count of the client table becomes 0, unless open is refused.
-pub fn clear_counts(numbers: &mut [u32], refusal: u64)
-    ensures { numbers.new ≡ open_numbers refusal numbers.old }
-{
-    if refusal != 0 {
-        return;
-    }
-    clients::clear(numbers);
+    Ok(())
 }
 
 // The reply of an open: a head that has this setup, and nothing else in it.
-pub fn reply(head: Head, refusal: u64, setup: Setup) -> Reply
-    ensures { result ≡ open_reply refusal head setup }
+pub fn reply(setup: Setup) -> Reply
+    ensures { result ≡ open_reply setup }
 {
-    let opened = Head {
+    let head = Head {
         setup,
-        clock: 0,
-        last: 0,
-        waiting: 0,
+        ..Head::default()
     };
-    let answer = Answer::Opened;
-    let accepted = Reply {
-        head: opened,
-        answer,
-    };
-    reply::unless(refusal, head, accepted)
+    Reply {
+        head,
+        answer: Answer::Opened,
+    }
 }

@@ -1,44 +1,24 @@
-// What the replies of several calls are made of.
-ghost use Rattle.std.specs.Prelude.{◌≡◌, cond, eqb};
-ghost use Rattle.table.specs.Widths.{largest64, saturating_next};
-ghost use Rattle.decide.specs.Reply.{refused_with, reply_unless};
+// What a call hands back, refused or not.
+ghost use Rattle.std.specs.Prelude.{◌≡◌};
+ghost use Rattle.spec.specs.Reasons.{number_of};
+ghost use Rattle.decide.specs.Reply.{refused_with, reply_by};
 
-use spec::types::{Answer, Head, Reply};
+use spec::types::{Answer, Head, Reason, Reply};
 
 // A refused call hands the head back as it was, and answers with its number only.
-pub(crate) fn refused(head: Head, number: u64) -> Reply
-    ensures { result ≡ refused_with head number }
+fn refused(head: Head, why: Reason) -> Reply
+    ensures { result ≡ refused_with head (number_of why) }
 {
-    let answer = Answer::Refused { number };
+    let answer = Answer::Refused { number: why.into() };
     Reply { head, answer }
 }
 
-// What a call hands back that does `accepted` where it is not refused.
-pub fn unless(refusal: u64, head: Head, accepted: Reply) -> Reply
-    ensures { result ≡ reply_unless refusal head accepted }
+// What a call hands back that was lent this head: what it came to or, where it is refused, the refusal.
+pub fn unless_refused(head: Head, done: Result<Reply, Reason>) -> Reply
+    ensures { result ≡ reply_by head done }
 {
-    if refusal != 0 {
-        return refused(head, refusal);
+    match done {
+        Ok(reply) => reply,
+        Err(why) => refused(head, why),
     }
-    accepted
-}
-
-// So many records of the table, or none where the call is refused.
-pub fn unless_refused(refusal: u64, records: u64) -> usize
-    ensures { result ≡ cond (eqb refusal 0) records 0 }
-{
-    if refusal == 0 {
-        return records as usize;
-    }
-    0
-}
-
-// One more, up to the largest number: no number of a sound state is that.
-pub(crate) fn saturating_next(x: u64) -> u64
-    ensures { result ≡ saturating_next largest64 x }
-{
-    if x == u64::MAX {
-        return x;
-    }
-    x + 1
 }

@@ -1,38 +1,37 @@
-// Report: its refusal, and what it hands back.
+// Report: why it is refused, and what it hands back.
 ghost use Rattle.std.specs.Prelude.{◌≡◌, get_or};
-ghost use Rattle.spec.specs.Tables.{zero_counts, records_of};
-ghost use Rattle.decide.specs.Report.{report_match, report_reply};
+ghost use Rattle.spec.specs.Tables.{zero_counts, records_of, state_of};
+ghost use Rattle.spec.specs.Setup.{first_match};
+ghost use Rattle.spec.specs.Reasons.{refused_by};
+ghost use Rattle.spec.specs.Calls.Report.{report_refusals};
+ghost use Rattle.decide.specs.Report.{report_reply};
 
-use crate::reply;
-use spec::types::{Answer, Head, Reply};
-use table::clients;
+use sound::check::check_tables;
+use spec::types::{Answer, Head, Reason, Reply, Request};
+use table::clients::{counts_at, waiting_count};
 
-// The number of the first refusal that matches, or 0.
-pub fn refusal(tables: u64, head: Head, client: u64) -> u64
-    ensures { result ≡ report_match tables head client }
+// Why a report is refused, by the first refusal that matches.
+pub fn check(head: Head, waiting: &[Request], clients: &[u32], client: u64) -> Result<(), Reason>
+    ensures { refused_by result ≡ first_match (report_refusals client (state_of head waiting.now clients.now)) }
 {
-    if tables != 0 {
-        return tables;
-    }
+    check_tables(waiting, clients, head)?;
     if head.setup.clients <= client {
-        return 6;
+        return Err(Reason::UnknownClient);
     }
-    0
+    Ok(())
 }
 
 // The reply of a report: the client's counts. What it submitted and was neither served nor dropped waits.
-pub fn reply(head: Head, numbers: &[u32], refusal: u64, client: u64) -> Reply
-    ensures { result ≡ report_reply refusal head client
-        (get_or (records_of numbers.now) client zero_counts) }
+pub fn reply(head: Head, clients: &[u32], client: u64) -> Reply
+    ensures { result ≡ report_reply head client (get_or (records_of clients.now) client zero_counts) }
 {
-    let k = clients::counts_at(numbers, client);
-    let waiting = clients::waiting_count(k);
+    let k = counts_at(clients, client);
     let answer = Answer::Reported {
         client,
-        submitted: k.submitted as u64,
-        served: k.served as u64,
-        dropped: k.dropped as u64,
-        waiting,
+        submitted: k.submitted.into(),
+        served: k.served.into(),
+        dropped: k.dropped.into(),
+        waiting: waiting_count(k),
     };
-    reply::unless(refusal, head, Reply { head, answer })
+    Reply { head, answer }
 }

@@ -1,45 +1,33 @@
-// Submit: its refusal, what it decides, and what it hands back. `tables` is what the tables call for, 4 or 5 or 0, however it was
-// found: refusals 4 and 5 stand first in every list but open's.
-ghost use Rattle.std.specs.Prelude.{◌≡◌, ◌-◌, ◌≤◌, ◌<◌, length, get_or};
-ghost use Rattle.spec.specs.Tables.{zero_counts, records_of};
-ghost use Rattle.table.specs.Widths.{largest32};
-ghost use Rattle.table.specs.Records.{shift_at};
-ghost use Rattle.occupancy.specs.Scans.{counts_with};
-ghost use Rattle.decide.specs.declared.submit.Decision.TheVariants.{Refuse};
-ghost use Rattle.decide.specs.Submit.{submit_match, choice_by, place_without, numbered_request, head_after_submit, kept_with};
-ghost use Rattle.decide.specs.Submit.{insertion_of, dropped_with, submit_reply, submit_numbers};
+// Submit: why it is refused, what it decides, what becomes of the client table, and what it hands back.
+ghost use Rattle.std.specs.Prelude.{◌≡◌, ◌-◌, ◌≤◌};
+ghost use Rattle.spec.specs.Tables.{state_of};
+ghost use Rattle.spec.specs.Setup.{first_match};
+ghost use Rattle.spec.specs.Reasons.{refused_by};
+ghost use Rattle.spec.specs.Calls.Submit.{submit_refusals};
+ghost use Rattle.decide.specs.Submit.{place_without, numbered_request, head_after_submit, kept_with, dropped_with, submit_reply, submit_numbers};
 
-use crate::reply;
 use hours::calendar;
-use occupancy::overfull;
+use sound::check::check_tables;
 use spec::bounds;
-use spec::types::{Answer, Head, Reply, Request};
-use table::clients::Count;
-use table::{clients, waiting};
+use spec::types::{Answer, Head, Reason, Reply, Request};
+use table::clients::{Count, add_one, counts_at};
 
-// What a submit does to the waiting table.
-#[derive(Clone, Copy)]
+// What a submit does to the waiting table. A value and no closure: it is said while the table is still read, and is done when it is not.
+#[derive(Clone, Copy, PartialEq, Eq)]
 pub enum Decision {
-    Refuse { number: u64 },
     // The new record goes in at `place`.
     Keep { place: usize },
     // The new record goes in at `place`, and then the one at `victim` is taken out.
     Drop { place: usize, victim: usize },
 }
 
-// What became of the new record: which one went out for it, itself where none did, and how many waiting records stood behind it when
-// it was put in.
-#[derive(Clone, Copy)]
+// What became of the new record: its place, how many waiting records stood behind it when it was put in, and which one went out for it,
+// where one did.
+#[derive(Clone, Copy, PartialEq, Eq)]
 pub struct Insertion {
-    pub gone: Request,
+    pub place: usize,
     pub shift: usize,
-}
-
-// The two together, made by a call, since a proof by hand goes over calls.
-pub fn insertion_of(gone: Request, shift: usize) -> Insertion
-    ensures { result ≡ insertion_of gone shift }
-{
-    Insertion { gone, shift }
+    pub gone: Option<Request>,
 }
 
 // By how many slots a deadline is past the clock, open and closed ones counted.
@@ -50,72 +38,39 @@ fn slots_ahead(head: Head, deadline: u64) -> u64
     deadline - head.clock
 }
 
-// The number of the first refusal that matches, or 0.
-pub fn refusal(
-    tables: u64,
+// Why a submit is refused, by the first refusal that matches.
+pub fn check(
     head: Head,
-    records: usize,
-    numbers: &[u32],
+    waiting: &[Request],
+    clients: &[u32],
     client: u64,
     deadline: u64,
-) -> u64
-    ensures { result ≡ submit_match tables head records numbers.now client deadline }
+) -> Result<(), Reason>
+    ensures { refused_by result ≡ first_match (submit_refusals client deadline (state_of head waiting.now clients.now)) }
 {
-    if tables != 0 {
-        return tables;
-    }
+    check_tables(waiting, clients, head)?;
     if head.setup.clients <= client {
-        return 6;
+        return Err(Reason::UnknownClient);
     }
     if deadline <= head.clock {
-        return 7;
+        return Err(Reason::Deadline);
     }
     if bounds::MOST_AHEAD < slots_ahead(head, deadline) {
-        return 7;
+        return Err(Reason::Deadline);
     }
     if !calendar::is_any_open(head.setup, head.clock, deadline) {
-        return 15;
+        return Err(Reason::NoOpenSlot);
     }
-    if clients::counts_at(numbers, client).submitted == bounds::MOST_COUNTED {
-        return 8;
+    if counts_at(clients, client).submitted == bounds::MOST_COUNTED {
+        return Err(Reason::Submitted);
     }
     if head.last == bounds::NUMBER_END {
-        return 9;
+        return Err(Reason::LastNumber);
     }
-    if head.waiting == records as u64 {
-        return 10;
+    if head.waiting == waiting.len() as u64 {
+        return Err(Reason::TableFull);
     }
-    0
-}
-
-// The decision of a submit that is refused.
-pub fn refuse(number: u64) -> Decision
-    ensures { result ≡ Refuse number }
-{
-    Decision::Refuse { number }
-}
-
-// What a submit decides that is not refused: the new request is kept at its place or, where a deadline was found overfull, the victim
-// goes. It is found by each client's last candidate.
-pub fn choice(
-    head: Head,
-    latest: &[u16],
-    numbers: &[u32],
-    client: u64,
-    place: usize,
-    found: u64,
-) -> Decision
-    requires { (head.setup.clients ≤ length latest.now) × ((get_or (records_of numbers.now) client zero_counts).submitted < largest32) }
-    ensures { result ≡ choice_by head.setup.clients
-        (counts_with client (records_of numbers.now))
-        latest.now place found }
-{
-    if found == 0 {
-        return Decision::Keep { place };
-    }
-    let clients = head.setup.clients as usize;
-    let victim = overfull::smallest_ratio_place(latest, numbers, client, clients);
-    Decision::Drop { place, victim }
+    Ok(())
 }
 
 // A place among the waiting records and the new one, as it is where the one at `other` is left out.
@@ -130,7 +85,7 @@ fn place_without(place: usize, other: usize) -> usize
 
 // A drop as it is done to the waiting table: the record at `out` goes and the new one goes in at `at`, as they stand without each other.
 // `shift` is how many of the waiting records stood behind the new one while all were there.
-#[derive(Clone, Copy)]
+#[derive(Clone, Copy, PartialEq, Eq)]
 pub struct Exchange {
     pub out: usize,
     pub at: usize,
@@ -139,13 +94,13 @@ pub struct Exchange {
 
 // The drop by which, of n waiting records and the new one at `place`, the one at `victim` goes.
 pub fn exchange_of(n: usize, place: usize, victim: usize) -> Exchange
-    ensures { (result.out ≡ place_without victim place)
-        × (result.at ≡ place_without place victim)
-        × (result.shift ≡ shift_at n place) }
+    ensures out { result.out ≡ place_without victim place }
+    ensures at { result.at ≡ place_without place victim }
+    ensures shift { result.shift ≡ n - place }
 {
     let out = place_without(victim, place);
     let at = place_without(place, victim);
-    let shift = waiting::shift_at(n, place);
+    let shift = n.saturating_sub(place);
     Exchange { out, at, shift }
 }
 
@@ -153,33 +108,20 @@ pub fn exchange_of(n: usize, place: usize, victim: usize) -> Exchange
 pub fn new_request(head: Head, client: u64, deadline: u64) -> Request
     ensures { result ≡ numbered_request head client deadline }
 {
-    let number = reply::saturating_next(head.last);
     Request {
         deadline,
-        number,
+        number: head.last.saturating_add(1),
         client,
     }
 }
 
-// The new request is counted in submitted and, where one is dropped, that one in dropped. `gone` is the record that went out of the
-// waiting table, or the new one.
-pub fn count(numbers: &mut [u32], decision: Decision, client: u64, gone: Request)
-    ensures { numbers.new ≡ submit_numbers client gone decision numbers.old }
+// The new request is counted in submitted and, where one went out for it, that one in dropped.
+pub fn count(clients: &mut [u32], client: u64, gone: Option<Request>)
+    ensures { clients.new ≡ submit_numbers client gone clients.old }
 {
-    match decision {
-        Decision::Refuse { number: _ } => {
-            return;
-        }
-        Decision::Keep { place: _ } => {
-            clients::add_one(numbers, client, Count::Submitted);
-        }
-        Decision::Drop {
-            place: _,
-            victim: _,
-        } => {
-            clients::add_one(numbers, client, Count::Submitted);
-            clients::add_one(numbers, gone.client, Count::Dropped);
-        }
+    add_one(clients, client, Count::Submitted);
+    if let Some(victim) = gone {
+        add_one(clients, victim.client, Count::Dropped);
     }
 }
 
@@ -187,13 +129,10 @@ pub fn count(numbers: &mut [u32], decision: Decision, client: u64, gone: Request
 fn head_after_submit(head: Head, waiting: u64) -> Head
     ensures { result ≡ head_after_submit head waiting }
 {
-    let setup = head.setup;
-    let last = reply::saturating_next(head.last);
     Head {
-        setup,
-        clock: head.clock,
-        last,
+        last: head.last.saturating_add(1),
         waiting,
+        ..head
     }
 }
 
@@ -201,8 +140,7 @@ fn head_after_submit(head: Head, waiting: u64) -> Head
 fn kept(head: Head, place: usize, shift: usize) -> Reply
     ensures { result ≡ kept_with head place shift }
 {
-    let waiting = reply::saturating_next(head.waiting);
-    let after = head_after_submit(head, waiting);
+    let after = head_after_submit(head, head.waiting.saturating_add(1));
     let answer = Answer::Kept {
         number: after.last,
         place: place as u64,
@@ -215,15 +153,15 @@ fn kept(head: Head, place: usize, shift: usize) -> Reply
 }
 
 // The reply where one is dropped: the new number, which one went out, and how many stood behind the new one before it did.
-fn dropped(head: Head, insertion: Insertion) -> Reply
-    ensures { result ≡ dropped_with head insertion }
+fn dropped(head: Head, victim: Request, shift: usize) -> Reply
+    ensures { result ≡ dropped_with head victim shift }
 {
     let after = head_after_submit(head, head.waiting);
     let answer = Answer::Dropped {
         number: after.last,
-        victim: insertion.gone.number,
-        client: insertion.gone.client,
-        shift: insertion.shift as u64,
+        victim: victim.number,
+        client: victim.client,
+        shift: shift as u64,
     };
     Reply {
         head: after,
@@ -231,16 +169,12 @@ fn dropped(head: Head, insertion: Insertion) -> Reply
     }
 }
 
-// The reply of a submit, by what it decided.
-pub fn reply(head: Head, decision: Decision, insertion: Insertion) -> Reply
-    ensures { result ≡ submit_reply head insertion decision }
+// The reply of a submit, by what became of the new record.
+pub fn reply(head: Head, insertion: Insertion) -> Reply
+    ensures { result ≡ submit_reply head insertion }
 {
-    match decision {
-        Decision::Refuse { number } => reply::refused(head, number),
-        Decision::Keep { place } => kept(head, place, insertion.shift),
-        Decision::Drop {
-            place: _,
-            victim: _,
-        } => dropped(head, insertion),
+    match insertion.gone {
+        None => kept(head, insertion.place, insertion.shift),
+        Some(victim) => dropped(head, victim, insertion.shift),
     }
 }

@@ -1,15 +1,19 @@
 -- Laws of frames: a line of digits is what its kind byte and its length make it, and which lines are none. Assumes nothing.
 use Prim.Native.Nat.{ℕ, ◌≤◌}
-use mathlib.Core.Path.{◌≡◌, refl, sym, ◌∙◌}
-use mathlib.Core.Bool.{Bool, true, false, and-false}
+use mathlib.Core.Path.{◌≡◌, refl, ◌∙◌}
+use mathlib.Core.Bool.{true, false, cond, and-false}
 use mathlib.Core.List.{List, [], ◌∷◌, map}
 use native.Mathlib.Omega.{arith}
-use borrow.Author.Tests.{ne_eqb}
+use borrow.Author.Tests.{ne_eqb, eq-eqb}
+use lib.Dec.{eqb}
 use lib.ListN.{length}
 use Rattle.slots.proofs.Laws.Sums.{All}
 use Rattle.spec.specs.declared.types.Frame.TheVariants.{Bad}
 use Rattle.spec.specs.Every.{every, largest}
-use Rattle.spec.specs.Lines.Frames.{is_digit, field_at, FrameKind, digits_for, frame_kinds, frame_among, frame_with, frame_of}
+use Rattle.spec.specs.Lines.Frames.{is_digit, field_at, FrameKind, digits_for, frame_kinds, frame_among, frame_with, frame_in, frame_of}
+use Rattle.frame.specs.declared.frames.Kind.{Kind}
+use Rattle.frame.specs.declared.frames.Kind.TheVariants.{Open, Submit, Tick, Report, Chart}
+use Rattle.frame.specs.Kinds.{named}
 use Rattle.spec.specs.Lines.Frames.{longest_frame}
 use Rattle.spec.proofs.Laws.Every.{is_true, is_false, value}
 
@@ -18,11 +22,6 @@ pub frame_digits : (line : List ℕ) → every is_digit line ≡ true
     → frame_of line ≡ frame_among frame_kinds (field_at 0 1 line) (length line) line
 unfolding frame_of frame_with
 frame_digits line e = rw e
-
--- .. and where the kind byte is read, which computes the kind of the list
-pub frame_read : (line : List ℕ) (all : Bool) (read byte : ℕ) → all ≡ every is_digit line → all ≡ true
-    → read ≡ field_at 0 1 line → read ≡ byte → frame_of line ≡ frame_among frame_kinds byte (length line) line
-frame_read line all read byte e t k is = rw (← is, k) (frame_digits line (sym e ∙ t))
 
 pub frame_other : (line : List ℕ) → every is_digit line ≡ false → frame_of line ≡ Bad
 unfolding frame_of
@@ -51,3 +50,30 @@ frame_length line none =
       | is_true e ↦ frame_digits line e ∙ no_length (field_at 0 1 line) (length line) line frame_kinds none
       | is_false e ↦ frame_other line e
     ]
+
+-- a line of digits whose kind byte is read
+module _ (line digits : List ℕ) (byte : ℕ) (same : digits ≡ line) (all : every is_digit digits ≡ true) (read : byte ≡ field_at 0 1 digits) where
+  with_byte : frame_of line ≡ frame_among frame_kinds byte (length line) line
+  with_byte = rw (read, ← same) (frame_digits digits all)
+
+  pub frame_unknown : ((kind : Kind) → byte ≡ (named kind).kind → ⊥) → frame_of line ≡ Bad
+  frame_unknown none =
+      with_byte ∙ unknown_kind byte (length line) line frame_kinds (none Open, (none Submit, (none Tick, (none Report, (none Chart, tt)))))
+
+  -- of a kind that the code names, by its length
+  of_kind : (kind : Kind) → byte ≡ (named kind).kind
+      → frame_among frame_kinds byte (length line) line
+      ≡ cond (eqb (length line) (digits_for (named kind).widths)) (frame_in (named kind) line) Bad
+  of_kind Open e = rw e
+  of_kind Submit e = rw e
+  of_kind Tick e = rw e
+  of_kind Report e = rw e
+  of_kind Chart e = rw e
+
+  pub frame_short : (kind : Kind) → byte ≡ (named kind).kind → (length line ≡ digits_for (named kind).widths → ⊥)
+      → frame_of line ≡ Bad
+  frame_short kind e other = with_byte ∙ rw (of_kind kind e, ne_eqb (length line) (digits_for (named kind).widths) other)
+
+  pub frame_known : (kind : Kind) → byte ≡ (named kind).kind → length line ≡ digits_for (named kind).widths
+      → frame_of line ≡ frame_in (named kind) digits
+  frame_known kind e long = with_byte ∙ rw (of_kind kind e, eq-eqb (length line) (digits_for (named kind).widths) long, same)

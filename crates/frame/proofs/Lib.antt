@@ -1,5 +1,4 @@
 pub mod FieldDigits
 pub mod FrameKinds
 pub mod LineParts
-pub mod Reader
 pub mod LinesPut

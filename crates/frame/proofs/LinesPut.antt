@@ -1,58 +1,78 @@
--- Laws of what is put one part behind the other: lines, and the segments' lines. Assumes nothing.
-use Prim.Native.Nat.{ℕ, ◌+◌, ◌*◌, ◌≤◌}
-use mathlib.Core.List.{List, [], ◌∷◌, ◌++◌, append_assoc, append-nil}
-use mathlib.Core.Path.{◌≡◌, sym, ap}
+-- Laws of what is written one part behind the other: fields, lines, and the segments' lines. Assumes nothing.
+use Prim.Native.Nat.{ℕ, suc, ◌+◌, ◌-◌, ◌*◌, ◌≤◌, ◌<◌}
+use mathlib.Core.Bool.{Bool, true, false, cond}
+use mathlib.Core.List.{List, [], ◌∷◌, ◌++◌, map, append_assoc, append-nil}
+use mathlib.Core.Path.{◌≡◌, ap}
+use native.Mathlib.Numerals.{add-one}
 use native.Mathlib.Omega.{arith}
-use lib.ListN.{length, take, drop, length-append}
-use lib.Seq.{length-take-le}
+use borrow.Rule.Slice.PartMut.{put_mid, take_put, post_of}
+use lib.ListN.{length, get_or, take, drop, drop_of_length-le, length-take, length-drop}
+use lib.Seq.{take-add, drop_at, drop-cons, length-take-le}
+use Rattle.std.proofs.lemmas.List.{take-append-le}
 use Rattle.spec.specs.declared.types.Setup.{Setup}
-use Rattle.spec.specs.declared.types.Answer.{Answer}
-use Rattle.spec.specs.Chart.{Segment, segments_of}
+use Rattle.spec.specs.Chart.{Segment, do_touch, join_left, segments_of}
 use Rattle.spec.specs.Calls.Readings.{Field, field}
-use Rattle.spec.specs.Lines.Frames.{line_feed, digits, field_digits, line_of, answer_line, segment_lines, answer_lines, lines_by}
+use Rattle.spec.specs.Lines.Frames.{line_feed, digits, field_digits, line_of, segment_lines}
 use Rattle.occupancy.specs.Charted.{segment}
-use Rattle.spec.proofs.Laws.Answers.{NotCharted, not_charted}
-use Rattle.table.proofs.Remaining.{rest_none}
+use Rattle.frame.specs.declared.answers.Field.{Field as WrittenField}
+use Rattle.frame.specs.Written.{written}
+use Rattle.frame.specs.LineLengths.{line_length}
 
--- ---- lines
--- a part behind a part
-pub joined : (a x y : List ℕ) {b c : List ℕ} → b ≡ a ++ x → c ≡ b ++ y → c ≡ a ++ (x ++ y)
-joined a x y p q = rw (q, p) (append_assoc a x y)
+-- ---- parts
+-- what is written at the front of the part from a on stands behind the first a
+pub written_behind : (a r : ℕ) (xs ys bytes : List ℕ) → a + r ≤ length xs → length ys ≡ length (take (length xs - a) (drop a xs))
+    → take r ys ≡ bytes → take (a + r) (put_mid a (length xs - a) xs ys) ≡ take a xs ++ bytes
+written_behind a r xs ys bytes h l e =
+    let k = length xs - a in
+    let m : a ≤ length xs = omega arith in
+    let n : r ≤ length ys = omega (arith, l, length-take k (drop a xs), length-drop a xs) in
+    rw (
+      take-add a r (put_mid a k xs ys),
+      take_put a k xs ys m,
+      drop_at (take a xs) (ys ++ post_of a k xs) a (length-take-le a xs m),
+      take-append-le r ys (post_of a k xs) n,
+      e,
+    )
 
 -- where it ends
-pub put_ends : (r at most : ℕ) (before after bytes : List ℕ) → r ≤ at + most → at + most ≤ length before
-    → length after ≡ length before → take r after ≡ take at before ++ bytes
-    → (r ≡ at + length bytes) × (r ≤ at + most) × (take r after ≡ take at before ++ bytes)
-put_ends r at most before after bytes short room long e = (
-  omega (
-    arith,
-    ap length e,
-    length-append (take at before) bytes,
-    length-take-le r after (omega arith),
-    length-take-le at before (omega arith),
-  ),
-  short,
-  e,
-)
+pub written_ends : (r most : ℕ) (xs bytes : List ℕ) → r ≤ length xs → r ≤ most → take r xs ≡ bytes
+    → (r ≡ length bytes) × (r ≤ most) × (take r xs ≡ bytes)
+written_ends r most xs bytes h m e = (omega (arith, length-take-le r xs h, ap length e), m, e)
 
-infixr 20 ◌▸◌
--- fields put one behind the other: what stands before them, and what stands with them
-pub data FieldsPut : List ℕ → List Field → List ℕ → Type 0 where
-  none : {a : List ℕ} → FieldsPut a [] a
-  ◌▸◌ : {a b c : List ℕ} {width value : ℕ} {fs : List Field}
-      → b ≡ a ++ digits (2 * width) value → FieldsPut b fs c → FieldsPut a (field width value ∷ fs) c
-
-fields_put : {a b : List ℕ} {fs : List Field} → FieldsPut a fs b → b ≡ a ++ field_digits fs
+-- ---- fields
+pub field_first : (a : List ℕ) (kind : ℕ) (fs : List Field) → a ≡ digits 2 kind
+    → a ++ field_digits fs ≡ field_digits (field 1 kind ∷ fs)
 unfolding field_digits
-fields_put {a = a} none = sym (append-nil a)
-fields_put {a = a} (◌▸◌ {width = width} {value = value} {fs = fs} e p) =
-    joined a (digits (2 * width) value) (field_digits fs) e (fields_put p)
+field_first a kind fs e = rw e
 
--- .. and the line that they make
-pub line_put : (a : List ℕ) (kind : ℕ) (fs : List Field) {b c : List ℕ}
-    → FieldsPut a (field 1 kind ∷ fs) b → c ≡ b ++ (line_feed ∷ []) → c ≡ a ++ line_of kind fs
+pub field_more : (a b : List ℕ) (fs : List WrittenField) (i : ℕ) (d : WrittenField) → i < length fs
+    → b ≡ a ++ digits (2 * (get_or fs i d).width) (get_or fs i d).value
+    → b ++ field_digits (map written (drop (i + 1) fs)) ≡ a ++ field_digits (map written (drop i fs))
+unfolding field_digits
+field_more a b fs i d h e =
+    rw (
+      add-one,
+      drop-cons fs i d h,
+      e,
+      append_assoc a (digits (2 * (get_or fs i d).width) (get_or fs i d).value) (field_digits (map written (drop (suc i) fs))),
+    )
+
+-- .. and how long what is left is
+pub field_length : (fs : List WrittenField) (i : ℕ) (d : WrittenField) (count : ℕ) → i < length fs → count ≡ 2 * (get_or fs i d).width
+    → count + line_length (map written (drop (i + 1) fs)) ≡ line_length (map written (drop i fs))
+field_length fs i d count h e = rw (add-one, drop-cons fs i d h) (omega arith)
+
+-- behind the last field the line feed
+pub fields_end : (a : List ℕ) (kind : ℕ) (fs : List WrittenField) (i : ℕ) → length fs ≤ i
+    → a ++ field_digits (map written (drop i fs)) ≡ field_digits (field 1 kind ∷ map written fs)
+    → a ++ (line_feed ∷ []) ≡ line_of kind (map written fs)
 unfolding line_of field_digits
-line_put a kind fs p e = rw (e, fields_put p) (simp append_assoc)
+fields_end a kind fs i h e =
+    let all = rw (drop_of_length-le fs {i = i} h, append-nil) at e in
+    rw all (append_assoc (digits 2 kind) (field_digits (map written fs)) (line_feed ∷ []))
+
+pub none_left : (fs : List WrittenField) (i : ℕ) → length fs ≤ i → line_length (map written (drop i fs)) ≡ 3
+none_left fs i h = rw (drop_of_length-le fs {i = i} h)
 
 -- ---- segments
 -- a segment's line, and the lines of those on its right
@@ -62,12 +82,18 @@ pub segment_put : (a : List ℕ) (left right : ℕ) (gs : List Segment) {b : Lis
 unfolding segment_lines
 segment_put a left right gs e = rw e (append_assoc a (line_of 0x87 (field 8 left ∷ field 8 right ∷ [])) (segment_lines gs))
 
--- .. and behind the last start slot there is none
-pub segments_end : (setup : Setup) (starts : List ℕ) (n i : ℕ) → n ≤ i → segments_of setup (drop i (take n starts)) ≡ []
-unfolding segments_of
-segments_end setup starts n i h = rw (rest_none starts n i h)
+-- there are at most as many as start slots
+join_most : (setup : Setup) (s : ℕ) (gs : List Segment) → length (join_left setup s gs) ≤ suc (length gs)
+join_most setup s [] = omega arith
+join_most setup s (g ∷ gs) = go (do_touch setup (suc s) g.left)
+  where
+    go : (b : Bool)
+        → length (cond b (segment s g.right ∷ gs) (segment s (suc s) ∷ g ∷ gs)) ≤ suc (suc (length gs))
+    go true = omega arith
+    go false = omega arith
 
--- ---- replies
--- an answer of a variant that is not a chart's is its line
-pub line_alone : (setup : Setup) (a : Answer) (starts : List ℕ) → NotCharted a → answer_lines setup starts a ≡ answer_line a
-line_alone setup a starts other = ap (λ (counts : List ℕ). lines_by counts setup starts a) (not_charted a other)
+pub segments_most : (setup : Setup) (starts : List ℕ) → length (segments_of setup starts) ≤ length starts
+unfolding segments_of
+segments_most setup [] = omega arith
+segments_most setup (s ∷ starts) =
+    omega (arith, join_most setup s (segments_of setup starts), segments_most setup starts)

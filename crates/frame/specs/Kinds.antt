@@ -1,13 +1,18 @@
--- The frame that a line with a kind's byte is, by its length. Assumes nothing.
-use Rattle.std.specs.Prelude.{ℕ, cond, List, eqb, length}
-use Rattle.spec.specs.declared.types.Frame.{Frame}
-use Rattle.spec.specs.declared.types.Frame.TheVariants.{Bad}
-use Rattle.spec.specs.Lines.Frames.{FrameKind, digits_for, frame_in}
+-- The kinds of frames, as the code names them. Assumes nothing.
+use Rattle.std.specs.Prelude.{ℕ, ◌≡◌, ◌≢◌, Result, MatchResult}
+use Rattle.spec.specs.Lines.Frames.{FrameKind, open_kind, submit_kind, tick_kind, report_kind, chart_kind}
+use Rattle.frame.specs.declared.frames.Kind.{Kind}
+use Rattle.frame.specs.declared.frames.Kind.TheVariants.{Open, Submit, Tick, Report, Chart}
+use Rattle.frame.specs.declared.frames.UnknownKind.{UnknownKind}
 
--- "a wrong length": the frame where so many digits are those of a kind byte and of fields of these widths, and else `Bad`
-abbrev pub where_long : List ℕ → ℕ → Frame → Frame
-where_long widths count frame = cond (eqb count (digits_for widths)) frame Bad
+-- the kind that a name stands for
+abbrev pub named : Kind → FrameKind
+named Open = open_kind
+named Submit = submit_kind
+named Tick = tick_kind
+named Report = report_kind
+named Chart = chart_kind
 
--- the frame that a line with this kind's byte is
-abbrev pub frame_as : FrameKind → List ℕ → Frame
-frame_as kind line = where_long kind.widths (length line) (frame_in kind line)
+-- the kind with this byte, or, "an unknown kind", that none has it
+abbrev pub IsKindOf : ℕ → Result Kind UnknownKind → Type 0
+IsKindOf byte r = MatchResult r (λ kind. byte ≡ (named kind).kind) (λ none. (kind : Kind) → byte ≢ (named kind).kind)

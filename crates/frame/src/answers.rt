@@ -1,15 +1,14 @@
-// The lines that answer a frame, appended to an output: each function writes behind the first `at` characters and hands back where
-// its line ends.
-ghost use Rattle.std.specs.Prelude.{◌∷◌, [], ◌++◌, ◌≡◌, ℕ, ◌+◌, ◌*◌, ◌<◌, ◌≤◌, length, get_or, take};
+// The lines that answer a frame. Each `write_` writes at the front of what it is lent and hands back how many characters that are;
+// each `put_` writes behind the first `at` characters of an output and hands back where they end.
+ghost use Rattle.std.specs.Prelude.{◌++◌, ◌≡◌, ℕ, ◌+◌, ◌*◌, ◌<◌, ◌≤◌, map, length, get_or, take};
 ghost use Rattle.spec.specs.Chart.{segments_of};
-ghost use Rattle.spec.specs.Calls.Readings.{field, values_of};
-ghost use Rattle.spec.specs.Lines.Frames.{line_feed, line_of, answer_line, segment_lines, answer_lines, chart_lines};
+ghost use Rattle.spec.specs.Lines.Frames.{digits, line_of, answer_line, answer_lines, chart_lines};
 ghost use Rattle.table.specs.Widths.{largest64};
-ghost use Rattle.spec.specs.declared.types.Answer.TheVariants.{Kept, Dropped, Reported};
+ghost use Rattle.frame.specs.Written.{written};
 ghost use Rattle.frame.specs.LineLengths.{line_length, segment_length, count_length, longest_line, most_bytes, CanDraw};
 
 use crate::digits;
-use occupancy::segments;
+use occupancy::segments::Segments;
 use spec::bounds::MOST_RECORDS;
 use spec::types::{Answer, Setup};
 
@@ -19,191 +18,140 @@ pub const LONGEST_LINE: usize = 2 * (1 + 8 + 8 + 2 + 2) + 1;
 // The characters of the longest reply: a line for each segment, a kind byte and two ends, and their count's.
 pub const MOST_BYTES: usize = MOST_RECORDS * (2 * (1 + 8 + 8) + 1) + (2 * (1 + 2) + 1);
 
-fn put_feed(out: &mut [u8], at: usize) -> usize
-    requires { at < length out.old }
-    ensures { (result ≡ at + 1) × (take result out.new ≡ take at out.old ++ (line_feed ∷ [])) }
-{
-    out[at] = 10;
-    at + 1
+// "widths in bytes in brackets": a number and its width in bytes.
+#[derive(Clone, Copy)]
+struct Field {
+    width: usize,
+    value: u64,
 }
 
-// A line of its kind alone.
-fn put_kind(out: &mut [u8], at: usize, kind: u64) -> usize
-    requires { at + line_length [] ≤ length out.old }
-    ensures { (result ≡ at + line_length []) × (take result out.new ≡ take at out.old ++ line_of kind []) }
+// A value in so many bytes.
+fn wide(width: usize, value: u64) -> Field
+    ensures { result ≡ record { width = width; value = value } }
 {
-    let end = digits::put_field(out, at, 1, kind);
-    put_feed(out, end)
+    Field { width, value }
 }
 
-// A line of one value.
-fn put_value(out: &mut [u8], at: usize, kind: u64, width: usize, value: u64) -> usize
-    requires { (at + line_length (field width value ∷ []) ≤ length out.old) × (width ≤ 8) }
-    ensures { (result ≡ at + line_length (field width value ∷ []))
-        × (take result out.new ≡ take at out.old ++ line_of kind (field width value ∷ [])) }
+// A field's digits.
+fn write_field(out: &mut [u8], field: Field) -> usize
+    requires { 2 * field.width ≤ length out.old }
+    ensures { (result ≡ 2 * field.width) × (take result out.new ≡ digits (2 * field.width) field.value) }
 {
-    let mut end = digits::put_field(out, at, 1, kind);
-    end = digits::put_field(out, end, width, value);
-    put_feed(out, end)
+    let count = 2 * field.width;
+    digits::write_digits(&mut out[..count], field.value);
+    count
 }
 
-// A line of two values of 8 bytes.
-fn put_pair(out: &mut [u8], at: usize, kind: u64, first: u64, second: u64) -> usize
-    requires { at + line_length (field 8 first ∷ field 8 second ∷ []) ≤ length out.old }
-    ensures { (result ≡ at + line_length (field 8 first ∷ field 8 second ∷ []))
-        × (take result out.new ≡ take at out.old ++ line_of kind (field 8 first ∷ field 8 second ∷ [])) }
+// A line of a kind and its fields. Their number is a parameter, so that each kind's line is compiled with its own widths: over a slice of
+// fields a line took nearly three times as long.
+fn write_line<const N: usize>(out: &mut [u8], kind: u64, fields: [Field; N]) -> usize
+    requires { line_length (map written fields) ≤ length out.old }
+    ensures { (result ≡ line_length (map written fields.entry)) × (take result out.new ≡ line_of kind (map written fields.entry)) }
 {
-    let mut end = digits::put_field(out, at, 1, kind);
-    end = digits::put_field(out, end, 8, first);
-    end = digits::put_field(out, end, 8, second);
-    put_feed(out, end)
+    let mut end = write_field(out, wide(1, kind));
+    for field in &fields {
+        end += write_field(&mut out[end..], *field);
+    }
+    out[end] = b'\n';
+    end + 1
 }
 
-// A line of two values of 8 bytes and a client.
-fn put_triple(out: &mut [u8], at: usize, kind: u64, first: u64, second: u64, client: u64) -> usize
-    requires { at + line_length (field 8 first ∷ field 8 second ∷ field 2 client ∷ []) ≤ length out.old }
-    ensures { (result ≡ at + line_length (field 8 first ∷ field 8 second ∷ field 2 client ∷ []))
-        × (take result out.new
-        ≡ take at out.old ++ line_of kind (field 8 first ∷ field 8 second ∷ field 2 client ∷ [])) }
-{
-    let mut end = digits::put_field(out, at, 1, kind);
-    end = digits::put_field(out, end, 8, first);
-    end = digits::put_field(out, end, 8, second);
-    end = digits::put_field(out, end, 2, client);
-    put_feed(out, end)
-}
-
-// A kept request's line.
-fn put_kept(out: &mut [u8], at: usize, number: u64, place: u64, shift: u64) -> usize
-    requires { at + line_length (values_of (Kept number place shift)) ≤ length out.old }
-    ensures { (result ≡ at + line_length (values_of (Kept number place shift)))
-        × (take result out.new ≡ take at out.old ++ answer_line (Kept number place shift)) }
-{
-    let mut end = digits::put_field(out, at, 1, 0x82);
-    end = digits::put_field(out, end, 8, number);
-    end = digits::put_field(out, end, 2, place);
-    end = digits::put_field(out, end, 2, shift);
-    put_feed(out, end)
-}
-
-// A drop's line.
-fn put_dropped(
-    out: &mut [u8],
-    at: usize,
-    number: u64,
-    victim: u64,
-    client: u64,
-    shift: u64,
-) -> usize
-    requires { at + line_length (values_of (Dropped number victim client shift)) ≤ length out.old }
-    ensures { (result ≡ at + line_length (values_of (Dropped number victim client shift)))
-        × (take result out.new
-        ≡ take at out.old ++ answer_line (Dropped number victim client shift)) }
-{
-    let mut end = digits::put_field(out, at, 1, 0x83);
-    end = digits::put_field(out, end, 8, number);
-    end = digits::put_field(out, end, 8, victim);
-    end = digits::put_field(out, end, 2, client);
-    end = digits::put_field(out, end, 2, shift);
-    put_feed(out, end)
-}
-
-// A report's line.
-fn put_report(
-    out: &mut [u8],
-    at: usize,
-    client: u64,
-    submitted: u64,
-    served: u64,
-    dropped: u64,
-    waiting: u64,
-) -> usize
-    requires { at + line_length (values_of (Reported client submitted served dropped waiting)) ≤ length out.old }
-    ensures { (result ≡ at + line_length (values_of (Reported client submitted served dropped waiting)))
-        × (take result out.new
-        ≡ take at out.old ++ answer_line (Reported client submitted served dropped waiting)) }
-{
-    let mut end = digits::put_field(out, at, 1, 0x86);
-    end = digits::put_field(out, end, 2, client);
-    end = digits::put_field(out, end, 4, submitted);
-    end = digits::put_field(out, end, 4, served);
-    end = digits::put_field(out, end, 4, dropped);
-    end = digits::put_field(out, end, 2, waiting);
-    put_feed(out, end)
-}
-
-// An answer's line.
-pub fn put_answer(out: &mut [u8], at: usize, answer: Answer) -> usize
-    requires { at + longest_line ≤ length out.old }
-    ensures { (result ≡ at + length (answer_line answer)) × (result ≤ at + longest_line)
-        × (take result out.new ≡ take at out.old ++ answer_line answer) }
+// An answer's line. The kinds are numbers here, each beside its fields as the paper lists them: an enum would list the answers once more.
+fn write_answer(out: &mut [u8], answer: Answer) -> usize
+    requires { longest_line ≤ length out.old }
+    ensures { (result ≡ length (answer_line answer)) × (result ≤ longest_line) × (take result out.new ≡ answer_line answer) }
 {
     match answer {
-        Answer::Opened => put_kind(out, at, 0x81),
+        Answer::Opened => write_line(out, 0x81, []),
         Answer::Kept {
             number,
             place,
             shift,
-        } => put_kept(out, at, number, place, shift),
+        } => write_line(out, 0x82, [wide(8, number), wide(2, place), wide(2, shift)]),
         Answer::Dropped {
             number,
             victim,
             client,
             shift,
-        } => put_dropped(out, at, number, victim, client, shift),
+        } => write_line(
+            out,
+            0x83,
+            [
+                wide(8, number),
+                wide(8, victim),
+                wide(2, client),
+                wide(2, shift),
+            ],
+        ),
         Answer::Served {
             slot,
             number,
             client,
-        } => put_triple(out, at, 0x84, slot, number, client),
-        Answer::Idle { slot } => put_value(out, at, 0x85, 8, slot),
+        } => write_line(out, 0x84, [wide(8, slot), wide(8, number), wide(2, client)]),
+        Answer::Idle { slot } => write_line(out, 0x85, [wide(8, slot)]),
         Answer::Reported {
             client,
             submitted,
             served,
             dropped,
             waiting,
-        } => put_report(out, at, client, submitted, served, dropped, waiting),
-        Answer::Charted { count } => put_value(out, at, 0x88, 2, count),
-        Answer::Closed { slot } => put_value(out, at, 0x89, 8, slot),
-        Answer::Refused { number } => put_value(out, at, 0xFF, 1, number),
+        } => write_line(
+            out,
+            0x86,
+            [
+                wide(2, client),
+                wide(4, submitted),
+                wide(4, served),
+                wide(4, dropped),
+                wide(2, waiting),
+            ],
+        ),
+        Answer::Charted { count } => write_line(out, 0x88, [wide(2, count)]),
+        Answer::Closed { slot } => write_line(out, 0x89, [wide(8, slot)]),
+        Answer::Refused { number } => write_line(out, 0xFF, [wide(1, number)]),
     }
 }
 
-// Where the segments' lines end, and how many they are.
-#[derive(Clone, Copy)]
-struct Drawn {
-    end: usize,
-    count: u64,
-}
-
-// A line for each segment of the first n start slots, from the left.
-fn put_segments(setup: Setup, out: &mut [u8], at: usize, starts: &[u64], n: usize) -> Drawn
-    requires { (at + segment_length * n ≤ length out.old) × (n ≤ length starts.now) × ((k : ℕ) → k < n → get_or starts.now k 0 < largest64) }
-    ensures { (at ≤ result.end) × (result.end ≤ at + segment_length * n)
-        × (result.count ≡ length (segments_of setup (take n starts.now)))
-        × (take result.end out.new ≡ take at out.old ++ segment_lines (segments_of setup (take n starts.now))) }
+// A line for each segment of these start slots, from the left, and their count's.
+fn write_chart(setup: Setup, out: &mut [u8], starts: &[u64]) -> usize
+    requires { (segment_length * length starts.now + count_length ≤ length out.old)
+        × ((k : ℕ) → k < length starts.now → get_or starts.now k 0 < largest64) }
+    ensures { (result ≡ length (chart_lines (segments_of setup starts.now)))
+        × (result ≤ segment_length * length starts.now + count_length)
+        × (take result out.new ≡ chart_lines (segments_of setup starts.now)) }
 {
-    let mut end = at;
+    let mut end = 0;
     let mut count: u64 = 0;
-    let mut i = 0;
-    while i < n {
-        let run = segments::segment_at(setup, starts, n, i);
-        end = put_pair(out, end, 0x87, run.left, run.right);
+    for ends in Segments::new(setup, starts) {
+        end += write_line(
+            &mut out[end..],
+            0x87,
+            [wide(8, ends.left), wide(8, ends.right)],
+        );
         count += 1;
-        i = run.next;
     }
-    Drawn { end, count }
+    end + write_line(&mut out[end..], 0x88, [wide(2, count)])
 }
 
-// A chart's segments and their count.
-fn put_chart(setup: Setup, out: &mut [u8], at: usize, starts: &[u64], n: usize) -> usize
-    requires { (at + segment_length * n + count_length ≤ length out.old) × (n ≤ length starts.now) × ((k : ℕ) → k < n → get_or starts.now k 0 < largest64) }
-    ensures { (at ≤ result) × (result ≤ at + segment_length * n + count_length)
-        × (take result out.new ≡ take at out.old ++ chart_lines (segments_of setup (take n starts.now))) }
+// A reply: an answer's line; a chart's as the segments of its start slots.
+fn write_reply(setup: Setup, out: &mut [u8], answer: Answer, starts: &[u64]) -> usize
+    requires { (most_bytes ≤ length out.old) × CanDraw answer starts.now }
+    ensures { (result ≡ length (answer_lines setup starts.now answer)) × (result ≤ most_bytes)
+        × (take result out.new ≡ answer_lines setup starts.now answer) }
 {
-    let drawn = put_segments(setup, out, at, starts, n);
-    put_value(out, drawn.end, 0x88, 2, drawn.count)
+    match answer {
+        Answer::Charted { count } => write_chart(setup, out, &starts[..count as usize]),
+        _ => write_answer(out, answer),
+    }
+}
+
+// An answer's line, behind a place: `docs/PROMISES.md` names this call and `put_reply` so.
+pub fn put_answer(out: &mut [u8], at: usize, answer: Answer) -> usize
+    requires { at + longest_line ≤ length out.old }
+    ensures { (result ≡ at + length (answer_line answer)) × (result ≤ at + longest_line)
+        × (take result out.new ≡ take at out.old ++ answer_line answer) }
+{
+    at + write_answer(&mut out[at..], answer)
 }
 
 // A reply: an answer's line; a chart's as the segments of its start slots.
@@ -212,8 +160,5 @@ pub fn put_reply(setup: Setup, out: &mut [u8], at: usize, answer: Answer, starts
     ensures { (result ≡ at + length (answer_lines setup starts.now answer)) × (result ≤ at + most_bytes)
         × (take result out.new ≡ take at out.old ++ answer_lines setup starts.now answer) }
 {
-    match answer {
-        Answer::Charted { count } => put_chart(setup, out, at, starts, count as usize),
-        _ => put_answer(out, at, answer),
-    }
+    at + write_reply(setup, &mut out[at..], answer, starts)
 }

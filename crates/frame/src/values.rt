@@ -1,5 +1,6 @@
 // The table of characters' values.
 ghost use Rattle.std.specs.Prelude.{◌≡◌};
+ghost use Rattle.spec.specs.Lines.Frames.{digit_of};
 ghost use Rattle.frame.specs.Digits.{digit_table};
 
 // A character's value: 0 to 15, or 255 where it is no digit.
@@ -25,9 +26,22 @@ const VALUES: [u8; 256] = [
     255,
 ];
 
-// The table, for a caller to make once and lend: `VALUES[i]` itself would copy all 256 entries at each use.
-pub fn digit_table() -> [u8; 256]
-    ensures { result ≡ digit_table }
-{
-    VALUES
+// The table, which a caller makes once and lends: `VALUES[i]` itself would copy all 256 entries at each use.
+#[derive(Drop)]
+pub struct DigitTable {
+    values: [u8; 256],
+    ghost is_table: { values ≡ digit_table },
+}
+
+impl DigitTable {
+    pub fn new() -> DigitTable {
+        DigitTable { values: VALUES }
+    }
+
+    // A character's value.
+    pub(crate) fn value_of(&self, character: u8) -> u8
+        ensures { result ≡ digit_of character }
+    {
+        self.values[usize::from(character)]
+    }
 }

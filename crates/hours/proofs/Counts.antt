@@ -1,33 +1,25 @@
--- The table of counts of open hours: how it is made, bit by bit and number by number, and what it tells. Assumes nothing.
-use Prim.Native.Nat.{ℕ, suc, ◌+◌, ◌-◌, ◌≤◌, ◌<◌}
+-- The table of counts of open hours: how it is made, bit by bit and word by word, and what it tells. Assumes nothing.
+use Prim.Native.Nat.{ℕ, suc, ◌+◌, ◌-◌, ◌^◌, ◌≤◌, ◌<◌}
 use mathlib.Core.Path.{◌≡◌, refl, ap, ◌∙◌}
 use mathlib.Core.List.{List}
 use native.Mathlib.Omega.{arith}
-use lib.ListN.{length, get_or, set, length-set}
+use lib.ListN.{length, get_or, set, replicate, length-set}
 use lib.Seq.{get_or-set_same, get_or-set_other}
+use Rattle.std.proofs.lemmas.List.{length-replicate}
 use Rattle.slots.proofs.Laws.Tests.{le, gt, order}
 use Rattle.spec.specs.declared.types.Setup.{Setup}
 use Rattle.spec.specs.Tables.{hours}
 use Rattle.spec.specs.Hours.{bit, mark_of, sum_from}
-use Rattle.hours.specs.Week.{Counted, CountedTo, CountedOn}
+use Rattle.hours.specs.Week.{last_word, Counted, CountedTo, CountedOn}
 use Rattle.hours.proofs.Sums.{sum_suc}
-use Rattle.hours.proofs.MarkedHours.{Holds, holds_0, holds_64, holds_128, holds_160, behind, highest, highest_most, among_most}
+use Rattle.hours.proofs.MarkedHours.{Holds, holds_0, holds_64, holds_128, behind, highest, highest_most, among_most}
 
--- ---- bit by bit: k bits of the number have been counted, and their sum is at hand
-module _ (before : List ℕ) (from word bits : ℕ) where
-  pub record Counting (after : List ℕ) (sum k : ℕ) : Type 0 where
-    pub inside : k ≤ bits
-    pub total : sum ≡ get_or before from 0 + highest word bits k
-    pub size : length after ≡ length before
-    pub kept : (h : ℕ) → h ≤ from → get_or after h 0 ≡ get_or before h 0
-    pub on : (n : ℕ) → n ≤ k → get_or after (from + n) 0 ≡ get_or before from 0 + highest word bits n
-
-  pub counting_starts : Counting before (get_or before from 0) 0
+-- ---- bit by bit: k bits of the word have been counted
+module _ (before : List ℕ) (from word : ℕ) where
+  pub counting_starts : CountedOn before before from word 0
   unfolding sum_from
   counting_starts =
       record {
-        inside = omega arith;
-        total = omega arith;
         size = refl;
         kept = λ h l. refl;
         on = λ n l.
@@ -36,29 +28,27 @@ module _ (before : List ℕ) (from word bits : ℕ) where
             rw (e, g) (omega arith);
       }
 
-  module _ (after : List ℕ) (sum k : ℕ) (known : Counting after sum k) where
-    -- the sum stays as small as a byte holds
-    pub counting_most : sum ≤ get_or before from 0 + k
-    counting_most = omega (arith, known.total, highest_most word bits k)
+  module _ (after : List ℕ) (k : ℕ) (known : CountedOn before after from word k) where
+    -- the last count is no larger than a byte holds
+    pub counting_most : get_or after (from + k) 0 ≤ get_or before from 0 + k
+    counting_most = omega (arith, known.on k (omega arith), highest_most word k)
 
-    pub counting_goes_on : k < bits → from + bits < length before
-        → Counting (set after (from + (k + 1)) (sum + bit word (bits - 1 - k))) (sum + bit word (bits - 1 - k)) (k + 1)
-    counting_goes_on l fits =
-        let at : ℕ = from + (k + 1) in
-        let v : ℕ = sum + bit word (bits - 1 - k) in
+    pub counting_goes_on : from + k + 1 < length before
+        → CountedOn before (set after (from + k + 1) (get_or after (from + k) 0 + bit word (63 - k))) from word (k + 1)
+    counting_goes_on fits =
+        let at : ℕ = from + k + 1 in
+        let v : ℕ = get_or after (from + k) 0 + bit word (63 - k) in
         let z : 0 + k ≡ k = omega arith in
         let s : suc k ≡ k + 1 = omega arith in
-        let total : v ≡ get_or before from 0 + highest word bits (k + 1) =
+        let total : v ≡ get_or before from 0 + highest word (k + 1) =
         omega (
           arith,
-          known.total,
-          sum_suc (λ j. bit word (bits - 1 - j)) 0 k,
-          ap (λ (j : ℕ). bit word (bits - 1 - j)) z,
-          ap (highest word bits) s,
+          known.on k (omega arith),
+          sum_suc (λ j. bit word (63 - j)) 0 k,
+          ap (λ (j : ℕ). bit word (63 - j)) z,
+          ap (highest word) s,
         ) in
         record {
-          inside = omega arith;
-          total = total;
           size = length-set after at v ∙ known.size;
           kept = λ h m. get_or-set_other after at h v 0 (λ e. omega arith) ∙ known.kept h m;
           on = λ n m.
@@ -66,29 +56,26 @@ module _ (before : List ℕ) (from word bits : ℕ) where
                 | le b ↦ get_or-set_other after at (from + n) v 0 (λ e. omega arith) ∙ known.on n b
                 | gt b ↦
                     let e : n ≡ k + 1 = omega arith in
-                    rw e (get_or-set_same after at v 0 (omega (arith, known.size)) ∙ total)
+                    let g : from + (k + 1) ≡ at = omega arith in
+                    rw (e, g) (get_or-set_same after at v 0 (omega (arith, known.size)) ∙ total)
               ];
         }
 
-    pub counting_ends : k ≡ bits → CountedOn before after from word bits
-    counting_ends e =
-        record { size = known.size; kept = known.kept; on = λ n l. known.on n (omega arith) }
-
 module _ (setup : Setup) where
-  -- ---- number by number: of no hours none is open, and the marks of a number tell the hours behind those counted
-  pub counted_none : (counts : List ℕ) → length counts ≡ hours + 1 → CountedTo setup 0 (set counts 0 0)
+  -- ---- word by word: of no hours none is open, and the marks of a word tell the hours behind those counted
+  pub counted_none : CountedTo setup 0 (replicate (hours + 1) 0)
   unfolding sum_from
-  counted_none counts long =
+  counted_none =
       record {
-        size = length-set counts 0 0 ∙ long;
+        size = length-replicate {A = ℕ} (hours + 1) 0;
         each = λ h l.
             let e : h ≡ 0 = omega arith in
-            rw e (get_or-set_same counts 0 0 0 (omega arith));
+            rw e refl;
       }
 
-  module _ (before after : List ℕ) (from word bits : ℕ) where
-    pub counted_further : CountedTo setup from before → Holds setup from word bits → CountedOn before after from word bits
-        → CountedTo setup (from + bits) after
+  module _ (before after : List ℕ) (from word most : ℕ) where
+    counted_further : CountedTo setup from before → Holds setup from word most → CountedOn before after from word most
+        → CountedTo setup (from + most) after
     counted_further known marks went =
         record {
           size = went.size ∙ known.size;
@@ -102,18 +89,18 @@ module _ (setup : Setup) where
                       ap (λ (x : ℕ). get_or after x 0) e,
                       went.on (h - from) (omega arith),
                       known.each from (omega arith),
-                      behind setup from word bits h marks (omega arith) (omega arith),
+                      behind setup from word most h marks (omega arith) (omega arith),
                     )
               ];
         }
 
-  -- the table has place for the bits of a number more, and a byte for their sum
-  pub counted_fits : (counts : List ℕ) (from bits : ℕ) → CountedTo setup from counts → from + bits ≤ hours → bits ≤ 64
-      → (from + bits < length counts) × (bits ≤ 64) × (get_or counts from 0 + bits ≤ 255)
-  counted_fits counts from bits known fits small =
+  -- the table has place for the bits of a word more, and a byte for their sum
+  pub counted_fits : (counts : List ℕ) (from most : ℕ) → CountedTo setup from counts → from + most ≤ hours → most ≤ 64
+      → (from + most < length counts) × (most ≤ 64) × (get_or counts from 0 + most ≤ 255)
+  counted_fits counts from most known fits small =
       (omega (arith, known.size), small, omega (arith, known.each from (omega arith), among_most setup from))
 
-  -- each of the four numbers
+  -- each of the three words
   module _ (before after : List ℕ) where
     pub counted_64 : CountedTo setup 0 before → CountedOn before after 0 setup.marks0 64 → CountedTo setup 64 after
     counted_64 known went = counted_further before after 0 setup.marks0 64 known (holds_0 setup) went
@@ -121,11 +108,9 @@ module _ (setup : Setup) where
     pub counted_128 : CountedTo setup 64 before → CountedOn before after 64 setup.marks64 64 → CountedTo setup 128 after
     counted_128 known went = counted_further before after 64 setup.marks64 64 known (holds_64 setup) went
 
-    pub counted_160 : CountedTo setup 128 before → CountedOn before after 128 setup.marks128 32 → CountedTo setup 160 after
-    counted_160 known went = counted_further before after 128 setup.marks128 32 known (holds_128 setup) went
-
-    pub counted_168 : CountedTo setup 160 before → CountedOn before after 160 setup.marks160 8 → Counted setup after
-    counted_168 known went = counted_further before after 160 setup.marks160 8 known (holds_160 setup) went
+    pub counted_all : CountedTo setup 128 before → setup.marks160 < 2 ^ 8 → CountedOn before after 128 (last_word setup) 40
+        → Counted setup after
+    counted_all known fits went = counted_further before after 128 (last_word setup) 40 known (holds_128 setup fits) went
 
   -- ---- what the table tells
   module _ (counts : List ℕ) (known : Counted setup counts) (h : ℕ) where

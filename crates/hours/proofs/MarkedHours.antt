@@ -1,21 +1,21 @@
--- The marks of the hours as bits of four numbers: single ones, and how many are 1. Assumes nothing.
+-- The marks of the hours as bits of four numbers, and of three words: single ones, and how many are 1. Assumes nothing.
 use Prim.Native.Nat.{ℕ, zero, suc, ◌+◌, ◌-◌, ◌*◌, ◌/◌, ◌%◌, ◌^◌, ◌≤◌, ◌<◌}
-use mathlib.Core.Path.{◌≡◌, ap, ap₂, sym, ◌∙◌}
-use mathlib.Core.Bool.{Bool, true, false, ◌&&◌}
+use mathlib.Core.Path.{◌≡◌, ap, sym, ◌∙◌}
+use mathlib.Core.Bool.{Bool, true, ◌&&◌}
 use native.Mathlib.Omega.{arith}
+use Rattle.std.proofs.lemmas.Nat.{zero_from_ones}
 use native.Mathlib.Nat.{pow-suc, div-one, div-eq_of_lt}
-use borrow.Author.Tests.{eqb-true, eq-eqb, ne_eqb, lt-ltb, le-ltb}
+use borrow.Author.Tests.{eqb-true, lt-ltb, le-ltb}
 use lib.Dec.{eqb, lit<}
-use lib.Arith.{half_le}
 use lib.Count.{ones, ones_step, ones-le}
 use lib.Pow.{pow_pos, ones_split, ones_lt, high, shr-shr}
-use Rattle.slots.proofs.Laws.Tests.{Same, same_yes, same_no, same, Order, le, gt, order}
+use Rattle.slots.proofs.Laws.Tests.{Order, le, gt, order}
 use Rattle.spec.specs.declared.types.Setup.{Setup}
 use Rattle.spec.specs.Tables.{hours}
 use Rattle.spec.specs.Hours.{bit, mark_of, sum_from, open_hours}
 use Rattle.spec.proofs.Laws.Every.{and_left, and_right}
 use Rattle.spec.proofs.Laws.Room.{sum_most, bit_most, mark_most}
-use Rattle.hours.specs.Week.{are_all_open}
+use Rattle.hours.specs.Week.{are_all_open, last_word}
 use Rattle.hours.proofs.Sums.{sum_split, sum_suc, sum_same}
 
 -- ---- in which number an hour has its mark
@@ -63,11 +63,11 @@ module _ (setup : Setup) (hour : ℕ) where
   word_64 h l = let e : 63 - hour % 64 ≡ 127 - hour = omega arith in rw e (sym (mark_64 setup hour h l))
 
   pub word_128 : 128 ≤ hour → hour < hours → setup.marks160 < 2 ^ 8
-      → bit (setup.marks128 * 4294967296 + setup.marks160 * 16777216) (63 - hour % 64) ≡ mark_of setup hour
+      → bit (last_word setup) (63 - hour % 64) ≡ mark_of setup hour
   word_128 h l fits =
       let word : ℕ = setup.marks128 * 2 ^ 8 + setup.marks160 in
       let e : 63 - hour % 64 ≡ 24 + (167 - hour) = omega arith in
-      let g : setup.marks128 * 4294967296 + setup.marks160 * 16777216 ≡ word * 2 ^ 24 + 0 = omega arith in
+      let g : last_word setup ≡ word * 2 ^ 24 + 0 = omega arith in
       rw (e, g) (bit_above word 0 24 (167 - hour) (lit< tt) ∙ go (order 160 hour))
     where
       go : Order 160 hour → bit (setup.marks128 * 2 ^ 8 + setup.marks160) (167 - hour) ≡ mark_of setup hour
@@ -129,141 +129,120 @@ module _ (setup : Setup) (all : are_all_open setup ≡ true) where
       ]
 
 -- ---- how many bits are 1
--- how many of the highest n bits, of a number of so many bits
-abbrev pub highest : ℕ → ℕ → ℕ → ℕ
-highest x bits n = sum_from (λ k. bit x (bits - 1 - k)) 0 n
+-- how many of the highest n bits of a word
+abbrev pub highest : ℕ → ℕ → ℕ
+highest word n = sum_from (λ k. bit word (63 - k)) 0 n
 
 no_ones : ones 0 ≡ 0
 no_ones = omega (arith, ones-le 0 0 (lit< tt))
 
-pub highest_ones : (x bits n : ℕ) → n ≤ bits → x < 2 ^ bits → ones (x / 2 ^ (bits - n)) ≡ highest x bits n
+pub highest_ones : (word n : ℕ) → n ≤ 64 → word < 2 ^ 64 → ones (word / 2 ^ (64 - n)) ≡ highest word n
 unfolding sum_from
-highest_ones x bits zero l b =
-    let e : bits - 0 ≡ bits = omega arith in
-    ap (λ (y : ℕ). ones (x / 2 ^ y)) e ∙ ap ones (div-eq_of_lt b) ∙ no_ones
-highest_ones x bits (suc n) l b =
-    let e : bits - suc n + 1 ≡ bits - n = omega arith in
-    let g : bits - suc n ≡ bits - 1 - (0 + n) = omega arith in
+highest_ones word zero l b =
+    let e : 64 - 0 ≡ 64 = omega arith in
+    ap (λ (y : ℕ). ones (word / 2 ^ y)) e ∙ ap ones (div-eq_of_lt b) ∙ no_ones
+highest_ones word (suc n) l b =
+    let e : 64 - suc n + 1 ≡ 64 - n = omega arith in
+    let g : 64 - suc n ≡ 63 - (0 + n) = omega arith in
     omega (
       arith,
-      ones_step (x / 2 ^ (bits - suc n)),
-      ap ones (shr-shr x (bits - suc n) 1),
-      ap (λ (y : ℕ). ones (x / 2 ^ y)) e,
-      ap (bit x) g,
-      highest_ones x bits n (omega arith) b,
-      sum_suc (λ k. bit x (bits - 1 - k)) 0 n,
+      ones_step (word / 2 ^ (64 - suc n)),
+      ap ones (shr-shr word (64 - suc n) 1),
+      ap (λ (y : ℕ). ones (word / 2 ^ y)) e,
+      ap (bit word) g,
+      highest_ones word n (omega arith) b,
+      sum_suc (λ k. bit word (63 - k)) 0 n,
     )
 
-pub highest_most : (x bits n : ℕ) → highest x bits n ≤ n
-highest_most x bits n = sum_most (λ k. bit x (bits - 1 - k)) (λ k. bit_most x (bits - 1 - k)) 0 n
+pub highest_most : (word n : ℕ) → highest word n ≤ n
+highest_most word n = sum_most (λ k. bit word (63 - k)) (λ k. bit_most word (63 - k)) 0 n
 
 -- of all bits
-all_ones : (x bits : ℕ) → x < 2 ^ bits → highest x bits bits ≡ ones x
-all_ones x bits b =
-    let e : bits - bits ≡ 0 = omega arith in
-    sym (highest_ones x bits bits (omega arith) b) ∙ ap (λ (y : ℕ). ones (x / 2 ^ y)) e ∙ ap ones (div-one x)
+all_ones : (word : ℕ) → word < 2 ^ 64 → highest word 64 ≡ ones word
+all_ones word b = sym (highest_ones word 64 (omega arith) b) ∙ ap ones (div-one word)
 
--- only 0 has none
-ones_none : (d x : ℕ) → x ≤ d → ones x ≡ 0 → x ≡ 0
-ones_none zero x l e = omega arith
-ones_none (suc d) x l e =
-    let r = ones_none d (x / 2) (half_le l) (omega (arith, ones_step x)) in
-    omega (arith, ones_step x)
-
--- ---- how many of the first n hours are open, number by number
+-- ---- how many of the first n hours are open, word by word
 module _ (setup : Setup) where
-  -- the hours from a on have their marks in x, a number of so many bits
-  abbrev pub Holds : (a x bits : ℕ) → Type 0
-  Holds a x bits = (k : ℕ) → k < bits → mark_of setup (a + k) ≡ bit x (bits - 1 - (0 + k))
+  -- the hours from a on, so many, have their marks in the highest bits of a word
+  abbrev pub Holds : (a word most : ℕ) → Type 0
+  Holds a word most = (k : ℕ) → k < most → mark_of setup (a + k) ≡ bit word (63 - (0 + k))
 
   pub holds_0 : Holds 0 setup.marks0 64
   holds_0 k l =
-      let e : 63 - (0 + k) ≡ 64 - 1 - (0 + k) = omega arith in
-      mark_0 setup (0 + k) (omega arith) ∙ ap (bit setup.marks0) e
+      let e : (0 + k) % 64 ≡ 0 + k = omega arith in
+      sym (rw e at (word_0 setup (0 + k) (omega arith)))
 
   pub holds_64 : Holds 64 setup.marks64 64
   holds_64 k l =
-      let e : 127 - (64 + k) ≡ 64 - 1 - (0 + k) = omega arith in
-      mark_64 setup (64 + k) (omega arith) (omega arith) ∙ ap (bit setup.marks64) e
+      let e : (64 + k) % 64 ≡ 0 + k = omega arith in
+      sym (rw e at (word_64 setup (64 + k) (omega arith) (omega arith)))
 
-  pub holds_128 : Holds 128 setup.marks128 32
-  holds_128 k l =
-      let e : 159 - (128 + k) ≡ 32 - 1 - (0 + k) = omega arith in
-      mark_128 setup (128 + k) (omega arith) (omega arith) ∙ ap (bit setup.marks128) e
+  pub holds_128 : setup.marks160 < 2 ^ 8 → Holds 128 (last_word setup) 40
+  holds_128 fits k l =
+      let e : (128 + k) % 64 ≡ 0 + k = omega arith in
+      sym (rw e at (word_128 setup (128 + k) (omega arith) (omega arith) fits))
 
-  pub holds_160 : Holds 160 setup.marks160 8
-  holds_160 k l =
-      let e : 167 - (160 + k) ≡ 8 - 1 - (0 + k) = omega arith in
-      mark_160 setup (160 + k) (omega arith) ∙ ap (bit setup.marks160) e
+  held : (a word most n : ℕ) → Holds a word most → n ≤ most → sum_from (mark_of setup) a n ≡ highest word n
+  held a word most n h l = sum_same (mark_of setup) (λ k. bit word (63 - k)) a 0 n (λ k m. h k (omega arith))
 
-  held : (a x bits n : ℕ) → Holds a x bits → n ≤ bits → sum_from (mark_of setup) a n ≡ highest x bits n
-  held a x bits n h l = sum_same (mark_of setup) (λ k. bit x (bits - 1 - k)) a 0 n (λ k m. h k (omega arith))
-
-  pub behind : (a x bits n : ℕ) → Holds a x bits → a ≤ n → n - a ≤ bits
-      → sum_from (mark_of setup) 0 n ≡ sum_from (mark_of setup) 0 a + highest x bits (n - a)
-  behind a x bits n h l b =
+  pub behind : (a word most n : ℕ) → Holds a word most → a ≤ n → n - a ≤ most
+      → sum_from (mark_of setup) 0 n ≡ sum_from (mark_of setup) 0 a + highest word (n - a)
+  behind a word most n h l b =
       let e : n ≡ a + (n - a) = omega arith in
       let g : 0 + a ≡ a = omega arith in
       ap (sum_from (mark_of setup) 0) e ∙ sum_split (mark_of setup) 0 a (n - a)
       ∙ ap (λ (x : ℕ). sum_from (mark_of setup) 0 a + sum_from (mark_of setup) x (n - a)) g
-      ∙ ap (λ (x : ℕ). sum_from (mark_of setup) 0 a + x) (held a x bits (n - a) h b)
+      ∙ ap (λ (x : ℕ). sum_from (mark_of setup) 0 a + x) (held a word most (n - a) h b)
 
-  pub among_0 : (n : ℕ) → n ≤ 64 → sum_from (mark_of setup) 0 n ≡ highest setup.marks0 64 n
+  pub among_0 : (n : ℕ) → n ≤ 64 → sum_from (mark_of setup) 0 n ≡ highest setup.marks0 n
   among_0 n l = held 0 setup.marks0 64 n holds_0 l
 
   pub among_64 : (n : ℕ) → 64 ≤ n → n ≤ 128
-      → sum_from (mark_of setup) 0 n ≡ highest setup.marks0 64 64 + highest setup.marks64 64 (n - 64)
+      → sum_from (mark_of setup) 0 n ≡ highest setup.marks0 64 + highest setup.marks64 (n - 64)
   among_64 n h l =
       omega (arith, behind 64 setup.marks64 64 n holds_64 h (omega arith), among_0 64 (omega arith))
 
-  pub among_128 : (n : ℕ) → 128 ≤ n → n ≤ 160
+  pub among_128 : (n : ℕ) → 128 ≤ n → n ≤ hours → setup.marks160 < 2 ^ 8
       → sum_from (mark_of setup) 0 n
-      ≡ highest setup.marks0 64 64 + highest setup.marks64 64 64 + highest setup.marks128 32 (n - 128)
-  among_128 n h l =
-      omega (arith, behind 128 setup.marks128 32 n holds_128 h (omega arith), among_64 128 (omega arith) (omega arith))
-
-  pub among_160 : (n : ℕ) → 160 ≤ n → n ≤ hours
-      → sum_from (mark_of setup) 0 n
-      ≡ highest setup.marks0 64 64 + highest setup.marks64 64 64 + highest setup.marks128 32 32
-      + highest setup.marks160 8 (n - 160)
-  among_160 n h l =
-      omega (arith, behind 160 setup.marks160 8 n holds_160 h (omega arith), among_128 160 (omega arith) (omega arith))
+      ≡ highest setup.marks0 64 + highest setup.marks64 64 + highest (last_word setup) (n - 128)
+  among_128 n h l fits =
+      omega (
+        arith,
+        behind 128 (last_word setup) 40 n (holds_128 fits) h (omega arith),
+        among_64 128 (omega arith) (omega arith),
+      )
 
   pub among_most : (n : ℕ) → sum_from (mark_of setup) 0 n ≤ n
   among_most n = sum_most (mark_of setup) (mark_most setup) 0 n
 
 -- ---- every hour is closed just where the four numbers are 0
-both_none : (x y : ℕ) → (eqb x 0 && eqb y 0) ≡ eqb (x + y) 0
-both_none x y = go (eqb x 0) (eqb y 0) (same x 0) (same y 0)
-  where
-    go : (a b : Bool) → Same x 0 a → Same y 0 b → (a && b) ≡ eqb (x + y) 0
-    go true true (same_yes e) (same_yes g) = sym (eq-eqb (x + y) 0 (omega arith))
-    go true false (same_yes e) (same_no g) = sym (ne_eqb (x + y) 0 (λ h. g (omega arith)))
-    go false true (same_no e) (same_yes g) = sym (ne_eqb (x + y) 0 (λ h. e (omega arith)))
-    go false false (same_no e) (same_no g) = sym (ne_eqb (x + y) 0 (λ h. e (omega arith)))
+module _ (setup : Setup) (fits0 : setup.marks0 < 2 ^ 64) (fits64 : setup.marks64 < 2 ^ 64) (fits128 : setup.marks128 < 2 ^ 32)
+    (fits160 : setup.marks160 < 2 ^ 8) where
+  last_ones : highest (last_word setup) 40 ≡ ones (setup.marks128 * 256 + setup.marks160)
+  last_ones =
+      let e : last_word setup / 2 ^ (64 - 40) ≡ setup.marks128 * 256 + setup.marks160 = omega arith in
+      sym (highest_ones (last_word setup) 40 (omega arith) (omega arith)) ∙ ap ones e
 
-none_set : (x : ℕ) → eqb x 0 ≡ eqb (ones x) 0
-none_set x = go (eqb x 0) (same x 0)
-  where
-    go : (a : Bool) → Same x 0 a → a ≡ eqb (ones x) 0
-    go true (same_yes e) = sym (eq-eqb (ones x) 0 (ap ones e ∙ no_ones))
-    go false (same_no e) = sym (ne_eqb (ones x) 0 (λ h. e (ones_none x x (omega arith) h)))
+  open_ones : open_hours setup ≡ ones setup.marks0 + ones setup.marks64 + ones (setup.marks128 * 256 + setup.marks160)
+  open_ones =
+      omega (
+        arith,
+        among_128 setup hours (omega arith) (omega arith) fits160,
+        all_ones setup.marks0 fits0,
+        all_ones setup.marks64 fits64,
+        last_ones,
+      )
 
-two_none : (x y : ℕ) → (eqb x 0 && eqb y 0) ≡ eqb (ones x + ones y) 0
-two_none x y = ap₂ (λ (a b : Bool). a && b) (none_set x) (none_set y) ∙ both_none (ones x) (ones y)
+  pub all_zero : open_hours setup ≡ 0 → (setup.marks0 ≡ 0) × (setup.marks64 ≡ 0) × (setup.marks128 ≡ 0) × (setup.marks160 ≡ 0)
+  all_zero none =
+      let last = zero_from_ones (setup.marks128 * 256 + setup.marks160) (omega (arith, open_ones)) in (
+        zero_from_ones setup.marks0 (omega (arith, open_ones)),
+        zero_from_ones setup.marks64 (omega (arith, open_ones)),
+        omega (arith, last),
+        omega (arith, last),
+      )
 
-pub all_closed : (setup : Setup) → setup.marks0 < 2 ^ 64 → setup.marks64 < 2 ^ 64 → setup.marks128 < 2 ^ 32 → setup.marks160 < 2 ^ 8
-    → (eqb setup.marks0 0 && eqb setup.marks64 0) && (eqb setup.marks128 0 && eqb setup.marks160 0) ≡ eqb (open_hours setup) 0
-all_closed setup a b c d =
-    let e : ones setup.marks0 + ones setup.marks64 + (ones setup.marks128 + ones setup.marks160) ≡ open_hours setup =
-    omega (
-      arith,
-      among_160 setup 168 (omega arith) (omega arith),
-      all_ones setup.marks0 64 a,
-      all_ones setup.marks64 64 b,
-      all_ones setup.marks128 32 c,
-      all_ones setup.marks160 8 d,
-    ) in
-    ap₂ (λ (p q : Bool). p && q) (two_none setup.marks0 setup.marks64) (two_none setup.marks128 setup.marks160)
-    ∙ both_none (ones setup.marks0 + ones setup.marks64) (ones setup.marks128 + ones setup.marks160)
-    ∙ ap (λ (x : ℕ). eqb x 0) e
+  pub none_open : setup.marks0 ≡ 0 → setup.marks64 ≡ 0 → setup.marks128 ≡ 0 → setup.marks160 ≡ 0 → open_hours setup ≡ 0
+  none_open a b c d =
+      let last : setup.marks128 * 256 + setup.marks160 ≡ 0 = omega arith in
+      omega (arith, open_ones, ap ones a, ap ones b, ap ones last, no_ones)

@@ -7,6 +7,8 @@ use native.Mathlib.Nat.{div-zero, div-eq_of_lt, mul-add-div_right, mul-div_cance
 use native.Mathlib.Nat.{div-add-mod', div-mul-le_self, lt-div-mul-add}
 use borrow.Author.Tests.{eq-eqb, ne_eqb, lt-ltb, le-ltb}
 use lib.Dec.{eqb, ltb, lit<}
+use Rattle.std.specs.Prelude.{Option, Some, None}
+use Rattle.std.specs.Option.{SomeIff, unwrap_or}
 use Rattle.slots.proofs.Queue.{opens}
 use Rattle.slots.proofs.Laws.Hours.{by_hours, by_weeks}
 use Rattle.slots.proofs.Laws.Tests.{le, gt, order}
@@ -25,6 +27,13 @@ takes_one setup slot mark e =
       | le h ↦ eq-eqb mark 1 (omega (arith, capacity_most setup slot)) ∙ sym (lt-ltb 0 (capacity_of setup slot) (omega arith))
       | gt h ↦ ne_eqb mark 1 (λ g. omega arith) ∙ sym (le-ltb 0 (capacity_of setup slot) (omega arith))
     ]
+
+-- division with 0 for no divisor is division as definitions have it
+pub div_or_0 : (hour : Option ℕ) (slot n : ℕ) → SomeIff hour (0 < n) (slot / n) → unwrap_or hour 0 ≡ slot / n
+div_or_0 None slot n none =
+    let e : n ≡ 0 = omega arith in
+    sym (ap (λ (m : ℕ). slot / m) e ∙ div-zero slot)
+div_or_0 (Some h) slot n some = some.1
 
 -- ---- bounds: no more hours are counted than come before an hour, and no more slots than come before a slot
 -- a mark counts each slot once or not at all

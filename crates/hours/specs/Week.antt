@@ -13,6 +13,10 @@ are_all_open setup =
     eqb setup.marks0 18446744073709551615 && eqb setup.marks64 18446744073709551615
     && (eqb setup.marks128 4294967295 && eqb setup.marks160 255)
 
+-- the third of the three words of 64 bits in which the marks stand, one for 64 hours: it has those of the last two numbers, and 0 behind them
+abbrev pub last_word : Setup → ℕ
+last_word setup = setup.marks128 * 4294967296 + setup.marks160 * 16777216
+
 -- how many of the hours before this one, counted from clock 0, are open: "the marks repeating after hour 167"
 unfoldable pub open_hours_before : Setup → ℕ → ℕ
 open_hours_before setup hour = sum_from (λ h. mark_of setup (h % hours)) 0 hour
@@ -25,11 +29,11 @@ pub record CountedTo (setup : Setup) (most : ℕ) (counts : List ℕ) : Type 0 w
 abbrev pub Counted : Setup → List ℕ → Type 0
 Counted setup counts = CountedTo setup hours counts
 
--- counts before and after they went on by the bits of a number, highest bit first: those up to place `from` are as they were
-pub record CountedOn (before after : List ℕ) (from word bits : ℕ) : Type 0 where
+-- counts before and after they went on by the highest bits of a word, as many as `most`: those up to place `from` are as they were
+pub record CountedOn (before after : List ℕ) (from word most : ℕ) : Type 0 where
   pub size : length after ≡ length before
   pub kept : (h : ℕ) → h ≤ from → get_or after h 0 ≡ get_or before h 0
-  pub on : (n : ℕ) → n ≤ bits → get_or after (from + n) 0 ≡ get_or before from 0 + sum_from (λ k. bit word (bits - 1 - k)) 0 n
+  pub on : (n : ℕ) → n ≤ most → get_or after (from + n) 0 ≡ get_or before from 0 + sum_from (λ k. bit word (63 - k)) 0 n
 
 -- a line lies below the open slots: a deadline more than n slots behind its floor has more than n open slots before it, as long as n is
 -- less than its reach

@@ -1,82 +1,54 @@
 -- The choice among the clients' last candidates, one after the other: what is held after so many clients. Assumes nothing.
-use Prim.Native.Nat.{ℕ, zero, suc, ◌+◌, ◌-◌, ◌≤◌, ◌<◌}
-use mathlib.Core.Path.{◌≡◌, refl, sym, ap, subst, ◌∙◌}
+use Prim.Native.Nat.{ℕ, zero, suc, ◌+◌, ◌≤◌, ◌<◌}
+use mathlib.Core.Path.{◌≡◌, refl, sym, subst}
 use mathlib.Core.Logic.{◌≢◌}
 use mathlib.Core.Bool.{Bool, true, false, cond}
 use mathlib.Core.List.{List}
 use native.Mathlib.Numerals.{add-one}
 use native.Mathlib.Omega.{arith}
-use borrow.Author.Tests.{lt-ltb, le-ltb, eq-eqb, ne_eqb}
+use borrow.Author.Tests.{eq-eqb, ne_eqb}
 use lib.Dec.{ltb, eqb}
 use lib.ListN.{get_or}
 use Rattle.slots.proofs.Laws.Tests.{Test, holds, fails, test, Same, same_yes, same_no, same, le, gt, order}
 use Rattle.spec.specs.declared.types.Counts.{Counts}
-use Rattle.spec.specs.Tables.{zero_counts}
 use Rattle.spec.specs.Chart.{has_smaller_ratio}
 use Rattle.spec.proofs.Calls.Victim.{AtMost, at_most_trans, at_most_facts, at_most_test, Rated, smaller, not_smaller, rated}
 use Rattle.occupancy.specs.declared.overfull.LastCandidate.{LastCandidate}
-use Rattle.occupancy.specs.Scans.{better_candidate, best_of, smallest_ratio_place, HaveRatios, Wins}
+use Rattle.std.specs.Prelude.{Option, None, Some}
+use Rattle.occupancy.specs.Scans.{better_candidate, better_of, best_of, place_of, smallest_ratio_place, HaveRatios, Wins}
 
 -- which of the two is the better, and why
 pub data Better (best next : LastCandidate) : LastCandidate → Type 0 where
-  none : next.at ≡ 0 → Better best next best
-  stays : 0 < next.at → AtMost best.counts next.counts
-      → (AtMost next.counts best.counts → next.at ≤ best.at) → Better best next best
-  changes : 0 < next.at → AtMost next.counts best.counts
-      → (AtMost best.counts next.counts → best.at ≤ next.at) → Better best next next
+  stays : AtMost best.counts next.counts → (AtMost next.counts best.counts → next.at ≤ best.at) → Better best next best
+  changes : AtMost next.counts best.counts → (AtMost best.counts next.counts → best.at ≤ next.at) → Better best next next
 
 pub better : (best next : LastCandidate) → Better best next (better_candidate best next)
 unfolding better_candidate
-better best next = first (eqb next.at 0) (same next.at 0)
+better best next = first (has_smaller_ratio best.counts next.counts) (rated best.counts next.counts)
   where
-    later : (x : Bool) → Test (suc next.at) best.at x → 0 < next.at → AtMost best.counts next.counts
-        → AtMost next.counts best.counts → Better best next (cond x best next)
-    later true (holds h) some a b = stays some a (λ _. omega arith)
-    later false (fails h) some a b = changes some b (λ _. omega arith)
+    later : (x : Bool) → Test (suc next.at) best.at x → AtMost best.counts next.counts → AtMost next.counts best.counts
+        → Better best next (cond x best next)
+    later true (holds h) a b = stays a (λ _. omega arith)
+    later false (fails h) a b = changes b (λ _. omega arith)
 
-    second : (x : Bool) → Rated next.counts best.counts x → 0 < next.at → AtMost next.counts best.counts
+    second : (x : Bool) → Rated next.counts best.counts x → AtMost next.counts best.counts
         → Better best next (cond x next (cond (ltb next.at best.at) best next))
-    second true (smaller h) some a = changes some a (λ b. absurd (omega arith))
-    second false (not_smaller h) some a = later (ltb next.at best.at) (test (suc next.at) best.at) some h a
+    second true (smaller h) a = changes a (λ b. absurd (omega arith))
+    second false (not_smaller h) a = later (ltb next.at best.at) (test (suc next.at) best.at) h a
 
-    ratios : (x : Bool) → Rated best.counts next.counts x → 0 < next.at
+    first : (x : Bool) → Rated best.counts next.counts x
         → Better best next (cond x best (cond (has_smaller_ratio next.counts best.counts) next
         (cond (ltb next.at best.at) best next)))
-    ratios true (smaller h) some = stays some (omega arith) (λ b. absurd (omega arith))
-    ratios false (not_smaller h) some =
-        second (has_smaller_ratio next.counts best.counts) (rated next.counts best.counts) some h
+    first true (smaller h) = stays (omega arith) (λ b. absurd (omega arith))
+    first false (not_smaller h) = second (has_smaller_ratio next.counts best.counts) (rated next.counts best.counts) h
 
-    first : (x : Bool) → Same next.at 0 x
-        → Better best next (cond x best (cond (has_smaller_ratio best.counts next.counts) best
-        (cond (has_smaller_ratio next.counts best.counts) next (cond (ltb next.at best.at) best next))))
-    first true (same_yes e) = none e
-    first false (same_no e) =
-        ratios (has_smaller_ratio best.counts next.counts) (rated best.counts next.counts) (omega arith)
-
--- the tests one after the other
-module _ (best next : LastCandidate) where
-  pub better_none : next.at ≡ 0 → best ≡ better_candidate best next
-  unfolding better_candidate
-  better_none e = rw (eq-eqb next.at 0 e)
-
-  module _ (some : next.at ≢ 0) where
-    pub better_first : has_smaller_ratio best.counts next.counts ≡ true → best ≡ better_candidate best next
-    unfolding better_candidate
-    better_first e = rw (ne_eqb next.at 0 some, e)
-
-    module _ (first : has_smaller_ratio best.counts next.counts ≡ false) where
-      pub better_second : has_smaller_ratio next.counts best.counts ≡ true → next ≡ better_candidate best next
-      unfolding better_candidate
-      better_second e = rw (ne_eqb next.at 0 some, first, e)
-
-      module _ (second : has_smaller_ratio next.counts best.counts ≡ false) where
-        pub better_earlier : next.at < best.at → best ≡ better_candidate best next
-        unfolding better_candidate
-        better_earlier h = rw (ne_eqb next.at 0 some, first, second, lt-ltb next.at best.at h)
-
-        pub better_later : best.at ≤ next.at → next ≡ better_candidate best next
-        unfolding better_candidate
-        better_later h = rw (ne_eqb next.at 0 some, first, second, le-ltb next.at best.at h)
+-- a place that neither of the two has is not the better one's either
+pub better_some : (best next : LastCandidate) → 0 < best.at → 0 < next.at → 0 < (better_candidate best next).at
+better_some best next some own = go (better best next)
+  where
+    go : {r : LastCandidate} → Better best next r → 0 < r.at
+    go (stays a last) = some
+    go (changes a last) = own
 
 -- what holds of the first m and of the next holds of the first m + 1
 each : (p : ℕ → Type 0) (m : ℕ) → ((j : ℕ) → j < m → p j) → p m → (j : ℕ) → j < m + 1 → p j
@@ -86,81 +58,71 @@ each p m f h j l =
       | gt k ↦ let e : m ≡ j = omega arith in subst p e h
     ]
 
--- nothing submitted and nothing dropped compares as equal
-zero_most : (k : Counts) → AtMost k zero_counts
-zero_most k = omega arith
-
 -- client j has a candidate, and it is not the better one
 abbrev pub Beaten : (ℕ → Counts) → List ℕ → LastCandidate → ℕ → Type 0
 Beaten counts latest best j =
     0 < get_or latest j 0 → AtMost best.counts (counts j) × (AtMost (counts j) best.counts → get_or latest j 0 ≤ best.at)
 
 -- of the first m clients, those that have a candidate: there is none, or the best is one of them and no other is better
-pub data BestSoFar (counts : ℕ → Counts) (latest : List ℕ) (m : ℕ) (best : LastCandidate) : Type 0 where
-  nobody : best.at ≡ 0 → best.counts ≡ zero_counts → ((j : ℕ) → j < m → get_or latest j 0 ≡ 0) → BestSoFar counts latest m best
-  owned : (owner : ℕ) → owner < m → 0 < best.at → best.at ≡ get_or latest owner 0 → best.counts ≡ counts owner
-      → ((j : ℕ) → j < m → Beaten counts latest best j) → BestSoFar counts latest m best
+pub data BestSoFar (counts : ℕ → Counts) (latest : List ℕ) (m : ℕ) : Option LastCandidate → Type 0 where
+  nobody : ((j : ℕ) → j < m → get_or latest j 0 ≡ 0) → BestSoFar counts latest m None
+  owned : (best : LastCandidate) (owner : ℕ) → owner < m → 0 < best.at → best.at ≡ get_or latest owner 0 → best.counts ≡ counts owner
+      → ((j : ℕ) → j < m → Beaten counts latest best j) → BestSoFar counts latest m (Some best)
 
 module _ (counts : ℕ → Counts) (latest : List ℕ) (n : ℕ) (pos : HaveRatios counts latest n) where
   -- one client more
-  module _ (m : ℕ) (inside : m < n) (best next : LastCandidate) (at : next.at ≡ get_or latest m 0) (own : next.counts ≡ counts m) where
+  module _ (m : ℕ) (inside : m < n) where
+    -- its last candidate
+    abbrev next : LastCandidate
+    next = record { at = get_or latest m 0; counts = counts m }
+
+    -- it has none
+    without : (best : Option LastCandidate) → get_or latest m 0 ≡ 0 → BestSoFar counts latest m best → BestSoFar counts latest (m + 1) best
+    without _ none (nobody all) = nobody (each (λ (j : ℕ). get_or latest j 0 ≡ 0) m all none)
+    without _ none (owned best owner o some here e all) =
+        owned best owner (omega arith) some here e (each (Beaten counts latest best) m all (λ k. absurd (omega arith)))
+
     -- a client that is the best beats itself
     itself : Beaten counts latest next m
-    itself some = (subst (AtMost next.counts) own (omega arith), λ _. omega arith)
+    itself some = (omega arith, λ _. omega arith)
 
-    from_nobody : best.at ≡ 0 → best.counts ≡ zero_counts → ((j : ℕ) → j < m → get_or latest j 0 ≡ 0)
-        → {r : LastCandidate} → Better best next r → BestSoFar counts latest (m + 1) r
-    from_nobody z e all (none h) = nobody z e (each (λ (j : ℕ). get_or latest j 0 ≡ 0) m all (sym at ∙ h))
-    from_nobody z e all (stays some a last) =
-        absurd (omega (arith, last (subst (AtMost next.counts) (sym e) (zero_most next.counts))))
-    from_nobody z e all (changes some a last) =
-        owned m (omega arith) some at own
-        (each (Beaten counts latest next) m (λ j l h. absurd (omega (arith, all j l))) itself)
-
-    from_owned : (owner : ℕ) → owner < m → 0 < best.at → best.at ≡ get_or latest owner 0 → best.counts ≡ counts owner
-        → ((j : ℕ) → j < m → Beaten counts latest best j) → {r : LastCandidate} → Better best next r → BestSoFar counts latest (m + 1) r
-    from_owned owner o some here e all (none h) =
-        owned owner (omega arith) some here e
-        (each (Beaten counts latest best) m all (λ k. absurd (omega arith)))
-    from_owned owner o some here e all (stays h a last) =
-        owned owner (omega arith) some here e
-        (each (Beaten counts latest best) m all
-        (λ k. (
-          subst (AtMost best.counts) own a,
-          λ b. omega (arith, last (subst (λ (x : Counts). AtMost x best.counts) (sym own) b)),
-        )))
-    from_owned owner o some here e all (changes h a last) =
-        owned m (omega arith) h at own (each (Beaten counts latest next) m beaten itself)
+    -- the best so far, and the next, of which one is the better
+    among : (best : LastCandidate) (owner : ℕ) → owner < m → 0 < best.at → best.at ≡ get_or latest owner 0 → best.counts ≡ counts owner
+        → ((j : ℕ) → j < m → Beaten counts latest best j) → 0 < get_or latest m 0
+        → (r : LastCandidate) → Better best next r → BestSoFar counts latest (m + 1) (Some r)
+    among best owner o some here e all own _ (stays a last) =
+        owned best owner (omega arith) some here e (each (Beaten counts latest best) m all (λ k. (a, last)))
+    among best owner o some here e all own _ (changes a last) =
+        owned next m (omega arith) own refl refl (each (Beaten counts latest next) m beaten itself)
       where
         divisor : 1 ≤ best.counts.submitted
         divisor = subst (λ (x : Counts). 1 ≤ x.submitted) (sym e) (pos owner (omega arith) (omega arith))
 
-        divides : 1 ≤ next.counts.submitted
-        divides = subst (λ (x : Counts). 1 ≤ x.submitted) (sym own) (pos m inside (omega arith))
+        divides : 1 ≤ (counts m).submitted
+        divides = pos m inside own
 
         beaten : (j : ℕ) → j < m → Beaten counts latest next j
         beaten j l k = (
-          at_most_trans next.counts best.counts (counts j) divisor a (all j l k).0,
+          at_most_trans (counts m) best.counts (counts j) divisor a (all j l k).0,
           (λ b.
               omega (
                 arith,
-                (all j l k).1 (at_most_trans (counts j) next.counts best.counts divides b a),
-                last (at_most_trans best.counts (counts j) next.counts (pos j (omega arith) k) (all j l k).0 b),
+                (all j l k).1 (at_most_trans (counts j) (counts m) best.counts divides b a),
+                last (at_most_trans best.counts (counts j) (counts m) (pos j (omega arith) k) (all j l k).0 b),
               )),
         )
 
-    pub held_next : BestSoFar counts latest m best → {r : LastCandidate} → r ≡ better_candidate best next → BestSoFar counts latest (m + 1) r
-    held_next h e = subst (BestSoFar counts latest (m + 1)) (sym e) (go h (better best next))
-      where
-        go : BestSoFar counts latest m best → {r : LastCandidate} → Better best next r → BestSoFar counts latest (m + 1) r
-        go (nobody z k all) b = from_nobody z k all b
-        go (owned owner o some here k all) b = from_owned owner o some here k all b
+    with_next : (best : Option LastCandidate) → 0 < get_or latest m 0 → BestSoFar counts latest m best
+        → BestSoFar counts latest (m + 1) (Some (better_of best next))
+    with_next _ own (nobody all) =
+        owned next m (omega arith) own refl refl (each (Beaten counts latest next) m (λ j l h. absurd (omega (arith, all j l))) itself)
+    with_next _ own (owned best owner o some here e all) = among best owner o some here e all own _ (better best next)
 
   -- after all clients: where one has a candidate, the best wins
-  all_wins : (best : LastCandidate) → BestSoFar counts latest n best → (c : ℕ) → c < n → 0 < get_or latest c 0
-      → Wins counts latest n (best.at - 1)
-  all_wins best (nobody z e all) c l some = absurd (omega (arith, all c l))
-  all_wins best (owned owner o some here e all) c l h =
+  all_wins : (best : Option LastCandidate) → BestSoFar counts latest n best → (c : ℕ) → c < n → 0 < get_or latest c 0
+      → Wins counts latest n (place_of best)
+  all_wins _ (nobody all) c l some = absurd (omega (arith, all c l))
+  all_wins _ (owned best owner o some here e all) c l h =
       record {
         owner = owner;
         exists = o;
@@ -171,29 +133,40 @@ module _ (counts : ℕ → Counts) (latest : List ℕ) (n : ℕ) (pos : HaveRati
             omega (arith, (all j k q).1 (subst (AtMost (counts j)) (sym e) b));
       }
 
--- ---- the best of so many clients: of none, of one more, and of all once the search has gone past them
+-- ---- the best of so many clients: where none has a candidate, of one more that has none or one, and of the first that has one
 module _ (counts : ℕ → Counts) (latest : List ℕ) where
-  pub best_none : record { at = 0; counts = zero_counts } ≡ best_of counts latest 0
+  pub best_nobody : (m : ℕ) → ((j : ℕ) → j < m → get_or latest j 0 ≡ 0) → None ≡ best_of counts latest m
   unfolding best_of
-  best_none = refl
+  best_nobody zero all = refl
+  best_nobody (suc m) all =
+      rw (eq-eqb (get_or latest m 0) 0 (all m (omega arith))) (best_nobody m (λ j l. all j (omega arith)))
 
-  pub best_next : (m : ℕ) {best r : LastCandidate} {k : Counts} → k ≡ counts m → best ≡ best_of counts latest m
-      → r ≡ better_candidate best (record { at = get_or latest m 0; counts = k }) → r ≡ best_of counts latest (m + 1)
+  pub best_without : (m : ℕ) (best : Option LastCandidate) → get_or latest m 0 ≡ 0 → best ≡ best_of counts latest m → best ≡ best_of counts latest (m + 1)
   unfolding best_of
-  best_next m e b r = r ∙ rw (e, b, add-one)
+  best_without m best none b = rw (add-one, eq-eqb (get_or latest m 0) 0 none) b
 
-  pub best_last : {n : ℕ} (m : ℕ) (best : LastCandidate) → n ≤ m → (m ≤ n) × (best ≡ best_of counts latest m)
-      → best.at ≡ (best_of counts latest n).at
-  best_last {n} m best past (within, e) =
-      let q : m ≡ n = omega arith in ap (λ (b : LastCandidate). b.at) (e ∙ ap (best_of counts latest) q)
+  pub best_next : (m : ℕ) (best : Option LastCandidate) (k : Counts) (r : LastCandidate) → get_or latest m 0 ≢ 0 → k ≡ counts m → best ≡ best_of counts latest m
+      → r ≡ better_of best (record { at = get_or latest m 0; counts = k }) → Some r ≡ best_of counts latest (m + 1)
+  unfolding best_of
+  best_next m best k r some e b is = rw (add-one, ne_eqb (get_or latest m 0) 0 some, ← b, ← e, is)
+
+  pub best_first : (m : ℕ) (k : Counts) → ((j : ℕ) → j < m → get_or latest j 0 ≡ 0) → get_or latest m 0 ≢ 0 → k ≡ counts m
+      → Some (record { at = get_or latest m 0; counts = k }) ≡ best_of counts latest (m + 1)
+  best_first m k all some e = best_next m None k _ some e (best_nobody m all) refl
 
   -- what is held of it
   held_best : (n : ℕ) → HaveRatios counts latest n → (m : ℕ) → m ≤ n → BestSoFar counts latest m (best_of counts latest m)
   unfolding best_of
-  held_best n pos zero l = nobody refl refl (λ j k. absurd (omega arith))
+  held_best n pos zero l = nobody (λ j k. absurd (omega arith))
   held_best n pos (suc m) l =
       subst (λ (k : ℕ). BestSoFar counts latest k (best_of counts latest (suc m))) (add-one m)
-      (held_next counts latest n pos m (omega arith) (best_of counts latest m) _ refl refl (held_best n pos m (omega arith)) refl)
+      (go (eqb (get_or latest m 0) 0) (same (get_or latest m 0) 0) (held_best n pos m (omega arith)))
+    where
+      go : (x : Bool) → Same (get_or latest m 0) 0 x → BestSoFar counts latest m (best_of counts latest m)
+          → BestSoFar counts latest (m + 1) (cond x (best_of counts latest m)
+          (Some (better_of (best_of counts latest m) (record { at = get_or latest m 0; counts = counts m }))))
+      go true (same_yes e) so_far = without counts latest n pos m (omega arith) _ e so_far
+      go false (same_no e) so_far = with_next counts latest n pos m (omega arith) _ (omega arith) so_far
 
   -- "The smallest wins; among equals, the last in chart order."
   pub place_wins : (n : ℕ) → HaveRatios counts latest n → (c : ℕ) → c < n → 0 < get_or latest c 0

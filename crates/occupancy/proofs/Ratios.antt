@@ -1,20 +1,13 @@
--- Laws of miss ratios: products that fit, and the counts of a client once a new request is counted. Assumes nothing.
-use Prim.Native.Nat.{ℕ, ◌+◌, ◌*◌, ◌^◌, ◌≤◌, ◌<◌}
+-- Laws of miss ratios: the counts of a client once a new request is counted. Assumes nothing.
+use Prim.Native.Nat.{ℕ, ◌+◌, ◌≤◌, ◌<◌}
 use mathlib.Core.Path.{◌≡◌}
 use mathlib.Core.Logic.{◌≢◌}
 use mathlib.Core.List.{List}
-use native.Mathlib.Nat.{mul-le-mul}
 use native.Mathlib.Numerals.{add-one}
-use native.Mathlib.Omega.{arith}
 use lib.ListN.{length, get_or}
 use lib.Seq.{set_out, get_or-set_same, get_or-set_other}
 use Rattle.spec.specs.declared.types.Counts.{Counts}
 use Rattle.spec.specs.Tables.{zero_counts, record_of, change, one_more_submitted}
-
--- a product of two u32 fits u64
-pub product_fits : (a b : ℕ) → a < 2 ^ 32 → b < 2 ^ 32 → a * b < 2 ^ 64
-product_fits a b h k =
-    omega (arith, mul-le-mul {n₁ = a} {m₁ = b} {n₂ = 4294967295} {m₂ = 4294967295} (omega arith) (omega arith))
 
 -- the counts r of client c, once a request of `client` is counted: where c is another, does not exist, or is that client
 module _ (client c : ℕ) (cs : List Counts) (r : Counts) (found : r ≡ get_or cs c zero_counts) where

@@ -1,26 +1,28 @@
 -- Laws of the searches in the waiting records: one turn of each, and what they come to. Assumes nothing.
 use Prim.Native.Nat.{ℕ, zero, suc, ◌+◌, ◌-◌, ◌%◌, ◌≤◌, ◌<◌}
 use mathlib.Core.Path.{◌≡◌, refl, sym, ap, subst, ◌∙◌}
-use mathlib.Core.Bool.{Bool, true, false, cond}
-use mathlib.Core.List.{List, [], ◌∷◌, map}
+use mathlib.Core.Bool.{Bool, true, false, not, cond}
+use mathlib.Core.List.{List, [], ◌∷◌}
 use native.Mathlib.Numerals.{add-one}
 use native.Mathlib.Omega.{arith}
 use borrow.Author.Tests.{ltb-true, ltb-false, lt-ltb, le-ltb, le-leb, lt-leb}
 use lib.Dec.{leb, ltb}
 use lib.ListN.{length, get_or, set, take, drop, length-map, get_or-map}
-use lib.Seq.{length-take-le, get_or-take}
+use lib.Seq.{length-take-le, get_or-take, drop-cons, drop-length}
+use Rattle.std.proofs.lemmas.List.{drop_all}
 use Rattle.slots.proofs.Laws.Tests.{Test, holds, fails, test, le, gt, order}
 use Rattle.spec.specs.declared.types.Setup.{Setup}
 use Rattle.spec.specs.declared.types.Head.{Head}
 use Rattle.spec.specs.declared.types.Request.{Request}
 use Rattle.spec.specs.Every.{count_if}
-use Rattle.spec.specs.Tables.{most_clients, zero_request, deadlines_of, clients_of}
+use Rattle.spec.specs.Tables.{most_clients, zero_request, clients_of}
 use Rattle.spec.specs.Hours.{room}
 use Rattle.spec.specs.Chart.{room_to}
 use Rattle.spec.proofs.Laws.Every.{number_yes, number_no, Value, is_true, is_false, value}
 use Rattle.spec.proofs.Laws.Room.{room_mono, room_back, room_split}
-use Rattle.table.proofs.Remaining.{rest_cons, rest_none}
-use Rattle.occupancy.specs.Scans.{Sorted, middle, halved, place_by, overfull_from, latest_of}
+use Rattle.hours.specs.Week.{are_all_open}
+use Rattle.hours.proofs.OpenSlots.{all_open_room}
+use Rattle.occupancy.specs.Scans.{Sorted, middle, halved, place_by, first_by, overfull_from, latest_of}
 
 -- ---- the binary search: the entries before `low` are at most d, and those from `high` on are larger
 record Between (d low high : ℕ) (xs : List ℕ) : Type 0 where
@@ -203,71 +205,87 @@ module _ (ds : List ℕ) (d : ℕ) where
     pub place_counts : Sorted (take n ds) → place_by ds n d ≡ count_if (λ x. leb x d) (take n ds)
     place_counts sorted = narrow_end found fits (omega arith) sorted
 
--- ---- one field of the first n records, from the place i on: that of the record there comes first
-module _ (f : Request → ℕ) (ws : List Request) (n i : ℕ) where
-  rest_field : i < n → n ≤ length ws
-      → drop i (take n (map f ws)) ≡ f (get_or ws i zero_request) ∷ drop (i + 1) (take n (map f ws))
-  rest_field inside fits =
-      rest_cons (map f ws) n i (f zero_request) inside (omega (arith, length-map ws f))
-      ∙ rw (get_or-map f ws i zero_request)
+-- ---- the search by a test: behind deadlines for which it says no, and at one for which it says yes
+module _ (test : ℕ → ℕ → Bool) where
+  first_here : (i d : ℕ) (ds : List ℕ) → test i d ≡ true → d ≡ first_by test i (d ∷ ds)
+  unfolding first_by
+  first_here i d ds e = rw e
 
--- ---- the search for an overfull deadline: d stands at the place i, and the others behind it
-module _ (head : Head) (i d : ℕ) (ds : List ℕ) where
-  pub overfull_first : room_to head d ≤ i → d ≡ overfull_from head i (d ∷ ds)
-  unfolding overfull_from
-  overfull_first h =
-      let full : room_to head d < suc i = omega arith in
-      rw lt-ltb
+  pub first_behind : (i m : ℕ) (ds : List ℕ) → m ≤ length ds → ((k : ℕ) → k < m → test (i + k) (get_or ds k 0) ≡ false)
+      → first_by test (i + m) (drop m ds) ≡ first_by test i ds
+  unfolding first_by
+  first_behind i zero ds fits none = let e : i + 0 ≡ i = omega arith in rw e
+  first_behind i (suc m) [] fits none = absurd (omega arith)
+  first_behind i (suc m) (d ∷ ds) fits none =
+      let e : i + suc m ≡ suc i + m = omega arith in
+      let here : i + 0 ≡ i = omega arith in
+      let no = none 0 (omega arith) in
+      rw (e, (rw here at no))
+      (first_behind (suc i) m ds (omega arith)
+      (λ k l. let f : suc i + k ≡ i + suc k = omega arith in rw f (none (suc k) (omega arith))))
 
-  -- where d has room, what is found is among those behind it
-  pub overfull_behind : i < room_to head d → overfull_from head (i + 1) ds ≡ overfull_from head i (d ∷ ds)
-  unfolding overfull_from
-  overfull_behind h = rw (add-one i, le-ltb)
+  module _ (i m : ℕ) (ds : List ℕ) (none : (k : ℕ) → k < m → test (i + k) (get_or ds k 0) ≡ false) where
+    pub first_at : m < length ds → test (i + m) (get_or ds m 0) ≡ true → get_or ds m 0 ≡ first_by test i ds
+    first_at inside e =
+        first_here (i + m) (get_or ds m 0) (drop (suc m) ds) e
+        ∙ ap (first_by test (i + m)) (sym (drop-cons ds m 0 inside))
+        ∙ first_behind i m ds (omega arith) none
 
--- the search in the waiting records from the place i on, where `more` requests besides come before each
-module _ (head : Head) (ws : List Request) (n more : ℕ) where
-  abbrev pub overfull_at : ℕ → ℕ
-  overfull_at i = overfull_from head (i + more) (drop i (take n (deadlines_of ws)))
+    pub first_none : m ≡ length ds → 0 ≡ first_by test i ds
+    unfolding first_by
+    first_none all =
+        let over : drop m ds ≡ [] = rw all (drop-length ds) in
+        let left = first_behind i m ds (omega arith) none in
+        rw over at left
 
-  module _ (i : ℕ) (fits : n ≤ length ws) (inside : i < n) where
-    at_record : overfull_at i
-        ≡ overfull_from head (i + more) ((get_or ws i zero_request).deadline ∷ drop (i + 1) (take n (deadlines_of ws)))
-    at_record = ap (overfull_from head (i + more)) (rest_field (λ w. w.deadline) ws n i inside fits)
+-- ---- the search for an overfull deadline
+module _ (head : Head) where
+  -- it is one by a test that says, of each of the deadlines, whether there is no room
+  pub first_overfull : (test : ℕ → ℕ → Bool) (j i : ℕ) (ds : List ℕ)
+      → ((k : ℕ) → k < length ds → test (j + k) (get_or ds k 0) ≡ ltb (room_to head (get_or ds k 0)) (suc (i + k)))
+      → first_by test j ds ≡ overfull_from head i ds
+  unfolding first_by overfull_from
+  first_overfull test j i [] same = refl
+  first_overfull test j i (d ∷ ds) same =
+      let p : j + 0 ≡ j = omega arith in
+      let q : i + 0 ≡ i = omega arith in
+      let here = same 0 (omega arith) in
+      let first : test j d ≡ ltb (room_to head d) (suc i) = rw (p, q) at here in
+      rw first
+      (ap (cond (ltb (room_to head d) (suc i)) d)
+      (first_overfull test (suc j) (suc i) ds
+      (λ k l.
+      let f : suc j + k ≡ j + suc k = omega arith in
+      let g : suc i + k ≡ i + suc k = omega arith in
+      rw (f, g) (same (suc k) (omega arith)))))
 
-    pub overfull_here : room_to head (get_or ws i zero_request).deadline ≤ i + more → (get_or ws i zero_request).deadline ≡ overfull_at i
-    overfull_here h = overfull_first head (i + more) _ _ h ∙ sym at_record
+  -- d stands at the place i, and the others behind it
+  module _ (i d : ℕ) (ds : List ℕ) where
+    pub overfull_first : room_to head d ≤ i → d ≡ overfull_from head i (d ∷ ds)
+    unfolding overfull_from
+    overfull_first h =
+        let full : room_to head d < suc i = omega arith in
+        rw lt-ltb
 
-    pub overfull_next : i + more < room_to head (get_or ws i zero_request).deadline → overfull_at (i + 1) ≡ overfull_at i
-    overfull_next h =
-        let e : i + 1 + more ≡ i + more + 1 = omega arith in
-        ap (λ (k : ℕ). overfull_from head k (drop (i + 1) (take n (deadlines_of ws)))) e
-        ∙ overfull_behind head (i + more) _ _ h
-        ∙ sym at_record
-
-  pub overfull_none : (i : ℕ) → n ≤ i → 0 ≡ overfull_at i
-  unfolding overfull_from
-  overfull_none i past = ap (overfull_from head (i + more)) (sym (rest_none (deadlines_of ws) n i past))
-
-  -- ---- where a turn of a search stands: what is left from its place on gives the whole
-  pub record Turn (start : ℕ) : Type 0 where
-    pub i : ℕ
-    pub inside : i ≤ n
-    pub left : overfull_at i ≡ overfull_at start
+    -- where d has room, what is found is among those behind it
+    pub overfull_behind : i < room_to head d → overfull_from head (i + 1) ds ≡ overfull_from head i (d ∷ ds)
+    unfolding overfull_from
+    overfull_behind h = rw (add-one i, le-ltb)
 
 -- ---- each client's last request: the record at i is noted, and those behind it are left
-module _ (ws : List Request) (n more i : ℕ) (known : List ℕ) where
-  pub latest_next : n ≤ length ws → i < n
-      → latest_of (i + 1 + more) (drop (i + 1) (take n (clients_of ws)))
-      (set known ((get_or ws i zero_request).client % most_clients) (i + more))
-      ≡ latest_of (i + more) (drop i (take n (clients_of ws))) known
+module _ (ws : List Request) (first i : ℕ) (known : List ℕ) where
+  pub latest_next : i < length ws
+      → latest_of (first + (i + 1)) (drop (i + 1) (clients_of ws)) (set known ((get_or ws i zero_request).client % most_clients) (first + i))
+      ≡ latest_of (first + i) (drop i (clients_of ws)) known
   unfolding latest_of
-  latest_next fits inside =
-      let e : i + 1 + more ≡ suc (i + more) = omega arith in
-      rw (rest_field (λ w. w.client) ws n i inside fits, e)
+  latest_next inside =
+      let client : get_or (clients_of ws) i 0 ≡ (get_or ws i zero_request).client = get_or-map (λ w. w.client) ws i zero_request in
+      let e : first + (i + 1) ≡ suc (first + i) = omega arith in
+      rw (e, add-one, drop-cons (clients_of ws) i 0 (omega (arith, length-map ws (λ (w : Request). w.client))), client)
 
-  pub latest_all : n ≤ i → known ≡ latest_of (i + more) (drop i (take n (clients_of ws))) known
+  pub latest_all : i ≡ length ws → known ≡ latest_of (first + i) (drop i (clients_of ws)) known
   unfolding latest_of
-  latest_all past = rw (rest_none (clients_of ws) n i past)
+  latest_all all = rw (drop_all i (clients_of ws) (omega (arith, length-map ws (λ (w : Request). w.client))))
 
 -- ---- a test of a difference as one of a sum
 pub less_by_sum : (a i b : ℕ) → ltb (a + i) b ≡ ltb i (b - a)
@@ -284,3 +302,18 @@ room_difference setup a b =
       | le h ↦ omega (arith, room_split setup 0 a b (omega arith) h)
       | gt h ↦ omega (arith, room_back setup a b (omega arith), room_mono setup 0 b a (omega arith))
     ]
+
+-- ---- where all slots are open, a deadline is overfull where no more slots lie before it than are taken
+pub ahead_overfull : (head : Head) (rank : ℕ) (ds : List ℕ) → are_all_open head.setup ≡ true
+    → first_by (λ i d. not (ltb (head.clock + i) d)) rank ds ≡ overfull_from head rank ds
+ahead_overfull head rank ds all =
+    first_overfull head (λ i d. not (ltb (head.clock + i) d)) rank rank ds (λ k l. full (rank + k) (get_or ds k 0))
+  where
+    full : (i d : ℕ) → not (ltb (head.clock + i) d) ≡ ltb (room_to head d) (suc i)
+    full i d = go (value (ltb (head.clock + i) d))
+      where
+        go : Value (ltb (head.clock + i) d) → not (ltb (head.clock + i) d) ≡ ltb (room_to head d) (suc i)
+        go (is_true e) =
+            rw (e, le-ltb (room_to head d) (suc i) (omega (arith, ltb-true (head.clock + i) d e, all_open_room head.setup all head.clock d)))
+        go (is_false e) =
+            rw (e, lt-ltb (room_to head d) (suc i) (omega (arith, ltb-false (head.clock + i) d e, all_open_room head.setup all head.clock d)))

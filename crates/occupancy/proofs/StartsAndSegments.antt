@@ -25,7 +25,7 @@ use Rattle.hours.proofs.OpenSlots.{all_open_capacity}
 use Rattle.hours.proofs.Stretches.{first_hour}
 use Rattle.occupancy.specs.Charted.{start_slot, start_slots, segment}
 use Rattle.table.specs.Widths.{largest64}
-use Rattle.table.proofs.Remaining.{rest_cons, rest_none}
+use Rattle.std.proofs.Math.Seq.{drop-length, drop-cons}
 
 -- ---- the latest open slot
 -- an open slot is the latest before the next one
@@ -41,12 +41,13 @@ pub latest_held : (setup : Setup) (held : Stretch) (e : ℕ) → OpenFrom setup 
     → latest_open setup e ≡ e - 1
 latest_held setup held e o h k = latest_last setup e (omega arith) (o.all_open_lem (e - 1) (omega arith) (omega arith))
 
--- .. and the last of them is the latest before their end
-pub latest_at_end : (setup : Setup) (held : Stretch) → OpenFrom setup held → (held.end ≡ 0 → ⊥) → latest_open setup held.end ≡ held.end - 1
-latest_at_end setup held o some =
-    elim (order held.end held.hour.start) [
-      | le k ↦ absurd (some (o.some (λ h. omega arith)))
-      | gt k ↦ latest_held setup held held.end o k (omega arith)
+-- .. and the last of them, where there is one, is the latest before their end
+pub latest_found : (setup : Setup) (found : Stretch) → OpenFrom setup found → latest_open setup found.end ≡ found.end - 1
+unfolding latest_open
+latest_found setup found o =
+    elim (order found.end found.hour.start) [
+      | le k ↦ let none : found.end ≡ 0 = o.some (λ h. omega arith) in rw none
+      | gt k ↦ latest_held setup found found.end o k (omega arith)
     ]
 
 -- where all hours are open, all slots are
@@ -122,28 +123,28 @@ start_behind setup d (s ∷ later) h behind =
           rw (p, q) (free_behind setup s later ∙ free_open setup (s ∷ later) s behind)
     ]
 
--- the start slots of the first n records from an index on
-abbrev pub starts_from : Setup → List Request → ℕ → ℕ → List ℕ
-starts_from setup ws n i = start_slots setup (deadlines_of (drop i (take n ws)))
+-- the start slots of the records from an index on
+abbrev pub starts_from : Setup → List Request → ℕ → List ℕ
+starts_from setup ws i = start_slots setup (deadlines_of (drop i ws))
 
 -- behind the last record there is none
-pub starts_none : (setup : Setup) (ws : List Request) (n : ℕ) → starts_from setup ws n n ≡ []
+pub starts_none : (setup : Setup) (ws : List Request) → starts_from setup ws (length ws) ≡ []
 unfolding start_slots
-starts_none setup ws n = rw (rest_none ws n n (omega arith))
+starts_none setup ws = rw (drop-length ws)
 
 -- one turn towards the front: one start more
-pub starts_more : (setup : Setup) (ws : List Request) (n i next : ℕ) → 0 < i → i ≤ n → n ≤ length ws
-    → (get_or ws (i - 1) zero_request).deadline ≤ largest64 → next ≡ get_or (starts_from setup ws n i) 0 largest64
-    → starts_from setup ws n (i - 1) ≡ latest_open setup (min (get_or ws (i - 1) zero_request).deadline next) ∷ starts_from setup ws n i
+pub starts_more : (setup : Setup) (ws : List Request) (i next : ℕ) → i < length ws
+    → (get_or ws i zero_request).deadline ≤ largest64 → next ≡ get_or (starts_from setup ws (i + 1)) 0 largest64
+    → starts_from setup ws i ≡ latest_open setup (min (get_or ws i zero_request).deadline next) ∷ starts_from setup ws (i + 1)
 unfolding start_slots
-starts_more setup ws n i next p h l b e =
-    let q : i - 1 + 1 ≡ i = omega arith in
+starts_more setup ws i next l b e =
+    let behind : next ≡ get_or (starts_from setup ws (suc i)) 0 largest64 = rw add-one at e in
+    let due : ℕ = (get_or ws i zero_request).deadline in
     rw (
-      rest_cons ws n (i - 1) zero_request (omega arith) l,
-      q,
-      e,
-      start_behind setup (get_or ws (i - 1) zero_request).deadline (starts_from setup ws n i) b
-          (starts_ascend setup (deadlines_of (drop i (take n ws)))),
+      add-one,
+      drop-cons ws i zero_request l,
+      behind,
+      start_behind setup due (starts_from setup ws (suc i)) b (starts_ascend setup (deadlines_of (drop (suc i) ws))),
     )
 
 -- .. and it is written in front of those that stand already
@@ -186,29 +187,25 @@ module _ (setup : Setup) (l r s : ℕ) where
       go false = rw e
 
 -- a run begins with an interval, goes on with one that it touches, and ends before any other, or at the end
-module _ (setup : Setup) (s : List ℕ) (n k : ℕ) where
-  pub run_begins : k < n → n ≤ length s
-      → segments_of setup (drop k (take n s)) ≡ glue setup (get_or s k 0) (get_or s k 0 + 1) (segments_of setup (drop (k + 1) (take n s)))
+module _ (setup : Setup) (s : ℕ) (starts : List ℕ) where
+  pub run_begins : segments_of setup (s ∷ starts) ≡ glue setup s (s + 1) (segments_of setup starts)
   unfolding segments_of
-  run_begins h l = rw (rest_cons s n k 0 h l) (join_glue setup (get_or s k 0) (segments_of setup (drop (k + 1) (take n s))))
+  run_begins = join_glue setup s (segments_of setup starts)
 
-  pub run_more : (left right : ℕ) → k < n → n ≤ length s → do_touch setup right (get_or s k 0) ≡ true
-      → glue setup left right (segments_of setup (drop k (take n s)))
-      ≡ glue setup left (get_or s k 0 + 1) (segments_of setup (drop (k + 1) (take n s)))
-  unfolding segments_of
-  run_more left right h l e =
-      rw (rest_cons s n k 0 h l) (glue_more setup left right (get_or s k 0) (segments_of setup (drop (k + 1) (take n s))) e)
+  module _ (left right : ℕ) where
+    pub run_more : do_touch setup right s ≡ true
+        → glue setup left right (segments_of setup (s ∷ starts)) ≡ glue setup left (s + 1) (segments_of setup starts)
+    unfolding segments_of
+    run_more e = glue_more setup left right s (segments_of setup starts) e
 
-  pub run_ends : (left right : ℕ) → k < n → n ≤ length s → do_touch setup right (get_or s k 0) ≡ false
-      → glue setup left right (segments_of setup (drop k (take n s))) ≡ segment left right ∷ segments_of setup (drop k (take n s))
-  unfolding segments_of
-  run_ends left right h l e =
-      rw (rest_cons s n k 0 h l) (glue_ends setup left right (get_or s k 0) (segments_of setup (drop (k + 1) (take n s))) e)
+    pub run_ends : do_touch setup right s ≡ false
+        → glue setup left right (segments_of setup (s ∷ starts)) ≡ segment left right ∷ segments_of setup (s ∷ starts)
+    unfolding segments_of
+    run_ends e = glue_ends setup left right s (segments_of setup starts) e
 
-  pub run_last : (left right : ℕ) → n ≤ k
-      → glue setup left right (segments_of setup (drop k (take n s))) ≡ segment left right ∷ segments_of setup (drop k (take n s))
-  unfolding segments_of glue
-  run_last left right h = rw (rest_none s n k h)
+pub run_last : (setup : Setup) (left right : ℕ) → glue setup left right (segments_of setup []) ≡ segment left right ∷ segments_of setup []
+unfolding segments_of glue
+run_last setup left right = refl
 
 -- ---- start slots of deadlines are those of requests
 pub starts_column : (setup : Setup) (ws : List Request) → start_slots setup (deadlines_of ws) ≡ starts_of setup ws
@@ -216,7 +213,7 @@ unfolding start_slots starts_of
 starts_column setup [] = refl
 starts_column setup (w ∷ ws) = rw (starts_column setup ws)
 
--- no start slot is the largest number, as `segment_at` asks
+-- no start slot is the largest number, as `Segments` asks
 pub starts_below : (setup : Setup) (ds : List ℕ) (k : ℕ) → k < length ds → ((j : ℕ) → j < length ds → get_or ds j 0 ≤ largest64)
     → get_or (start_slots setup ds) k 0 < largest64
 unfolding start_slots

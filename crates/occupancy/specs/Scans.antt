@@ -1,5 +1,5 @@
 -- What the searches find: the first overfull deadline, each client's last request, the victim. Assumes nothing.
-use Rattle.std.specs.Prelude.{ℕ, zero, suc, ◌+◌, ◌-◌, ◌/◌, ◌%◌, ◌≤◌, ◌<◌, min, ◌≡◌, false, cond, List, [], ◌∷◌, ◌++◌, leb, ltb, eqb, length, get_or, take, drop, set}
+use Rattle.std.specs.Prelude.{ℕ, zero, suc, ◌+◌, ◌-◌, ◌/◌, ◌%◌, ◌^◌, ◌≤◌, ◌<◌, min, ◌≡◌, Bool, false, cond, Option, None, Some, List, [], ◌∷◌, ◌++◌, leb, ltb, eqb, length, get_or, take, drop, set}
 use Rattle.spec.specs.declared.types.Head.{Head}
 use Rattle.spec.specs.declared.types.Counts.{Counts}
 use Rattle.spec.specs.Tables.{most_clients, zero_counts, change, one_more_submitted}
@@ -39,6 +39,23 @@ unfoldable pub overfull_from : Head → ℕ → List ℕ → ℕ
 overfull_from head i [] = 0
 overfull_from head i (d ∷ ds) = cond (ltb (room_to head d) (suc i)) d (overfull_from head (suc i) ds)
 
+-- the first of these deadlines for which a test says yes, 0 where there is none; the test is told a number too, i at the first deadline and
+-- one more at each further one
+unfoldable pub first_by : (ℕ → ℕ → Bool) → ℕ → List ℕ → ℕ
+first_by test i [] = 0
+first_by test i (d ∷ ds) = cond (test i d) d (first_by test (suc i) ds)
+
+-- a call at a number below n and a deadline is allowed, and answers what a test says
+abbrev pub Takes : (ℕ → ℕ → Type 0) → ℕ → Type 0
+Takes pre n = (i d : ℕ) → i < n → d < 2 ^ 64 → pre i d
+
+abbrev pub Answers : (ℕ → ℕ → Bool → Type 0) → ℕ → (ℕ → ℕ → Bool) → Type 0
+Answers post n test = (i d : ℕ) (r : Bool) → i < n → d < 2 ^ 64 → post i d r → r ≡ test i d
+
+-- what such a search finds, where it finds one
+abbrev pub if_any : ℕ → Option ℕ
+if_any found = cond (eqb found 0) None (Some found)
+
 -- of each client the place of its last one among requests of these clients, 1 added: the first of them is p, and what is known of
 -- those before stays where none follows. An entry is found by the remainder, which is the client itself where it exists
 unfoldable pub latest_of : ℕ → List ℕ → List ℕ → List ℕ
@@ -53,22 +70,34 @@ put_at k x xs = take k xs ++ x ∷ drop k xs
 abbrev pub counts_with : ℕ → List Counts → ℕ → Counts
 counts_with client cs c = get_or (change one_more_submitted client cs) c zero_counts
 
--- the better of two clients' last candidates: a smaller miss ratio, among equals the later place; 0 is the place of none
+-- the better of two clients' last candidates: a smaller miss ratio, among equals the later place
 unfoldable pub better_candidate : LastCandidate → LastCandidate → LastCandidate
 better_candidate best next =
-    cond (eqb next.at 0) best
-    (cond (has_smaller_ratio best.counts next.counts) best
+    cond (has_smaller_ratio best.counts next.counts) best
     (cond (has_smaller_ratio next.counts best.counts) next
-    (cond (ltb next.at best.at) best next)))
+    (cond (ltb next.at best.at) best next))
 
--- the best of n clients' last candidates, one after the other
-unfoldable pub best_of : (ℕ → Counts) → List ℕ → ℕ → LastCandidate
-best_of counts latest zero = record { at = 0; counts = zero_counts }
-best_of counts latest (suc n) = better_candidate (best_of counts latest n) (record { at = get_or latest n 0; counts = counts n })
+-- the better of the best so far, where there is one, and the next
+abbrev pub better_of : Option LastCandidate → LastCandidate → LastCandidate
+better_of None next = next
+better_of (Some best) next = better_candidate best next
+
+-- the best of n clients' last candidates, one after the other; a client whose entry is 0 has none
+unfoldable pub best_of : (ℕ → Counts) → List ℕ → ℕ → Option LastCandidate
+best_of counts latest zero = None
+best_of counts latest (suc n) =
+    cond (eqb (get_or latest n 0) 0)
+    (best_of counts latest n)
+    (Some (better_of (best_of counts latest n) (record { at = get_or latest n 0; counts = counts n })))
+
+-- a candidate's place, 0 where there is none
+abbrev pub place_of : Option LastCandidate → ℕ
+place_of None = 0
+place_of (Some best) = best.at - 1
 
 -- the victim's place, from each of n clients' last candidate; 0 where no client has one
 abbrev pub smallest_ratio_place : (ℕ → Counts) → List ℕ → ℕ → ℕ
-smallest_ratio_place counts latest n = (best_of counts latest n).at - 1
+smallest_ratio_place counts latest n = place_of (best_of counts latest n)
 
 -- of n clients those that have a candidate, with the place of the last one, 1 added: no ratio of theirs has the divisor 0
 abbrev pub HaveRatios : (ℕ → Counts) → List ℕ → ℕ → Type 0

@@ -3,5 +3,6 @@
 
 pub mod open_search;
 pub mod overfull;
+pub(crate) mod scan;
 pub mod segments;
 pub mod starts;

@@ -1,29 +1,21 @@
 // Overfull deadlines: the room up to a deadline, the first deadline that has too little, and who is then dropped. Of the clients that
 // have a candidate, the victim's has the smallest miss ratio; among equals, it is the one whose last candidate stands last.
-ghost use Rattle.std.specs.Prelude.{◌≡◌, ◌∷◌, true, ◌+◌, ◌%◌, ◌≤◌, ◌<◌, min, ltb, length, get_or, set, take, drop};
+ghost use Rattle.std.specs.Prelude.{◌≡◌, ◌≢◌, ◌∷◌, ℕ, true, ◌+◌, ◌%◌, ◌≤◌, ◌<◌, ltb, length, get_or, set, slice_index, EachIndex, MatchOption};
 ghost use Rattle.spec.specs.Tables.{most_clients, most_records, clock_end, deadlines_of, clients_of, zero_counts, records_of};
 ghost use Rattle.spec.specs.Chart.{room_to, has_smaller_ratio};
 ghost use Rattle.hours.specs.Week.{are_all_open};
 ghost use Rattle.table.specs.Widths.{largest16, largest32};
-ghost use Rattle.occupancy.specs.Scans.{Sorted, place_by, overfull_from, candidate_count, latest_of, counts_with, better_candidate, smallest_ratio_place};
+ghost use Rattle.occupancy.specs.Scans.{Sorted, place_by, overfull_from, if_any, latest_of, counts_with, better_candidate, smallest_ratio_place};
 
 use crate::open_search;
+use crate::scan::{first_full, if_any};
 use hours::{calendar, marks};
 use spec::bounds::MOST_CLIENTS;
 use spec::types::{Counts, Head, Request};
-use table::{clients, waiting};
+use table::clients;
 
-// The smaller of two lengths.
-pub fn smaller(a: usize, b: usize) -> usize
-    ensures { result ≡ min a b }
-{
-    if a <= b {
-        return a;
-    }
-    b
-}
-
-// Whether more than i slots, open or not, lie between the clock and a deadline. A sum, since a difference would need a branch.
+// Whether more than i slots, open or not, lie between the clock and a deadline. A sum, since a difference would need a branch. That the
+// clock is within its bound stands in each contract: callers lend damaged heads too, so that no type says it of a `Head`.
 pub fn is_ahead_by(head: Head, i: u64, deadline: u64) -> bool
     requires { (head.clock ≤ clock_end) × (i ≤ most_records) }
     ensures { result ≡ ltb (head.clock + i) deadline }
@@ -45,18 +37,16 @@ pub fn has_room(head: Head, i: u64, deadline: u64) -> bool
     before + i < after
 }
 
-// How many of the first n records, whose deadlines ascend, have a deadline of at most this one, by halves; in any order of
-// deadlines, the place that these lead to.
-pub fn due_by(t: &[Request], n: usize, deadline: u64) -> usize
-    requires { n ≤ length t.now }
-    ensures { result ≡ place_by (deadlines_of t.now) n deadline }
+// How many of these records, whose deadlines ascend, have a deadline of at most this one, by halves; in any order of deadlines, the place
+// that these lead to. No `partition_point`, which promises nothing where deadlines do not ascend.
+pub fn due_by(waiting: &[Request], deadline: u64) -> usize
+    ensures { result ≡ place_by (deadlines_of waiting.now) (length waiting.now) deadline }
 {
-    let mut low: usize = 0;
-    let mut high = n;
+    let mut low = 0;
+    let mut high = waiting.len();
     while low < high {
         let middle = low + (high - low) / 2;
-        let w = waiting::get(t, middle);
-        if w.deadline <= deadline {
+        if waiting[middle].deadline <= deadline {
             low = middle + 1;
         } else {
             high = middle;
@@ -65,63 +55,46 @@ pub fn due_by(t: &[Request], n: usize, deadline: u64) -> usize
     low
 }
 
-// The first overfull deadline among those of the records from one index to another, where `more` requests besides come before each: one
-// that has not more slots up to it than requests before it. 0 where there is none. All slots are open.
-fn overfull_in_all(head: Head, t: &[Request], from: usize, n: usize, more: usize) -> u64
-    requires { (n ≤ length t.now) × (n + more ≤ most_records) × (from ≤ n) × (head.clock ≤ clock_end) × (are_all_open head.setup ≡ true) }
-    ensures { result ≡ overfull_from head (from + more) (drop from (take n (deadlines_of t.now))) }
+// The first overfull deadline among those of these records, where `before` requests come before the first: one that has not more slots up
+// to it than requests before it. All slots are open.
+fn overfull_in_all(head: Head, waiting: &[Request], before: usize) -> Option<u64>
+    requires { (before + length waiting.now ≤ most_records) × (head.clock ≤ clock_end) × (are_all_open head.setup ≡ true) }
+    ensures { result ≡ if_any (overfull_from head before (deadlines_of waiting.now)) }
 {
-    let mut i = from;
-    loop {
-        if n <= i {
-            break 0;
-        }
-        let w = waiting::get(t, i);
-        if !is_ahead_by(head, (i + more) as u64, w.deadline) {
-            break w.deadline;
-        }
-        i += 1;
-    }
+    first_full(
+        waiting,
+        before as u64,
+        |i, deadline| !is_ahead_by(head, i, deadline),
+    )
 }
 
-// The same as `overfull_in_all`, by open slots, of records whose deadlines ascend. Where no record is left to look at, the hours are not
-// counted either.
-pub fn overfull_in_open(head: Head, t: &[Request], from: usize, n: usize, more: usize) -> u64
-    requires { (n ≤ length t.now) × (n + more ≤ most_records) × (from ≤ n) × (head.clock ≤ clock_end) × (1 ≤ head.setup.hour)
-        × Sorted (take n (deadlines_of t.now)) }
-    ensures { result ≡ overfull_from head (from + more) (drop from (take n (deadlines_of t.now))) }
+// The first overfull deadline among those of these records, which ascend and stand behind `before` requests: one that has not more open slots
+// up to it than requests before it. Where there is no record to look at, the hours are not counted either.
+pub fn overfull_in_open(head: Head, waiting: &[Request], before: usize) -> Option<u64>
+    requires { (before + length waiting.now ≤ most_records) × (head.clock ≤ clock_end) × (1 ≤ head.setup.hour)
+        × Sorted (deadlines_of waiting.now) }
+    ensures { result ≡ if_any (overfull_from head before (deadlines_of waiting.now)) }
 {
-    if from < n {
-        return open_search::overfull_by_counts(head, t, from, n, more);
+    if waiting.is_empty() {
+        return None;
     }
-    0
+    open_search::overfull_by_counts(head, waiting, before)
 }
 
-// The first overfull deadline among those of n waiting records and a new one, looked for from the new one's place on: those before it
-// have the room that they had without it. 0 where there is none.
-pub fn first_overfull(head: Head, t: &[Request], n: usize, place: usize, deadline: u64) -> u64
-    requires { (n ≤ length t.now) × (n < most_records) × (place ≤ n) × (head.clock ≤ clock_end) × (1 ≤ head.setup.hour)
-        × Sorted (take n (deadlines_of t.now)) }
-    ensures { result ≡ overfull_from head place (deadline ∷ drop place (take n (deadlines_of t.now))) }
+// The first overfull deadline among that of a new request and those of the waiting records behind it, where `before` stand before it: these
+// have the room that they had without it.
+pub fn first_overfull(head: Head, behind: &[Request], before: usize, deadline: u64) -> Option<u64>
+    requires { (before + length behind.now < most_records) × (head.clock ≤ clock_end) × (1 ≤ head.setup.hour)
+        × Sorted (deadlines_of behind.now) }
+    ensures { result ≡ if_any (overfull_from head before (deadline ∷ deadlines_of behind.now)) }
 {
-    if !has_room(head, place as u64, deadline) {
-        return deadline;
+    if !has_room(head, before as u64, deadline) {
+        return if_any(deadline);
     }
     if marks::are_all_open(head.setup) {
-        return overfull_in_all(head, t, place, n, 1);
+        return overfull_in_all(head, behind, before + 1);
     }
-    overfull_in_open(head, t, place, n, 1)
-}
-
-// How many of n waiting records are candidates, where so many are due by the first overfull deadline: those, and none where no
-// deadline is overfull.
-pub fn candidates(n: usize, due: usize, found: u64) -> usize
-    ensures { result ≡ candidate_count n due found }
-{
-    if found != 0 {
-        return smaller(due, n);
-    }
-    0
+    overfull_in_open(head, behind, before + 1)
 }
 
 // A place of a client's request, 1 added, goes over what stood there of the client.
@@ -133,21 +106,17 @@ pub fn note(latest: &mut [u16], client: u64, place: usize)
     latest[c] = place as u16;
 }
 
-// The clients of the records from one index to another: of each its last one's index, `more` added.
-pub fn note_last_of_each(t: &[Request], latest: &mut [u16], from: usize, to: usize, more: usize)
-    requires { (to ≤ length t.now) × (length latest.old ≡ most_clients) × (to + more ≤ largest16) }
-    ensures { latest.new
-        ≡ latest_of (from + more) (drop from (take to (clients_of t.now))) latest.old }
+// The clients of these records: of each its last one's place, the first record standing at the place `first`.
+pub fn note_last_of_each(waiting: &[Request], latest: &mut [u16], first: usize)
+    requires { (length latest.old ≡ most_clients) × (first + length waiting.now ≤ largest16) }
+    ensures { latest.new ≡ latest_of first (clients_of waiting.now) latest.old }
 {
-    let mut i = from;
-    while i < to {
-        let w = waiting::get(t, i);
-        note(latest, w.client, i + more);
-        i += 1;
+    for (i, w) in waiting.iter().enumerate() {
+        note(latest, w.client, first + i);
     }
 }
 
-// A client's last candidate: its place and 1, or 0 where it has none. Beside it the client's counts.
+// A client's last candidate: its place, 1 added, and the client's counts.
 #[derive(Clone, Copy)]
 struct LastCandidate {
     at: u16,
@@ -168,8 +137,7 @@ fn counts_with(numbers: &[u32], client: u64, c: u64) -> Counts
     }
     Counts {
         submitted: counts.submitted + 1,
-        served: counts.served,
-        dropped: counts.dropped,
+        ..counts
     }
 }
 
@@ -178,18 +146,16 @@ fn counts_with(numbers: &[u32], client: u64, c: u64) -> Counts
 fn has_smaller_ratio(a: Counts, b: Counts) -> bool
     ensures { result ≡ has_smaller_ratio a b }
 {
-    (a.dropped as u64) * (b.submitted as u64) < (b.dropped as u64) * (a.submitted as u64)
+    u64::from(a.dropped) * u64::from(b.submitted) < u64::from(b.dropped) * u64::from(a.submitted)
 }
 
 // The better of two as a victim.
+#[tactic(auto, unfolding(crate::specs::Scans::better_candidate))]
 fn better(best: LastCandidate, next: LastCandidate) -> LastCandidate
     ensures { result ≡ better_candidate best next }
 {
     let a = best.counts;
     let b = next.counts;
-    if next.at == 0 {
-        return best;
-    }
     if has_smaller_ratio(a, b) {
         return best;
     }
@@ -202,32 +168,33 @@ fn better(best: LastCandidate, next: LastCandidate) -> LastCandidate
     next
 }
 
-// The victim's place, from each of the n clients' last candidate; 0 where no client has one.
-pub fn smallest_ratio_place(latest: &[u16], numbers: &[u32], client: u64, n: usize) -> usize
-    requires { (n ≤ length latest.now) × ((get_or (records_of numbers.now) client zero_counts).submitted < largest32) }
-    ensures { result ≡ smallest_ratio_place (counts_with client (records_of numbers.now)) latest.now n }
+// The first client that has a candidate.
+fn first_candidate(latest: &[u16]) -> Option<usize>
+    ensures { MatchOption result (EachIndex latest.now (λ k. slice_index latest.now k ≡ 0))
+        (λ i. (i < length latest.now) × (slice_index latest.now i ≢ 0) × ((k : ℕ) → k < i → slice_index latest.now k ≡ 0)) }
 {
-    let none = Counts {
-        submitted: 0,
-        served: 0,
-        dropped: 0,
+    latest.iter().position(|at| *at != 0)
+}
+
+// The victim's place, from each client's last candidate; 0 where no client has one. The first candidate is the best until a better one
+// comes: with an `Option` for the best, the loop was measured to take up to 1.5 times as long.
+pub fn smallest_ratio_place(latest: &[u16], numbers: &[u32], client: u64) -> usize
+    requires { (get_or (records_of numbers.now) client zero_counts).submitted < largest32 }
+    ensures { result ≡ smallest_ratio_place (counts_with client (records_of numbers.now)) latest.now (length latest.now) }
+{
+    let Some(first) = first_candidate(latest) else {
+        return 0;
     };
     let mut best = LastCandidate {
-        at: 0,
-        counts: none,
+        at: latest[first],
+        counts: counts_with(numbers, client, first as u64),
     };
-    let mut c: usize = 0;
-    while c < n {
+    for c in first + 1..latest.len() {
+        let at = latest[c];
         let counts = counts_with(numbers, client, c as u64);
-        let next = LastCandidate {
-            at: latest[c],
-            counts,
-        };
-        best = better(best, next);
-        c += 1;
+        if at != 0 {
+            best = better(best, LastCandidate { at, counts });
+        }
     }
-    if best.at == 0 {
-        return 0;
-    }
-    (best.at as usize) - 1
+    usize::from(best.at) - 1
 }

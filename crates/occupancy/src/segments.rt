@@ -1,5 +1,6 @@
 // The chart's segments, one after the other.
-ghost use Rattle.std.specs.Prelude.{◌≡◌, ◌∷◌, ℕ, ◌+◌, ◌<◌, ◌≤◌, length, get_or, take, drop};
+ghost use Rattle.std.specs.Prelude.{◌≡◌, ℕ, ◌+◌, ◌<◌, length, get_or};
+ghost use Rattle.std.specs.Iterator.{YieldsFirstBy, item_count};
 ghost use Rattle.spec.specs.Chart.{do_touch, segments_of};
 ghost use Rattle.table.specs.Widths.{largest64};
 ghost use Rattle.occupancy.specs.Charted.{segment};
@@ -7,12 +8,11 @@ ghost use Rattle.occupancy.specs.Charted.{segment};
 use hours::calendar;
 use spec::types::Setup;
 
-// A segment's two ends, and the index of the first start slot behind it.
-#[derive(Clone, Copy)]
-pub struct Run {
+// A segment's two ends.
+#[derive(Clone, Copy, PartialEq, Eq, Default)]
+pub struct Ends {
     pub left: u64,
     pub right: u64,
-    pub next: usize,
 }
 
 // Where the interval of a start slot ends: one after its own slot, whether the next one is open or not.
@@ -33,28 +33,45 @@ fn do_touch(setup: Setup, end: u64, start: u64) -> bool
     !calendar::is_any_open(setup, end, start)
 }
 
-// The segment that begins with the interval of the start slot at the index i.
-pub fn segment_at(setup: Setup, starts: &[u64], n: usize, i: usize) -> Run
-    requires { (i < n) × (n ≤ length starts.now) × ((k : ℕ) → k < n → get_or starts.now k 0 < largest64) }
-    ensures { (segments_of setup (drop i (take n starts.now))
-        ≡ segment result.left result.right ∷ segments_of setup (drop result.next (take n starts.now)))
-        × (i < result.next)
-        × (result.next ≤ n) }
-{
-    let left = starts[i];
-    let mut right = end_of(left);
-    let mut k = i + 1;
-    while k < n {
-        let start = starts[k];
-        if !do_touch(setup, right, start) {
-            break;
-        }
-        right = end_of(start);
-        k += 1;
+// The segments of these start slots, one after the other.
+#[derive(Drop)]
+pub struct Segments<'a> {
+    setup: Setup,
+    starts: &'a [u64],
+    ghost are_slots: { (k : ℕ) → k < length starts.now → get_or starts.now k 0 < largest64 },
+}
+
+impl<'a> Segments<'a> {
+    pub fn new(setup: Setup, starts: &'a [u64]) -> Segments<'a>
+        requires { (k : ℕ) → k < length starts.now → get_or starts.now k 0 < largest64 }
+        ensures { (result.setup ≡ setup) × (result.starts ≡ starts.entry) }
+    {
+        Segments { setup, starts }
     }
-    Run {
-        left,
-        right,
-        next: k,
+}
+
+impl<'a> Iterator for Segments<'a> {
+    type Item = Ends;
+
+    ghost next_gives = { YieldsFirstBy (λ e. segment e.left e.right) (λ s. segments_of s.setup s.starts.now) };
+
+    ghost remaining = { item_count (λ s. segments_of s.setup s.starts.now) };
+
+    // The segment that begins with the interval of the first start slot that is left.
+    fn next(&mut self) -> Option<Ends> {
+        let (first, behind) = self.starts.split_first()?;
+        let left = *first;
+        let mut right = end_of(left);
+        let mut rest = behind;
+        while let Some((next, behind)) = rest.split_first() {
+            let start = *next;
+            if !do_touch(self.setup, right, start) {
+                break;
+            }
+            right = end_of(start);
+            rest = behind;
+        }
+        self.starts = rest;
+        Some(Ends { left, right })
     }
 }

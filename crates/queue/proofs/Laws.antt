@@ -1,6 +1,6 @@
 -- What the parts of each call come to together: what its definition says.
-pub mod Refusals
 pub mod Replies
+pub mod Refusals
 pub mod Open
 pub mod Tick
 pub mod Report

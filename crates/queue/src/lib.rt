@@ -5,16 +5,17 @@
 mod submission;
 
 ghost use Rattle.std.specs.Prelude.{◌≡◌};
+ghost use Rattle.spec.specs.declared.types.Head.{Head};
 ghost use Rattle.spec.specs.Tables.{state_of};
 ghost use Rattle.spec.specs.Calls.Chart.{chart_output};
 ghost use Rattle.spec.specs.Calls.{opening, tick, report, chart};
-ghost use Rattle.queue.specs.Gives.{Gives};
+ghost use Rattle.queue.specs.Gives.{Gives, ComesTo};
+ghost use Rattle.queue.specs.Serving.{served_from, table_served};
 
 use decide::reply::unless_refused;
 use occupancy::starts;
-use sound::check;
 pub use spec::types::Reply;
-use spec::types::{Head, Request, Setup};
+use spec::types::{Head, Reason, Request, Setup};
 pub use submission::submit;
 use table::waiting;
 
@@ -24,11 +25,17 @@ pub fn open(head: Head, waiting: &mut [Request], clients: &mut [u32], setup: Set
         (state_of head waiting.old clients.old) result
         (state_of result.head waiting.new clients.new) }
 {
-    let refusal = decide::open::refusal(setup, waiting.len(), clients.len());
-    let cleared = unless_refused(refusal, waiting.len() as u64);
-    waiting::clear(waiting, cleared);
-    decide::open::clear_counts(clients, refusal);
-    decide::open::reply(head, refusal, setup)
+    unless_refused(head, try_open(waiting, clients, setup))
+}
+
+// An open, or why it is refused, whatever the head.
+fn try_open(waiting: &mut [Request], clients: &mut [u32], setup: Setup) -> Result<Reply, Reason>
+    ensures { (head : Head) → ComesTo (opening setup) (state_of head waiting.old clients.old) result waiting.new clients.new }
+{
+    decide::open::check(waiting, clients, setup)?;
+    waiting.fill(Request::default());
+    clients.fill(0);
+    Ok(decide::open::reply(setup))
 }
 
 // Tick: the first waiting record is served, or none waits, or the slot is closed; then the clock rises by 1, and a period may begin.
@@ -37,13 +44,29 @@ pub fn tick(head: Head, waiting: &mut [Request], clients: &mut [u32]) -> Reply
         (state_of head waiting.old clients.old) result
         (state_of result.head waiting.new clients.new) }
 {
-    let tables = check::tables_refusal(waiting, clients, head);
-    let refusal = decide::tick::refusal(tables, head);
+    unless_refused(head, try_tick(head, waiting, clients))
+}
+
+// A tick, or why it is refused.
+fn try_tick(head: Head, waiting: &mut [Request], clients: &mut [u32]) -> Result<Reply, Reason>
+    ensures { ComesTo tick (state_of head waiting.old clients.old) result waiting.new clients.new }
+{
+    decide::tick::check(head, waiting, clients)?;
     let serves = decide::tick::is_slot_open(head);
-    let served = decide::tick::serving(head, refusal, serves);
-    let gone = waiting::remove(waiting, served, 0);
-    decide::tick::count(clients, head, refusal, serves, gone);
-    decide::tick::reply(head, refusal, serves, gone)
+    let gone = take_first(waiting, head, serves);
+    decide::tick::count(clients, head, gone);
+    Ok(decide::tick::reply(head, serves, gone))
+}
+
+// The first waiting record is taken out where the slot is open, and handed back where there is one.
+fn take_first(waiting: &mut [Request], head: Head, serves: bool) -> Option<Request>
+    ensures gone { result ≡ served_from serves head waiting.old }
+    ensures table { waiting.new ≡ table_served serves head waiting.old }
+{
+    if !serves {
+        return None;
+    }
+    waiting::remove(waiting, head.waiting as usize, 0)
 }
 
 // Report: a client's three counts and its waiting count.
@@ -52,9 +75,20 @@ pub fn report(head: Head, waiting: &[Request], clients: &[u32], client: u64) -> 
         (state_of head waiting.now clients.now) result
         (state_of result.head waiting.now clients.now) }
 {
-    let tables = check::tables_refusal(waiting, clients, head);
-    let refusal = decide::report::refusal(tables, head, client);
-    decide::report::reply(head, clients, refusal, client)
+    unless_refused(head, try_report(head, waiting, clients, client))
+}
+
+// A report, or why it is refused.
+fn try_report(
+    head: Head,
+    waiting: &[Request],
+    clients: &[u32],
+    client: u64,
+) -> Result<Reply, Reason>
+    ensures { ComesTo (report client) (state_of head waiting.now clients.now) result waiting.now clients.now }
+{
+    decide::report::check(head, waiting, clients, client)?;
+    Ok(decide::report::reply(head, clients, client))
 }
 
 // Chart: one start slot a waiting record, into the output; entries beyond stay as they were.
@@ -65,9 +99,21 @@ pub fn chart(head: Head, waiting: &[Request], clients: &[u32], output: &mut [u64
         × (output.new ≡ chart_output output.old
         (state_of head waiting.now clients.now)) }
 {
-    let tables = check::tables_refusal(waiting, clients, head);
-    let refusal = decide::chart::refusal(tables, head, output.len());
-    let n = unless_refused(refusal, head.waiting);
-    starts::write_starts(head.setup, waiting, output, n);
-    decide::chart::reply(head, refusal)
+    unless_refused(head, try_chart(head, waiting, clients, output))
+}
+
+// A chart, or why it is refused.
+fn try_chart(
+    head: Head,
+    waiting: &[Request],
+    clients: &[u32],
+    output: &mut [u64],
+) -> Result<Reply, Reason>
+    ensures reply { ComesTo (chart output.old) (state_of head waiting.now clients.now) result waiting.now clients.now }
+    ensures output { output.new ≡ chart_output output.old (state_of head waiting.now clients.now) }
+{
+    decide::chart::check(head, waiting, clients, output)?;
+    let n = head.waiting as usize;
+    starts::write_starts(head.setup, &waiting[..n], &mut output[..n]);
+    Ok(decide::chart::reply(head))
 }

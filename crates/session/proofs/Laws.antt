@@ -5,4 +5,4 @@ pub mod OtherFrames
 pub mod LentCall
 pub mod LineOutcome
 pub mod Texts
-pub mod NextLine
+pub mod LineEnds

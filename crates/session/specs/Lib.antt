@@ -1,4 +1,5 @@
 pub mod Answered
 pub mod Feeding
+pub mod Lent
 pub mod Parts
 pub mod Standing

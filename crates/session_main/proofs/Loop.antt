@@ -1,25 +1,25 @@
--- The program's loop: where it stands before a read and before a feed. Assumes nothing.
-use Prim.Native.Nat.{ℕ, zero, suc, ◌+◌, ◌-◌, ◌≤◌, ◌<◌}
-use mathlib.Core.Bool.{Bool, true, false, false≢true, not, cond, ◌&&◌}
-use mathlib.Core.List.{List, [], ◌∷◌, ◌++◌, append-nil}
-use mathlib.Core.Path.{◌≡◌, refl, sym, ap, ◌∙◌, subst}
-use native.Mathlib.Omega.{arith}
-use borrow.Author.Tests.{eqb-true, eqb-false}
-use lib.Dec.{eqb}
-use lib.ListN.{length, take, drop, length-append, length-take, length-drop}
-use lib.Seq.{length-take-le, take-length, take-append-le, drop-append-le, take-add, drop-drop, drop_at}
+-- The program's loop: where it stands after so many turns, and before a feed. Assumes nothing.
+use Rattle.std.proofs.Common.{ℕ, zero, suc, ◌+◌, ◌-◌, ◌≤◌, ◌<◌, Bool, true, false, ◌||◌, List, [], ◌∷◌, ◌++◌, append-nil, ◌≡◌, refl, sym, ap, ◌∙◌, subst, arith, eqb, eqb-true, length, take, drop, length-append, length-take, length-drop, length-take-le, take-add, drop-drop, Some, is_some, Result, Ok, Err, is_ok, is_err, IfErr}
+use Rattle.std.proofs.lemmas.Bool.{false≢true}
+use Rattle.std.proofs.lemmas.List.{take-append-le, drop-append-le, drop-take}
+use Rattle.std.proofs.Math.Seq.{take-length}
+use Rattle.std.specs.Option.{option_or}
+use Rattle.std.specs.Result.{result_unwrap_or, result_err}
+use borrow.Author.Tests.{eqb-false}
+use Rattle.spec.specs.declared.types.Request.{Request}
 use Rattle.table.specs.Widths.{largest64}
 use Rattle.session.specs.declared.types.Fed.{Fed}
 use Rattle.frame.specs.Lines.{NoFeed}
 use Rattle.frame.specs.LineLengths.{most_bytes}
-use Rattle.session.specs.Standing.{Reserved, fits_in, do_fit}
+use Rattle.session.specs.Standing.{Reserved, reserved_of, fits_in, do_fit}
 use Rattle.session.specs.Feeding.{FedBy, LeftOver, can_with, owed}
 use Rattle.session.proofs.Parts.{parts_together, no_feed_left, feeds_on}
 use Rattle.session.specs.Parts.{SessionTables, Through, begins, goes}
+use Rattle.session_main.specs.declared.failure.Failure.{Failure}
+use Rattle.session_main.specs.declared.failure.Failure.TheVariants.{Unwritten}
 use Rattle.session_main.specs.declared.progress.Progress.{Progress}
 use Rattle.session_main.specs.declared.system.Got.{Got}
-use Rattle.session_main.specs.Program.{buffer_length, delivered_by, is_failed, at_first, after_read, CanRead, ReadsOn, to_write, GoesOn, Suffices, first, amount, AllDeliver, Delivers, Write, handed_to, AllWritten, Writes, Handed, ProgramRan}
-use Rattle.session_main.proofs.ReadAnswers.{at_most, failed_none}
+use Rattle.session_main.specs.Program.{buffer_length, ReadBehind, delivered_by, is_failed, Moved, at_first, after_read, is_over, CanRead, ReadsOn, to_write, GoesOn, first, amount, AllDeliver, Delivers, Write, handed_to, AllWritten, Writes, Handed, failure_of, ProgramRan}
 use Rattle.spec.specs.Lines.Frames.{longest_frame}
 
 -- ---- an input of which more is read
@@ -44,14 +44,6 @@ through_more input more (begins e) = begins e
 through_more input more (goes {used} part r out calls cut made) =
     goes part r out (through_more input more calls) (part_more part used input more cut) made
 
--- what is left of the front of the buffer
-drop_take : (n have : ℕ) (buffer : List ℕ) → n ≤ have → have ≤ length buffer
-    → drop n (take have buffer) ≡ take (have - n) (drop n buffer)
-drop_take n have buffer h k =
-    let all : n + (have - n) ≡ have = omega arith in
-    ap (drop n) (rw all at (take-add n (have - n) buffer))
-    ∙ drop_at (take n buffer) (take (have - n) (drop n buffer)) n (length-take-le n buffer (omega arith))
-
 -- ---- what was read and written so far
 -- what is still to be fed stands at the front of the buffer: all that is read and not used. The tables, with so many start slots,
 -- do for the session
@@ -69,38 +61,37 @@ pub record SoFar (begun : SessionTables) (slots : ℕ) (progress : Progress) (bu
   pub within : progress.have ≤ length buffer
   pub fits : do_fit progress.session (length t.waiting_table) (length t.client_numbers) slots ≡ true
   pub long : amount reads ≡ length input
-  pub delivers : Delivers progress.ended progress.unreadable reads
-  pub written : Writes progress.unwritten writes
+  pub unreadable : Bool
+  pub unwritten : Bool
+  pub delivers : Delivers progress.ended unreadable reads
+  pub written : Writes unwritten writes
+  pub failed : progress.failure ≡ failure_of unreadable unwritten
 
 -- one, where lines may be left that the turn before had no room to answer: that turn used some of the buffer
 abbrev spare : Bool → ℕ
 spare true = 1
 spare false = 0
 
--- before a read: where no lines are left, the beginning of a frame at most is still to be fed
-pub record BeforeRead (begun : SessionTables) (slots : ℕ) (progress : Progress) (buffer : List ℕ) (t : Reserved) : Type 0 where
+-- so many turns are made: where no lines are left, the beginning of a frame at most is still to be fed
+pub record AfterTurns (begun : SessionTables) (slots turns : ℕ) (progress : Progress) (buffer : List ℕ) (t : Reserved) : Type 0 where
   pub stands : SoFar begun slots progress buffer t
   pub handed : Handed progress.ended stands.input stands.answers (handed_to stands.writes)
   pub begun_left : progress.full ≡ false → (progress.have ≤ longest_frame) × NoFeed stands.input stands.used (length stands.input)
-  pub ends : progress.ended ≡ true → progress.turns ≡ 0
-  pub fails : progress.unwritten ≡ true → progress.turns ≡ 0
-  pub spent : progress.ended ≡ false → progress.unwritten ≡ false
-      → largest64 + spare progress.full ≤ progress.turns + stands.used + length stands.input
+  pub spent : progress.ended ≡ false → turns + spare progress.full ≤ stands.used + length stands.input
 
 -- before a feed: more was read, or lines were left, or the input is at its end
-pub record BeforeFeed (begun : SessionTables) (slots : ℕ) (progress : Progress) (buffer : List ℕ) (t : Reserved) : Type 0 where
+pub record BeforeFeed (begun : SessionTables) (slots turns : ℕ) (progress : Progress) (buffer : List ℕ) (t : Reserved) : Type 0 where
   pub stands : SoFar begun slots progress buffer t
   pub handed : handed_to stands.writes ≡ stands.answers
   pub whole : progress.ended ≡ true → NoFeed stands.input stands.used (length stands.input)
-  pub going : 0 < progress.turns
-  pub good : progress.unwritten ≡ false
-  pub spent : progress.ended ≡ false → largest64 + 1 ≤ progress.turns + stands.used + length stands.input
+  pub good : stands.unwritten ≡ false
+  pub spent : progress.ended ≡ false → turns + 1 ≤ stands.used + length stands.input
 
-pub loop_begins : {progress : Progress} {t : Reserved} {starts buffer out : List ℕ} → progress ≡ at_first
-    → Suffices t starts buffer out
-    → BeforeRead (first t) (length starts) progress buffer t
-loop_begins {progress} {t} {starts} {buffer} {out} e suffices =
-    subst (λ (progress : Progress). BeforeRead (first t) (length starts) progress buffer t) (sym e)
+pub loop_begins : {progress : Progress} {buffer : List ℕ} (ws : List Request) (xs : List ℕ) → progress ≡ at_first → length ws ≡ 2048
+    → length xs ≡ 768 → AfterTurns (first (reserved_of ws xs)) 2048 0 progress buffer (reserved_of ws xs)
+unfolding do_fit
+loop_begins {buffer = buffer} ws xs e ws-long xs-long =
+    subst (λ (progress : Progress). AfterTurns (first (reserved_of ws xs)) 2048 0 progress buffer (reserved_of ws xs)) (sym e)
     (record {
       stands =
           record {
@@ -113,30 +104,57 @@ loop_begins {progress} {t} {starts} {buffer} {out} e suffices =
             read = omega arith;
             front = refl;
             within = omega arith;
-            fits = suffices.fits;
+            fits = rw (ws-long, xs-long);
             long = refl;
+            unreadable = false;
+            unwritten = false;
             delivers = (refl, tt);
             written = tt;
+            failed = refl;
           };
       handed = refl;
       begun_left = λ _. (omega arith, λ k h l g. absurd (omega arith));
-      ends = λ h. absurd (false≢true h);
-      fails = λ h. absurd (false≢true h);
-      spent = λ _ _. omega arith;
+      spent = λ _. omega arith;
     })
 
--- a turn is made only where the loop has not stopped
-not_stopped : (turns : ℕ) (b : Bool) → (b ≡ true → turns ≡ 0) → 0 < turns → b ≡ false
-not_stopped turns true none going = absurd (omega (arith, none refl))
-not_stopped turns false none going = refl
+-- a turn is made only where neither the input's end nor a failure stopped the program
+not_ended : (progress : Progress) → is_over progress ≡ false → progress.ended ≡ false
+not_ended progress going = go progress.ended going
+  where
+    go : (ended : Bool) → (ended || is_some progress.failure) ≡ false → ended ≡ false
+    go true e = e
+    go false e = refl
+
+none_failed : (progress : Progress) (unreadable unwritten : Bool) → is_over progress ≡ false → progress.failure ≡ failure_of unreadable unwritten
+    → (unreadable ≡ false) × (unwritten ≡ false)
+none_failed progress unreadable unwritten going e = go unreadable unwritten (rw (not_ended progress going, e) at going)
+  where
+    go : (unreadable unwritten : Bool) → is_some (failure_of unreadable unwritten) ≡ false → (unreadable ≡ false) × (unwritten ≡ false)
+    go unreadable true f = absurd (false≢true (sym f))
+    go true false f = absurd (false≢true (sym f))
+    go false false f = (refl, refl)
+
+-- a read delivers no more than it is handed room for, and nothing where it failed
+at_most : (n : ℕ) (answer : Result ℕ Failure) → Moved n answer → result_unwrap_or answer 0 ≤ n
+at_most n (Ok k) h = h
+at_most n (Err failure) h = omega arith
+
+failed_none : (answer : Result ℕ Failure) → is_err answer ≡ true → result_unwrap_or answer 0 ≡ 0
+failed_none (Ok k) e = absurd (false≢true e)
+failed_none (Err failure) e = refl
+
+-- what a read and a write say of a failure
+read_failure : (n : ℕ) (answer : Result ℕ Failure) → Moved n answer → result_err answer ≡ failure_of (is_err answer) false
+read_failure n (Ok k) h = refl
+read_failure n (Err failure) h = ap Some h
 
 some : (n : ℕ) → eqb n 0 ≡ false → 0 < n
 some zero e = absurd (eqb-false 0 0 e refl)
 some (suc n) e = omega arith
 
 -- ---- a read
-module _ {begun : SessionTables} {slots : ℕ} {progress : Progress} {buffer : List ℕ} {t : Reserved}
-    (before : BeforeRead begun slots progress buffer t) (buffer_long : length buffer ≡ buffer_length) (going : 0 < progress.turns) where
+module _ {begun : SessionTables} {slots turns : ℕ} {progress : Progress} {buffer : List ℕ} {t : Reserved}
+    (before : AfterTurns begun slots turns progress buffer t) (going : is_over progress ≡ false) where
   -- what `read_on` asks
   pub can_read : CanRead progress.full progress
   can_read = go progress.full before.begun_left
@@ -146,39 +164,40 @@ module _ {begun : SessionTables} {slots : ℕ} {progress : Progress} {buffer : L
       go true left = tt
       go false left = omega (arith, (left refl).0)
 
-  -- it may go on
   open_input : progress.ended ≡ false
-  open_input = not_stopped progress.turns progress.ended before.ends going
+  open_input = not_ended progress going
 
-  good_output : progress.unwritten ≡ false
-  good_output = not_stopped progress.turns progress.unwritten before.fails going
+  good : (before.stands.unreadable ≡ false) × (before.stands.unwritten ≡ false)
+  good = none_failed progress before.stands.unreadable before.stands.unwritten going before.stands.failed
 
   handed_all : handed_to before.stands.writes ≡ before.stands.answers
   handed_all = rw open_input at before.handed
 
   all_deliver : AllDeliver before.stands.reads
-  all_deliver = (subst (λ (ended : Bool). Delivers ended progress.unreadable before.stands.reads) open_input before.stands.delivers).1
+  all_deliver =
+      (subst (λ (ended : Bool). Delivers ended before.stands.unreadable before.stands.reads) open_input before.stands.delivers).1
 
   -- lines are left
-  reads_none : progress.full ≡ true → BeforeFeed begun slots progress buffer t
+  reads_none : progress.full ≡ true → BeforeFeed begun slots turns progress buffer t
   reads_none full =
       record {
         stands = before.stands;
         handed = handed_all;
         whole = λ e. absurd (false≢true (sym open_input ∙ e));
-        going = going;
-        good = good_output;
-        spent = λ e. subst (λ (full : Bool). largest64 + spare full ≤ progress.turns + before.stands.used + length before.stands.input) full (before.spent e good_output);
+        good = good.1;
+        spent =
+            λ e.
+            subst (λ (full : Bool). turns + spare full ≤ before.stands.used + length before.stands.input) full (before.spent e);
       }
 
   -- none are left, and this was read
-  module _ (none : progress.full ≡ false) (buffer' : List ℕ) (long' : length buffer' ≡ length buffer) (got : Got)
-      (kept : take progress.have buffer' ≡ take progress.have buffer) (room : progress.have + delivered_by got ≤ length buffer) where
+  module _ (none : progress.full ≡ false) (buffer' : List ℕ) (got : Got)
+      (behind : ReadBehind progress.have buffer buffer' got) (room : progress.have + delivered_by got ≤ length buffer') where
     abbrev more : List ℕ
     more = take (delivered_by got) (drop progress.have buffer')
 
     more_long : length more ≡ delivered_by got
-    more_long = length-take-le (delivered_by got) (drop progress.have buffer') (omega (arith, room, long', length-drop progress.have buffer'))
+    more_long = length-take-le (delivered_by got) (drop progress.have buffer') (omega (arith, room, length-drop progress.have buffer'))
 
     read_delivers : (ended : Bool) → eqb (delivered_by got) 0 ≡ ended → Delivers ended (is_failed got) (got ∷ before.stands.reads)
     read_delivers true e = (eqb-true (delivered_by got) 0 e, refl, all_deliver)
@@ -188,7 +207,7 @@ module _ {begun : SessionTables} {slots : ℕ} {progress : Progress} {buffer : L
         no_failure true f = absurd (eqb-false (delivered_by got) 0 e (failed_none got.answer f))
         no_failure false f = refl
 
-    reads_some : BeforeFeed begun slots (after_read progress got) buffer' t
+    reads_some : BeforeFeed begun slots turns (after_read progress got) buffer' t
     reads_some =
         let stands = before.stands in
         let input : List ℕ = stands.input in
@@ -204,65 +223,44 @@ module _ {begun : SessionTables} {slots : ℕ} {progress : Progress} {buffer : L
                 read = omega (arith, stands.read, length-append input more);
                 front =
                     take-add progress.have (delivered_by got) buffer'
-                    ∙ ap (λ (l : List ℕ). l ++ more) (kept ∙ stands.front)
+                    ∙ ap (λ (l : List ℕ). l ++ more) (behind.0 ∙ stands.front)
                     ∙ sym (drop-append-le stands.used input more stands.read);
-                within = omega (arith, room, long');
+                within = room;
                 fits = stands.fits;
                 long = omega (arith, stands.long, more_long, length-append input more);
+                unreadable = is_failed got;
+                unwritten = stands.unwritten;
                 delivers = read_delivers (eqb (delivered_by got) 0) refl;
                 written = stands.written;
+                failed = rw good.1 (read_failure (buffer_length - progress.have) got.answer behind.1);
               };
           handed = handed_all;
           whole =
               λ e.
               let nothing : more ≡ [] = ap (λ (n : ℕ). take n (drop progress.have buffer')) (eqb-true (delivered_by got) 0 e) in
               rw (nothing, append-nil input) (before.begun_left none).1;
-          going = going;
-          good = good_output;
+          good = good.1;
           spent =
               λ e.
-              omega (arith, some (delivered_by got) e, more_long, length-append input more, before.spent open_input good_output);
+              omega (arith, some (delivered_by got) e, more_long, length-append input more, before.spent open_input);
         }
 
-  pub reads_on : (buffer' : List ℕ) (r : Progress) → ReadsOn progress.full progress buffer buffer' r → length buffer' ≡ length buffer
-      → BeforeFeed begun slots r buffer' t × (r.turns ≡ progress.turns)
+  pub reads_on : (buffer' : List ℕ) (r : Progress) → ReadsOn progress.full progress buffer buffer' r → length buffer' ≡ buffer_length
+      → BeforeFeed begun slots turns r buffer' t
   reads_on buffer' r reads long' = go progress.full refl reads
     where
-      go : (full : Bool) → progress.full ≡ full → ReadsOn full progress buffer buffer' r
-          → BeforeFeed begun slots r buffer' t × (r.turns ≡ progress.turns)
-      go true full same = rw (same.0, same.1) (reads_none full, refl)
+      go : (full : Bool) → progress.full ≡ full → ReadsOn full progress buffer buffer' r → BeforeFeed begun slots turns r buffer' t
+      go true full same = rw (same.0, same.1) (reads_none full)
       go false full read =
           let room : progress.have < buffer_length = subst (λ (full : Bool). CanRead full progress) full can_read in
-          subst (λ (r : Progress). BeforeFeed begun slots r buffer' t × (r.turns ≡ progress.turns)) (sym read.is) (
-            reads_some full buffer' long' read.got read.behind.0
-                (omega (arith, room, buffer_long, at_most (buffer_length - progress.have) read.got.answer read.behind.1)),
-            refl,
-          )
-
--- ---- the turns left after a write
-stops : (written ended : Bool) (turns : ℕ) → ended ≡ true → cond (written && not ended) turns 0 ≡ 0
-stops true true turns e = refl
-stops true false turns e = absurd (false≢true e)
-stops false ended turns e = refl
-
-fails : (written ended : Bool) (turns : ℕ) → not written ≡ true → cond (written && not ended) turns 0 ≡ 0
-fails true ended turns e = absurd (false≢true e)
-fails false ended turns e = refl
-
-goes_on : (written ended : Bool) (turns : ℕ) → ended ≡ false → not written ≡ false → cond (written && not ended) turns 0 ≡ turns
-goes_on true true turns e h = absurd (false≢true (sym e))
-goes_on true false turns e h = refl
-goes_on false ended turns e h = absurd (false≢true (sym h))
-
-falls : (written ended : Bool) (turns : ℕ) → 0 < turns → cond (written && not ended) (turns - 1) 0 < turns
-falls true true turns h = h
-falls true false turns h = omega arith
-falls false ended turns h = h
+          subst (λ (r : Progress). BeforeFeed begun slots turns r buffer' t) (sym read.is)
+          (reads_some full buffer' read.got read.behind
+          (omega (arith, room, long', at_most (buffer_length - progress.have) read.got.answer read.behind.1)))
 
 -- ---- a feed, and the write of its answers
-module _ {begun : SessionTables} {slots : ℕ} {progress : Progress} {fed : Fed} {buffer : List ℕ} {t t' : Reserved}
+module _ {begun : SessionTables} {slots turns : ℕ} {progress : Progress} {fed : Fed} {buffer : List ℕ} {t t' : Reserved}
     {starts out out' : List ℕ}
-    (feeds : BeforeFeed begun slots progress buffer t) (slots-are : length starts ≡ slots)
+    (feeds : BeforeFeed begun slots turns progress buffer t) (slots-are : length starts ≡ slots)
     (f : FedBy progress.session (take progress.have buffer) t starts out
     fed t' out') where
   do_fit_lem : fits_in progress.session t starts ≡ true
@@ -289,9 +287,14 @@ module _ {begun : SessionTables} {slots : ℕ} {progress : Progress} {fed : Fed}
     all_written : AllWritten stands.writes
     all_written = subst (λ (unwritten : Bool). Writes unwritten stands.writes) feeds.good stands.written
 
-    writes_on : (written : Bool) → on.receipt.written ≡ written → Writes (not written) (w ∷ stands.writes)
-    writes_on true e = (e, all_written)
-    writes_on false e = (e, all_written)
+    writes_on : (answer : Result Unit Failure) → on.receipt.answer ≡ answer → Writes (is_err answer) (w ∷ stands.writes)
+    writes_on (Ok done) e = (ap is_ok e, all_written)
+    writes_on (Err failure) e = (ap is_ok e, all_written)
+
+    failed_on : (answer : Result Unit Failure) → IfErr answer (λ failure. failure ≡ Unwritten)
+        → option_or (result_err answer) progress.failure ≡ failure_of stands.unreadable (is_err answer)
+    failed_on (Ok done) h = stands.failed ∙ ap (failure_of stands.unreadable) feeds.good
+    failed_on (Err failure) h = ap Some h
 
     handed_on : (ended : Bool) → progress.ended ≡ ended → take on.receipt.asked out'' ≡ to_write ended progress fed out'
         → Handed ended input (stands.answers ++ take fed.put out') (handed_to (w ∷ stands.writes))
@@ -317,59 +320,56 @@ module _ {begun : SessionTables} {slots : ℕ} {progress : Progress} {fed : Fed}
     spare_used true e = omega (arith, feeds_on f do_fit_lem answer_fits e)
     spare_used false e = omega arith
 
-    abbrev written : Bool
-    written = on.receipt.written
-
-    pub feeds_through : BeforeRead begun slots r buffer' t' × (r.turns < progress.turns)
+    pub feeds_through : AfterTurns begun slots (turns + 1) r buffer' t'
     feeds_through =
         let part : List ℕ = take progress.have buffer in
-        subst (λ (r : Progress). BeforeRead begun slots r buffer' t' × (r.turns < progress.turns)) (sym on.is) (
-          record {
-            stands =
-                record {
-                  input = input;
-                  used = stands.used + fed.used;
-                  answers = stands.answers ++ take fed.put out';
-                  reads = stands.reads;
-                  writes = w ∷ stands.writes;
-                  through =
-                      goes part fed out' stands.through (sym (take-length part) ∙ ap (take (length part)) stands.front)
-                      (record { session_kept = refl; starts = starts; out₀ = out; fed = f });
-                  read = omega (arith, stands.read, fed_within, have_is);
-                  front =
-                      on.unused ∙ sym (drop_take fed.used progress.have buffer fed_within stands.within)
-                      ∙ ap (drop fed.used) stands.front ∙ drop-drop fed.used stands.used input;
-                  within = omega (arith, buffer_long, stands.within);
-                  fits =
-                      rw (f.long.waiting_long, f.long.numbers_long, sym slots-are)
-                      (f.fits do_fit_lem);
-                  long = stands.long;
-                  delivers = stands.delivers;
-                  written = writes_on written refl;
-                };
-            handed = handed_on progress.ended refl on.handed;
-            begun_left = left_on;
-            ends = λ e. stops written progress.ended (progress.turns - 1) e;
-            fails = λ e. fails written progress.ended (progress.turns - 1) e;
-            spent =
-                λ e h.
-                omega (
-                  arith,
-                  goes_on written progress.ended (progress.turns - 1) e h,
-                  feeds.spent e,
-                  feeds.going,
-                  spare_used fed.full refl,
-                );
-          },
-          falls written progress.ended progress.turns feeds.going,
-        )
+        let used_first : fed.used + (progress.have - fed.used) ≡ progress.have = omega (arith, fed_within) in
+        subst (λ (r : Progress). AfterTurns begun slots (turns + 1) r buffer' t') (sym on.is)
+        (record {
+          stands =
+              record {
+                input = input;
+                used = stands.used + fed.used;
+                answers = stands.answers ++ take fed.put out';
+                reads = stands.reads;
+                writes = w ∷ stands.writes;
+                through =
+                    goes part fed out' stands.through (sym (take-length part) ∙ ap (take (length part)) stands.front)
+                    (record { session_kept = refl; starts = starts; out₀ = out; fed = f });
+                read = omega (arith, stands.read, fed_within, have_is);
+                front =
+                    on.unused ∙ sym (rw used_first at (drop-take fed.used (progress.have - fed.used) buffer))
+                    ∙ ap (drop fed.used) stands.front ∙ drop-drop fed.used stands.used input;
+                within = omega (arith, buffer_long, stands.within);
+                fits =
+                    rw (f.long.waiting_long, f.long.numbers_long, sym slots-are)
+                    (f.fits do_fit_lem);
+                long = stands.long;
+                unreadable = stands.unreadable;
+                unwritten = is_err on.receipt.answer;
+                delivers = stands.delivers;
+                written = writes_on on.receipt.answer refl;
+                failed = failed_on on.receipt.answer on.fails;
+              };
+          handed = handed_on progress.ended refl on.handed;
+          begun_left = left_on;
+          spent = λ e. omega (arith, feeds.spent e, spare_used fed.full refl);
+        })
+
+-- ---- a turn
+pub turn_made : {begun : SessionTables} {slots turns : ℕ} {progress read r : Progress} {fed : Fed} {buffer buffer' buffer'' : List ℕ}
+    {t t' : Reserved} {starts out out' out'' : List ℕ} → AfterTurns begun slots turns progress buffer t → is_over progress ≡ false
+    → ReadsOn progress.full progress buffer buffer' read → length buffer' ≡ buffer_length
+    → length starts ≡ slots → FedBy read.session (take read.have buffer') t starts out fed t' out' → most_bytes ≤ length out
+    → GoesOn read fed buffer' out' buffer'' out'' r → length buffer'' ≡ buffer_length → AfterTurns begun slots (turns + 1) r buffer'' t'
+turn_made {read = read} {buffer' = buffer'} after going reads long' slots-are f answer_fits on long'' =
+    feeds_through (reads_on after going buffer' read reads long') slots-are f answer_fits on (long'' ∙ sym long')
 
 -- ---- the end
-pub loop_ends : {progress : Progress} {slots : ℕ} {buffer : List ℕ} {t₀ t : Reserved}
-    → BeforeRead (first t₀) slots progress buffer t → progress.turns ≡ 0
-    → ProgramRan t₀ t progress
-loop_ends before over =
-    let stands = before.stands in
+pub loop_ends : {progress : Progress} {slots turns : ℕ} {buffer : List ℕ} {t₀ t : Reserved} → AfterTurns (first t₀) slots turns progress buffer t
+    → (is_over progress ≡ false → turns ≡ largest64) → ProgramRan t₀ t progress
+loop_ends {progress} after over =
+    let stands = after.stands in
     record {
       input = stands.input;
       used = stands.used;
@@ -378,8 +378,11 @@ loop_ends before over =
       writes = stands.writes;
       through = stands.through;
       long = stands.long;
+      unreadable = stands.unreadable;
+      unwritten = stands.unwritten;
       delivers = stands.delivers;
-      handed = before.handed;
+      handed = after.handed;
       written = stands.written;
-      stops = λ h k. omega (arith, over, before.spent h k, stands.read);
+      failed = stands.failed;
+      stops = λ going. omega (arith, over going, after.spent (not_ended progress going), stands.read);
     }

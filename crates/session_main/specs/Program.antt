@@ -2,7 +2,7 @@
 --
 -- What no contract says of the program, since none says what a system call does:
 --     in src/system.rt     what the calls of `read` and of `write_all` do, and that what they answer is what is handed on
---     in src/progress.rt       that `read_behind` and `write_front` are called once, where they stand, and which line `say_why` says
+--     in src/progress.rt   that `read_behind` and `write_front` are called once, where they stand, and that `say_why` says the failure
 --     in src/main.rt       that `main` calls `serve` and `say_why`, and that the streams that it hands them are the standard ones
 -- So `ProgramRan` speaks of some reads and some writes; that they are the ones made is shown by test, in tests/src/bin/session.rs. Each
 -- session of `CASES` fails where other characters are read or written than those, or some of them not or twice, or where a good read or
@@ -10,102 +10,70 @@
 -- `try_unreadable_inputs` and `try_nonblocking_input` where a failed read is taken for the input's end, and these four where another line
 -- is said, or none.
 -- Assumes nothing.
-use Rattle.std.specs.Prelude.{ℕ, ◌+◌, ◌-◌, ◌≤◌, ◌<◌, Bool, true, false, not, cond, ◌&&◌, List, [], ◌∷◌, ◌++◌, ◌≡◌, eqb, ℤ, pos, negsuc, length, take, drop}
+use Rattle.std.specs.Prelude.{ℕ, ◌+◌, ◌-◌, ◌≤◌, ◌<◌, Bool, true, false, ◌||◌, List, [], ◌∷◌, ◌++◌, ◌≡◌, eqb, Option, Some, None, is_some, Result, Ok, Err, is_ok, is_err, IfErr, length, take, drop}
+use Rattle.std.specs.Option.{option_or}
+use Rattle.std.specs.Result.{result_unwrap_or, result_err}
 use Rattle.session.specs.declared.types.Fed.{Fed}
 use Rattle.spec.specs.Lines.Session.{session as session_of}
 use Rattle.table.specs.Widths.{largest64}
-use Rattle.frame.specs.LineLengths.{most_bytes}
-use Rattle.session.specs.Standing.{Reserved, fits_in}
+use Rattle.session.specs.Standing.{Reserved}
 use Rattle.session.specs.Feeding.{owed}
 use Rattle.session.specs.Parts.{session_start, SessionTables, Through}
+use Rattle.session_main.specs.declared.failure.Failure.{Failure}
+use Rattle.session_main.specs.declared.failure.Failure.TheVariants.{Unreadable, Unwritten}
 use Rattle.session_main.specs.declared.progress.Progress.{Progress}
 use Rattle.session_main.specs.declared.system.Got.{Got}
 use Rattle.session_main.specs.declared.system.Receipt.{Receipt}
 
 -- ---- a read
--- the characters that the buffer has room for: fewer than the output has (`most_bytes`), so that neither is taken for the other
+-- the characters that the buffer has room for
 abbrev pub buffer_length : ℕ
 buffer_length = 65536
 
--- how many characters a read put in the buffer
-abbrev pub amount_of : ℤ → ℕ
-amount_of (pos n) = n
-amount_of (negsuc n) = 0
-
+-- how many characters a read put in the buffer: none where it failed
 abbrev pub delivered_by : Got → ℕ
-delivered_by got = amount_of got.answer
-
--- whether it failed
-abbrev pub is_negative : ℤ → Bool
-is_negative (pos n) = false
-is_negative (negsuc n) = true
+delivered_by got = result_unwrap_or got.answer 0
 
 abbrev pub is_failed : Got → Bool
-is_failed got = is_negative got.answer
+is_failed got = is_err got.answer
 
--- what a read that is handed n characters of room may answer: -1, or how many it moved, at most n
-abbrev pub Moved : ℕ → ℤ → Type 0
-Moved n (pos k) = k ≤ n
-Moved n (negsuc k) = k ≡ 0
+-- what a read that is handed n characters of room may answer: how many it moved, at most n, or that it failed
+abbrev pub Moved : ℕ → Result ℕ Failure → Type 0
+Moved n (Ok k) = k ≤ n
+Moved n (Err failure) = failure ≡ Unreadable
 
 -- a read changes only what stands behind the first `have` characters, and delivers no more than there is room for
 abbrev pub ReadBehind : ℕ → List ℕ → List ℕ → Got → Type 0
 ReadBehind have buffer buffer' got = (take have buffer' ≡ take have buffer) × Moved (buffer_length - have) got.answer
 
+-- ---- a write
+abbrev pub is_written : Receipt → Bool
+is_written receipt = is_ok receipt.answer
+
+-- what a write of n characters may answer
+abbrev pub Asked : ℕ → Receipt → Type 0
+Asked n receipt = (receipt.asked ≡ n) × IfErr receipt.answer (λ failure. failure ≡ Unwritten)
+
 -- ---- the steps of a turn
 abbrev pub at_first : Progress
-at_first =
-    record {
-      session = session_start;
-      have = 0;
-      put = 0;
-      turns = largest64;
-      full = false;
-      ended = false;
-      unreadable = false;
-      unwritten = false;
-    }
+at_first = record { session = session_start; have = 0; full = false; ended = false; failure = None }
 
 -- a read that delivers nothing is the input's end, or failed
 abbrev pub after_read : Progress → Got → Progress
 after_read progress got =
-    record {
-      session = progress.session;
-      have = progress.have + delivered_by got;
-      put = progress.put;
-      turns = progress.turns;
-      full = progress.full;
-      ended = eqb (delivered_by got) 0;
-      unreadable = is_failed got;
-      unwritten = progress.unwritten;
-    }
+    record progress { have = progress.have + delivered_by got; ended = eqb (delivered_by got) 0; failure = result_err got.answer }
 
-abbrev pub after_feed : Progress → Fed → ℕ → Progress
-after_feed progress fed n =
-    record {
-      session = fed.session;
-      have = progress.have - fed.used;
-      put = n;
-      turns = progress.turns - 1;
-      full = fed.full;
-      ended = progress.ended;
-      unreadable = progress.unreadable;
-      unwritten = progress.unwritten;
-    }
+abbrev pub after_feed : Progress → Fed → Progress
+after_feed progress fed =
+    record progress { session = fed.session; have = progress.have - fed.used; full = fed.full }
 
--- the program goes on unless the input is at its end or the write failed
+-- a write that failed is said before a read that did
 abbrev pub after_write : Progress → Receipt → Progress
-after_write progress receipt =
-    record {
-      session = progress.session;
-      have = progress.have;
-      put = 0;
-      turns = cond (receipt.written && not progress.ended) progress.turns 0;
-      full = progress.full;
-      ended = progress.ended;
-      unreadable = progress.unreadable;
-      unwritten = not receipt.written;
-    }
+after_write progress receipt = record progress { failure = option_or (result_err receipt.answer) progress.failure }
+
+-- the program goes on unless the input is at its end, or a read or a write failed
+abbrev pub is_over : Progress → Bool
+is_over progress = progress.ended || is_some progress.failure
 
 -- ---- reading on
 -- unless lines are left, there is room behind what is still to be fed
@@ -136,16 +104,11 @@ Puts ended progress fed out out' n = (n ≤ length out) × (take n out' ≡ to_w
 pub record GoesOn (progress : Progress) (fed : Fed) (buffer out buffer' out' : List ℕ) (r : Progress) : Type 0 where
   pub receipt : Receipt
   pub handed : take receipt.asked out' ≡ to_write progress.ended progress fed out
-  pub is : r ≡ after_write (after_feed progress fed receipt.asked) receipt
+  pub fails : IfErr receipt.answer (λ failure. failure ≡ Unwritten)
+  pub is : r ≡ after_write (after_feed progress fed) receipt
   pub unused : take (progress.have - fed.used) buffer' ≡ take (progress.have - fed.used) (drop fed.used buffer)
 
 -- ---- the program
--- what the program needs for each turn to use or read something: tables for every session, room for an answer, and room to read
-pub record Suffices (t : Reserved) (starts buffer out : List ℕ) : Type 0 where
-  pub fits : fits_in session_start t starts ≡ true
-  pub answer_fits : most_bytes ≤ length out
-  pub buffer_long : length buffer ≡ buffer_length
-
 -- the tables that the program begins with, and where the session then stands
 abbrev pub first : Reserved → SessionTables
 first t = record { session = session_start; tables = t }
@@ -176,20 +139,26 @@ handed_to (w ∷ writes) = handed_to writes ++ take w.receipt.asked w.out
 
 abbrev pub AllWritten : List Write → Type 0
 AllWritten [] = Unit {0}
-AllWritten (w ∷ writes) = (w.receipt.written ≡ true) × AllWritten writes
+AllWritten (w ∷ writes) = (is_written w.receipt ≡ true) × AllWritten writes
 
 abbrev pub Writes : Bool → List Write → Type 0
 Writes false writes = AllWritten writes
 Writes true [] = ⊥
-Writes true (w ∷ writes) = (w.receipt.written ≡ false) × AllWritten writes
+Writes true (w ∷ writes) = (is_written w.receipt ≡ false) × AllWritten writes
 
 -- what was handed to the write: the answers so far, and at the input's end the whole session's, with the last line's
 abbrev pub Handed : Bool → List ℕ → List ℕ → List ℕ → Type 0
 Handed true input answers handed = handed ≡ session_of input
 Handed false input answers handed = handed ≡ answers
 
--- from the tables t₀ the program came to t by feeding a session one input from its start, part behind
--- part, nothing left out and nothing twice, and it handed the answers to the write, in order; which input that is, no contract says
+-- why the program stops before the input's end, by whether the last read and the last write failed
+abbrev pub failure_of : Bool → Bool → Option Failure
+failure_of unreadable true = Some Unwritten
+failure_of true false = Some Unreadable
+failure_of false false = None
+
+-- from the tables t₀ the program came to t by feeding a session one input from its start, part behind part, nothing left out and nothing
+-- twice, and it handed the answers to the write, in order; which input that is, no contract says
 pub record ProgramRan (t₀ t : Reserved) (r : Progress) : Type 0 where
   pub input : List ℕ
   pub used : ℕ
@@ -199,8 +168,12 @@ pub record ProgramRan (t₀ t : Reserved) (r : Progress) : Type 0 where
   pub through :
       Through (first t₀) input used answers (record { session = r.session; tables = t })
   pub long : amount reads ≡ length input
-  pub delivers : Delivers r.ended r.unreadable reads
+  -- whether the last read failed, and the last write
+  pub unreadable : Bool
+  pub unwritten : Bool
+  pub delivers : Delivers r.ended unreadable reads
   pub handed : Handed r.ended input answers (handed_to writes)
-  pub written : Writes r.unwritten writes
+  pub written : Writes unwritten writes
+  pub failed : r.failure ≡ failure_of unreadable unwritten
   -- it stops at the input's end, where a read or a write is said to have failed, and otherwise not before the input has 2⁶³ characters
-  pub stops : r.ended ≡ false → r.unwritten ≡ false → largest64 ≤ length input + length input
+  pub stops : is_over r ≡ false → largest64 ≤ length input + length input

@@ -1,8 +1,7 @@
-pub mod Tally
+pub mod Parts
 pub mod RecordTests
 pub mod Turns
-pub mod Zeros
-pub mod PassWalks
+pub mod Fours
 pub mod Pass
 pub mod Rooms
 pub mod Verdict

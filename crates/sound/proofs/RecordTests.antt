@@ -1,17 +1,14 @@
 -- Laws of the passes: the tests of one record and of one client's counts, what one turn of a pass leaves to do, the clients with
 -- the count of the records, and the shape of the tables. Assumes nothing.
 use Prim.Native.Nat.{ℕ, zero, suc, ◌+◌, ◌-◌, ◌%◌, ◌≤◌, ◌<◌, ◌*◌}
-use mathlib.Core.Path.{◌≡◌, refl, sym, ap, subst, ◌∙◌}
+use mathlib.Core.Path.{◌≡◌, refl}
 use mathlib.Core.Bool.{Bool, true, false, not, ◌&&◌, ◌||◌, and-eq-true_iff, and-true, and-false, and_assoc}
 use mathlib.Core.List.{List, [], ◌∷◌}
-use mathlib.Core.Logic.{◌≢◌}
-use native.Mathlib.Nat.{add-zero}
-use native.Mathlib.Numerals.{add-one}
 use native.Mathlib.Omega.{arith}
 use borrow.Author.Tests.{leb-true, leb-false, ltb-true, eqb-true, le-leb, lt-leb, lt-ltb, le-ltb, ne_eqb}
 use lib.Bits.{bit_or, or_add_and, and_le_r}
-use lib.Dec.{T, T_not, leb, ltb, eqb, eqb→eq, eqb_refl}
-use lib.ListN.{length, take, replicate}
+use lib.Dec.{leb, ltb, eqb}
+use lib.ListN.{length, get_or, take, replicate}
 use lib.Seq.{take_all}
 use mir.Val.{bool_byte}
 use Rattle.slots.proofs.Laws.Tests.{Test, holds, fails, test}
@@ -19,7 +16,7 @@ use Rattle.spec.specs.declared.types.Head.{Head}
 use Rattle.spec.specs.declared.types.Request.{Request}
 use Rattle.spec.specs.declared.types.Counts.{Counts}
 use Rattle.spec.specs.Every.{is_within, every, every_from}
-use Rattle.spec.specs.Tables.{most_clients, most_records, most_counted, State, client_width, records_of}
+use Rattle.spec.specs.Tables.{most_clients, most_records, most_counted, zero_request, State, client_width}
 use Rattle.spec.specs.Order.{comes_before}
 use Rattle.spec.specs.Sound.{waiting_of, is_zero_request, is_balanced}
 use Rattle.spec.specs.Calls.Refusals.{refusal4}
@@ -27,17 +24,10 @@ use Rattle.spec.proofs.Laws.Every.{Value, is_true, is_false, value}
 use Rattle.spec.proofs.Laws.Order.{Compared, compared, before as ordered, after as unordered, earlier, alike, later, alike_later}
 use Rattle.spec.proofs.Laws.Layout.{whole_records}
 use Rattle.spec.proofs.Laws.Sound.{within_test, Shaped}
-use Rattle.table.proofs.Remaining.{rest_none, records_rest}
-use Rattle.table.proofs.MovedRecords.{not_not}
-use Rattle.sound.specs.Checks.{has_shape, is_next, does_balance, balances_at, are_balanced_from, tally_size, tallied_of, Tallied}
-use Rattle.sound.proofs.Tally.{tally_zero}
+use Rattle.sound.specs.Checks.{has_shape, is_next, bits_of, does_balance, tally_size, tallied_of, Tallied}
+use Rattle.sound.proofs.Parts.{tally_zero}
 
 -- ---- chart order as one comparison: a deadline may follow itself only where the number is larger
--- what a deadline is lowered by
-pub one_at_most : (x : Bool) (n : ℕ) → 1 ≤ n → bool_byte x ≤ n
-one_at_most true n some = some
-one_at_most false n some = omega arith
-
 module _ (a b : Request) where
   pub one_comparison : 1 ≤ b.deadline
       → leb a.deadline (b.deadline - bool_byte (leb b.number a.number)) ≡ comes_before a b
@@ -75,75 +65,6 @@ unfolding is_next
 next_client head i before w e =
     let p = simp and-eq-true_iff at e in ltb-true w.client head.setup.clients p.0.0.1
 
--- ---- a pass with one verdict: that so far, b, and that on what is left make up the whole. A turn takes the next test into b. It
--- ends where b fails, or where nothing is left
-verdict_turn : (b t rest left whole : Bool) → left ≡ t && rest → b && left ≡ whole → (b && t) && rest ≡ whole
-verdict_turn b t rest left whole e h = and_assoc b t rest ∙ ap (λ (x : Bool). b && x) (sym e) ∙ h
-
-pub verdict_end : (b left whole : Bool) → (T b → left ≡ true) → b && left ≡ whole → b ≡ whole
-verdict_end true left whole e h = sym (e tt) ∙ h
-verdict_end false left whole e h = h
-
--- where none is gone on with although b holds, none is left
-pub stops : (more b : Bool) → more && b ≡ false → T b → more ≡ false
-stops more true e h = sym (and-true more) ∙ e
-stops more false e h = elim h [ ]
-
-module _ {A : Type 0} (b : Bool) (x : A) (xs l : List A) (whole : Bool) (e : l ≡ x ∷ xs) where
-  pub every_turn : (test : A → Bool) → b && every test l ≡ whole → (b && test x) && every test xs ≡ whole
-  unfolding every
-  every_turn test h = verdict_turn b (test x) (every test xs) (every test l) whole (ap (every test) e) h
-
-  pub from_turn : (test : ℕ → A → Bool) (i : ℕ) → b && every_from test i l ≡ whole
-      → (b && test i x) && every_from test (i + 1) xs ≡ whole
-  unfolding every_from
-  from_turn test i h =
-      rw (add-one i)
-      (verdict_turn b (test i x) (every_from test (suc i) xs) (every_from test i l) whole (ap (every_from test i) e) h)
-
--- ---- the clients from one index to another: one more of them, those up to an index and those from it on, and four more
-module _ (tally numbers : List ℕ) where
-  pub one_more : (b whole : Bool) (n i j : ℕ) → client_width * n ≤ length numbers → i < n → j ≡ i + 1
-      → b && are_balanced_from tally numbers i n ≡ whole
-      → (b && balances_at tally numbers i) && are_balanced_from tally numbers j n ≡ whole
-  one_more b whole n i j reach l e h =
-      rw e (from_turn b _ _ _ whole (records_rest numbers n i l reach) (λ c k. does_balance k (tallied_of tally c)) i h)
-
-  pub clients_parts : (k i n : ℕ) → client_width * n ≤ length numbers → i + k ≤ n
-      → are_balanced_from tally numbers i (i + k) && are_balanced_from tally numbers (i + k) n ≡ are_balanced_from tally numbers i n
-  unfolding every_from
-  clients_parts zero i n reach l = rw (add-zero i, rest_none (records_of numbers) i i (omega arith))
-  clients_parts (suc k) i n reach l =
-      let here = balances_at tally numbers i in
-      let e : i + 1 + k ≡ i + suc k = omega arith in
-      ap (λ (x : Bool). x && are_balanced_from tally numbers (i + suc k) n)
-      (sym (one_more true _ (i + suc k) i (i + 1) (omega arith) (omega arith) refl refl))
-      ∙ and_assoc here (are_balanced_from tally numbers (i + 1) (i + suc k)) (are_balanced_from tally numbers (i + suc k) n)
-      ∙ ap (λ (x : Bool). here && x)
-      (subst (λ (m : ℕ). are_balanced_from tally numbers (i + 1) m && are_balanced_from tally numbers m n ≡ are_balanced_from tally numbers (i + 1) n)
-      e (clients_parts k (i + 1) n reach (omega arith)))
-      ∙ one_more true _ n i (i + 1) reach (omega arith) refl refl
-
-  abbrev pub do_four_balance : ℕ → Bool
-  do_four_balance c =
-      (balances_at tally numbers c && balances_at tally numbers (c + 1))
-      && (balances_at tally numbers (c + 2) && balances_at tally numbers (c + 3))
-
-  pub four_more : (b whole : Bool) (n i : ℕ) → client_width * n ≤ length numbers → i + 4 ≤ n
-      → b && are_balanced_from tally numbers i n ≡ whole
-      → (b && do_four_balance i) && are_balanced_from tally numbers (i + 4) n ≡ whole
-  four_more b whole n i reach l h =
-      let at : ℕ → Bool = balances_at tally numbers in
-      let first = one_more b whole n i (i + 1) reach (omega arith) (omega arith) h in
-      let second = one_more (b && at i) whole n (i + 1) (i + 2) reach (omega arith) (omega arith) first in
-      let third = one_more ((b && at i) && at (i + 1)) whole n (i + 2) (i + 3) reach (omega arith) (omega arith) second in
-      ap (λ (x : Bool). x && are_balanced_from tally numbers (i + 4) n) (grouped b (at i) (at (i + 1)) (at (i + 2)) (at (i + 3)))
-      ∙ one_more (((b && at i) && at (i + 1)) && at (i + 2)) whole n (i + 3) (i + 4) reach (omega arith) (omega arith) third
-    where
-      grouped : (b p q r s : Bool) → b && ((p && q) && (r && s)) ≡ (((b && p) && q) && r) && s
-      grouped true p q r s = sym (and_assoc (p && q) r s)
-      grouped false p q r s = refl
-
 -- ---- bits joined: none is set where both numbers are zero
 or_zero : (a b : ℕ) → eqb (bit_or a b) 0 ≡ eqb a 0 && eqb b 0
 or_zero zero b = refl
@@ -153,18 +74,21 @@ or_zero (suc a) b =
       ne_eqb (bit_or (suc a) b) 0 (λ e. omega (arith, or_add_and (suc a) b, and_le_r (suc a) b)),
     )
 
-abbrev bits : Request → ℕ
-bits w = bit_or (bit_or w.deadline w.number) w.client
-
-pub bits_zero : (w : Request) → eqb (bits w) 0 ≡ is_zero_request w
+pub bits_zero : (w : Request) → eqb (bits_of w) 0 ≡ is_zero_request w
 unfolding is_zero_request
 bits_zero w = simp or_zero
 
-pub bits_zero_four : (a b c d : Request)
-    → eqb (bit_or (bit_or (bits a) (bits b)) (bit_or (bits c) (bits d))) 0
-    ≡ is_zero_request a && is_zero_request b && (is_zero_request c && is_zero_request d)
-unfolding is_zero_request
-bits_zero_four a b c d = simp or_zero
+pub bits_zero_four : (four : List Request) → length four ≡ 4
+    → eqb (bit_or (bit_or (bits_of (get_or four 0 zero_request)) (bits_of (get_or four 1 zero_request)))
+    (bit_or (bits_of (get_or four 2 zero_request)) (bits_of (get_or four 3 zero_request)))) 0
+    ≡ every is_zero_request four
+unfolding is_zero_request every
+bits_zero_four [] e = absurd (omega arith)
+bits_zero_four (a ∷ []) e = absurd (omega arith)
+bits_zero_four (a ∷ b ∷ []) e = absurd (omega arith)
+bits_zero_four (a ∷ b ∷ c ∷ []) e = absurd (omega arith)
+bits_zero_four (a ∷ b ∷ c ∷ d ∷ []) e = simp (or_zero, and-true, and_assoc)
+bits_zero_four (a ∷ b ∷ c ∷ d ∷ w ∷ ws) e = absurd (omega arith)
 
 -- ---- counts cut to their bound: where one is beyond it, they do not balance
 abbrev cut : ℕ → ℕ
@@ -247,10 +171,3 @@ shape_refused s =
     go true true c e = e
     go true false c e = refl
     go false b c e = refl
-
--- ---- the test whether a number is 0, as a branch has it
-pub not_zero : (n : ℕ) → T (not (eqb n 0)) → n ≢ 0
-not_zero n h e = T_not (eqb n 0) h (subst (λ (m : ℕ). T (eqb n m)) e (eqb_refl n))
-
-pub is_zero : (n : ℕ) → T (not (not (eqb n 0))) → n ≡ 0
-is_zero n h = eqb→eq n 0 (not_not (eqb n 0) h)

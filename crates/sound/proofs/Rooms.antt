@@ -1,13 +1,14 @@
 -- Laws of records that passed where all slots count: their deadlines ascend, and whether each has room by open slots is whether the
 -- search for an overfull deadline finds none. Assumes nothing.
 use Prim.Native.Nat.{ℕ, zero, suc, ◌+◌, ◌≤◌, ◌<◌}
-use mathlib.Core.Path.{◌≡◌, refl, sym, ap, subst, ◌∙◌}
-use mathlib.Core.Bool.{true, and-eq-true_iff}
+use mathlib.Core.Path.{◌≡◌, refl, sym}
+use mathlib.Core.Bool.{Bool, true, false, not, cond, and-eq-true_iff, false≢true}
+use Rattle.std.specs.Prelude.{None, Some}
+use Rattle.std.specs.Option.{is_some}
 use mathlib.Core.List.{List, [], ◌∷◌}
 use native.Mathlib.Omega.{arith}
 use borrow.Author.Tests.{ltb-true, lt-ltb, le-ltb, ne_eqb}
 use lib.Dec.{eqb}
-use lib.ListN.{take}
 use Rattle.slots.proofs.Laws.Tests.{le, gt, order}
 use Rattle.spec.specs.declared.types.Head.{Head}
 use Rattle.spec.specs.declared.types.Request.{Request}
@@ -16,8 +17,7 @@ use Rattle.spec.specs.Chart.{room_to}
 use Rattle.spec.proofs.Laws.Order.{before_facts, before_deadline}
 use Rattle.hours.specs.Week.{are_all_open}
 use Rattle.hours.proofs.OpenSlots.{all_open_room}
-use Rattle.occupancy.specs.Scans.{Sorted, overfull_from}
-use Rattle.occupancy.proofs.Columns.{field_take}
+use Rattle.occupancy.specs.Scans.{Sorted, overfull_from, if_any}
 use Rattle.sound.specs.Checks.{is_next, are_next, have_room}
 
 -- a record, the one before it, and those behind it
@@ -65,16 +65,20 @@ next_sorted head i before (w ∷ ws) e (suc j) (suc k) l h =
     next_sorted head (suc i) w ws (next_cons head i before w ws e).2 j k (omega arith) (omega arith)
 
 -- ---- the two ways to the verdict on room, and what the search asks
-module _ (head : Head) (ys : List Request) (n : ℕ) (all_next : are_next head 0 zero_request (take n ys) ≡ true) where
-  pub passed_open : are_all_open head.setup ≡ true → true ≡ have_room head 0 (take n ys)
-  passed_open o = rw (each_has_room head o 0 zero_request (take n ys) all_next)
+module _ (head : Head) (ws : List Request) (all_next : are_next head 0 zero_request ws ≡ true) where
+  pub passed_open : are_all_open head.setup ≡ true → true ≡ have_room head 0 ws
+  passed_open o = sym (each_has_room head o 0 zero_request ws all_next)
 
-  pub ascending : Sorted (take n (deadlines_of ys))
-  ascending =
-      subst Sorted (sym (field_take (λ w. w.deadline) n ys))
-      (λ j k l h. next_sorted head 0 zero_request (take n ys) all_next (suc j) (suc k) (omega arith) (omega arith))
+  pub ascending : Sorted (deadlines_of ws)
+  ascending = λ j k l h. next_sorted head 0 zero_request ws all_next (suc j) (suc k) (omega arith) (omega arith)
 
-  pub passed_searched : eqb (overfull_from head 0 (take n (deadlines_of ys))) 0 ≡ have_room head 0 (take n ys)
-  passed_searched =
-      ap (λ (ds : List ℕ). eqb (overfull_from head 0 ds) 0) (field_take (λ w. w.deadline) n ys)
-      ∙ searched_room head 0 zero_request (take n ys) all_next
+  pub none_overfull : {none : Bool} → is_some (if_any (overfull_from head 0 (deadlines_of ws))) ≡ not none → none ≡ have_room head 0 ws
+  none_overfull {none} e =
+      go (eqb (overfull_from head 0 (deadlines_of ws)) 0) none (overfull_from head 0 (deadlines_of ws))
+      (searched_room head 0 zero_request ws all_next) e
+    where
+      go : (b x : Bool) (found : ℕ) {y : Bool} → b ≡ y → is_some (cond b None (Some found)) ≡ not x → x ≡ y
+      go true true found e h = e
+      go true false found e h = absurd (false≢true h)
+      go false true found e h = absurd (false≢true (sym h))
+      go false false found e h = e

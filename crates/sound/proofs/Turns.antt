@@ -1,215 +1,174 @@
--- Laws of the turns of the pass over the waiting records: how they follow on each other, what they come to, and where the pass
--- stands on its way. Assumes nothing.
+-- Laws of the turns of the pass over the waiting records: what they find, one run after another, and what the whole pass does.
+-- Assumes nothing.
 use Prim.Native.Nat.{ℕ, zero, suc, ◌+◌, ◌-◌, ◌%◌, ◌≤◌, ◌<◌}
-use mathlib.Core.Path.{◌≡◌, refl, sym, ap, subst, ◌∙◌}
-use mathlib.Core.Bool.{Bool, true, false, not, ◌&&◌, and_assoc}
-use mathlib.Core.List.{List}
-use mathlib.Core.Logic.{inl, inr}
-use native.Mathlib.Numerals.{add-one}
+use mathlib.Core.Path.{◌≡◌, refl, sym, ap, ◌∙◌}
+use mathlib.Core.Bool.{Bool, true, false, ◌&&◌, and_assoc, false≢true}
+use mathlib.Core.List.{List, [], ◌∷◌, ◌++◌}
 use native.Mathlib.Omega.{arith}
-use lib.Dec.{T, ltb, nltb→le}
+use lib.Dec.{eqb}
 use lib.ListN.{length, get_or, take, drop}
-use lib.Seq.{drop-cons}
-use lib.Ieee.Bits.{is_false}
-use mir.Facts.{and_no}
+use Rattle.std.specs.Prelude.{Option, None, Some}
+use Rattle.std.specs.Option.{UnwrapsOrElse, unwrap_or}
+use Rattle.std.specs.List.{slice_get}
+use Rattle.std.proofs.lemmas.Option.{unwrap_or-slice_get}
+use Rattle.std.proofs.lemmas.List.{take_more, take-append-drop, append_assoc, append-nil}
 use Rattle.spec.specs.declared.types.Head.{Head}
 use Rattle.spec.specs.declared.types.Request.{Request}
 use Rattle.spec.specs.Tables.{most_clients, zero_request}
 use Rattle.spec.specs.Sound.{waiting_of}
-use Rattle.spec.proofs.Laws.Every.{Value, is_true, is_false as not-passed, value, and_left, and_right}
 use Rattle.spec.proofs.Laws.Clients.{of, waiting_of_none, waiting_of_cons}
-use Rattle.sound.specs.Checks.{parts, tallied_of, counted_if, Countable, Bounded, PassState, turn, turns, record_before}
-use Rattle.sound.specs.Checks.{is_next, is_near, are_next, with_last_near, Passed}
+use Rattle.spec.proofs.Laws.Every.{number_most}
+use Rattle.sound.specs.Checks.{is_next, is_near, are_next, each_is_next, last_of, joined, tally_size, tally_place, one_more, parts}
+use Rattle.sound.specs.Checks.{Countable, Bounded, Counted, Passed}
 use Rattle.sound.proofs.RecordTests.{next_client}
-use Rattle.sound.proofs.Tally.{counted_more, counted_countable, fewer_countable}
+use Rattle.sound.proofs.Parts.{counted_more}
 
--- ---- one turn
-module _ (head : Head) (few : head.setup.clients ≤ most_clients) (i : ℕ) (before w : Request) where
-  abbrev passes : PassState → Bool
-  passes s = s.0 && is_next head i before w
+-- ---- records of one run and of the next
+waiting_most : (c : ℕ) (ws : List Request) → waiting_of c ws ≤ length ws
+unfolding of
+waiting_most c [] = omega (arith, waiting_of_none c)
+waiting_most c (w ∷ ws) = omega (arith, waiting_of_cons c w ws, number_most (eqb w.client c), waiting_most c ws)
 
-  owned : (s : PassState) → passes s ≡ true → w.client < most_clients
-  owned s e = omega (arith, next_client head i before w (and_right s.0 (is_next head i before w) e))
+waiting_join : (c : ℕ) (ws vs : List Request) → waiting_of c (ws ++ vs) ≡ waiting_of c ws + waiting_of c vs
+waiting_join c [] vs = omega (arith, waiting_of_none c)
+waiting_join c (w ∷ ws) vs = omega (arith, waiting_of_cons c w ws, waiting_of_cons c w (ws ++ vs), waiting_join c ws vs)
 
-  turn_countable : (s : PassState) (m : ℕ) → Countable (suc m) s.1 → Countable m (turn head i before w s).1
-  unfolding turn
-  turn_countable s m h = go (value (passes s))
-    where
-      go : Value (passes s) → Countable m (counted_if (passes s) i w s.1)
-      go (is_true e) = rw e (counted_countable (i % parts) w (omega arith) (owned s e) s.1 m h)
-      go (not-passed e) = rw e (fewer_countable s.1 (suc m) m h (omega arith))
+last_join : (before : Request) (ws vs : List Request) → last_of before (ws ++ vs) ≡ last_of (last_of before ws) vs
+last_join before [] vs = refl
+last_join before (w ∷ ws) vs = last_join w ws vs
 
-  turn_tallied : (s : PassState) (m : ℕ) → Countable m s.1 → (turn head i before w s).0 ≡ true → (c : ℕ) → c < most_clients
-      → tallied_of (turn head i before w s).1 c ≡ tallied_of s.1 c + of c w
-  unfolding turn
-  turn_tallied s m h e c l = rw e (counted_more (i % parts) w (omega arith) (owned s e) s.1 h.size c l)
+-- the last of so many
+pub last_at : (n : ℕ) (before : Request) (ws : List Request) → length ws ≡ suc n → last_of before ws ≡ get_or ws n zero_request
+last_at n before [] e = absurd (omega arith)
+last_at zero before (w ∷ []) e = refl
+last_at zero before (w ∷ v ∷ ws) e = absurd (omega arith)
+last_at (suc n) before (w ∷ ws) e = last_at n w ws (omega arith)
 
--- ---- several turns
-module _ (head : Head) (ys : List Request) where
-  -- once a record has not passed, nothing changes any more
-  turns_stop : (i k : ℕ) (ok : Bool) (tally : List ℕ) → T (not ok) → turns head ys i k (ok, tally) ≡ (ok, tally)
-  unfolding turns turn
-  turns_stop i k true tally t = absurd t
-  turns_stop i zero false tally t = refl
-  turns_stop i (suc k) false tally t = turns_stop (suc i) k false tally t
+last_there : (ws : List Request) → get_or ws (length ws - 1) zero_request ≡ last_of zero_request ws
+last_there [] = refl
+last_there (w ∷ ws) = sym (last_at (suc (length ws) - 1) zero_request (w ∷ ws) (omega arith))
 
-  turns_passed : (i k : ℕ) (s : PassState) → (turns head ys i k s).0 ≡ true → s.0 ≡ true
-  turns_passed i k (true, tally) e = refl
-  turns_passed i k (false, tally) e = sym (ap (λ (s : PassState). s.0) (turns_stop i k false tally tt)) ∙ e
+-- as the record at the last place, if there is one, and else a zero record
+pub last_or_zero : (o : Option Request) (ws : List Request) {P : Request → Type 0} {w : Request} → o ≡ slice_get ws (length ws - 1)
+    → ((v : Request) → P v → v ≡ zero_request) → UnwrapsOrElse o P w → w ≡ last_of zero_request ws
+last_or_zero None ws {P} {w} e is_zero h =
+    is_zero w h ∙ ap (λ o. unwrap_or o zero_request) e ∙ unwrap_or-slice_get ws (length ws - 1) zero_request ∙ last_there ws
+last_or_zero (Some v) ws e is_zero h =
+    h ∙ ap (λ o. unwrap_or o zero_request) e ∙ unwrap_or-slice_get ws (length ws - 1) zero_request ∙ last_there ws
 
-  -- j turns, and k more from where they end
-  turns_join : (i j k at all : ℕ) (s : PassState) → at ≡ i + j → all ≡ j + k
-      → turns head ys at k (turns head ys i j s) ≡ turns head ys i all s
-  unfolding turns
-  turns_join i zero k at all s e f = let a : at ≡ i = omega arith in let b : all ≡ k = omega arith in rw (a, b)
-  turns_join i (suc j) k at zero s e f = absurd (omega arith)
-  turns_join i (suc j) k at (suc all) s e f =
-      turns_join (suc i) j k at all (turn head i (record_before ys i) (get_or ys i zero_request) s) (omega arith) (omega arith)
+-- one more of them, and one more four
+pub one_more_last : (before : Request) (ws : List Request) (k : ℕ) → k < length ws
+    → get_or ws k zero_request ≡ last_of before (take (k + 1) ws)
+one_more_last before ws k l =
+    rw (take_more ws k zero_request l) (sym (last_join before (take k ws) (get_or ws k zero_request ∷ [])))
 
-  -- so many more can be counted after them
-  turns_countable : head.setup.clients ≤ most_clients → (i k m all : ℕ) (s : PassState) → all ≡ k + m → Countable all s.1
-      → Countable m (turns head ys i k s).1
-  unfolding turns
-  turns_countable few i zero m all s e h = fewer_countable s.1 all m h (omega arith)
-  turns_countable few i (suc k) m zero s e h = absurd (omega arith)
-  turns_countable few i (suc k) m (suc all) s e h =
-      turns_countable few (suc i) k m all (turn head i (record_before ys i) (get_or ys i zero_request) s) (omega arith)
-      (turn_countable head few i (record_before ys i) (get_or ys i zero_request) s all h)
+join_fours : (fours gours : List (List Request)) → joined (fours ++ gours) ≡ joined fours ++ joined gours
+join_fours [] gours = refl
+join_fours (four ∷ fours) gours =
+    ap (λ (ws : List Request). four ++ ws) (join_fours fours gours) ∙ sym (append_assoc four (joined fours) (joined gours))
 
-  -- with the last record asked whether it is near, they find whether the records are as waiting ones should be
-  turns_verdict : (i k n : ℕ) (s : PassState) → n ≡ i + k → n ≤ length ys
-      → ((turns head ys i k s).0 && is_near head (record_before ys n).deadline)
-      ≡ (s.0 && are_next head i (record_before ys i) (take k (drop i ys)))
-  unfolding turns turn are_next
-  turns_verdict i zero n s e l = let a : n ≡ i = omega arith in rw a
-  turns_verdict i (suc k) n s e l =
-      let w = get_or ys i zero_request in
-      rw (drop-cons ys i zero_request (omega arith))
-      (turns_verdict (suc i) k n (turn head i (record_before ys i) w s) (omega arith) l ∙ and_assoc s.0 _ _)
+pub one_more_four : (fours : List (List Request)) (k : ℕ) → k < length fours
+    → joined (take (k + 1) fours) ≡ joined (take k fours) ++ get_or fours k []
+one_more_four fours k l =
+    ap joined (take_more fours k [] l)
+    ∙ join_fours (take k fours) (get_or fours k [] ∷ [])
+    ∙ ap (λ (ws : List Request). joined (take k fours) ++ ws) (append-nil (get_or fours k []))
 
-  -- where all have passed, each client has its records counted
-  turns_tallied : head.setup.clients ≤ most_clients → (i k : ℕ) (s : PassState) → i + k ≤ length ys → Countable k s.1
-      → (turns head ys i k s).0 ≡ true → (c : ℕ) → c < most_clients
-      → tallied_of (turns head ys i k s).1 c ≡ tallied_of s.1 c + waiting_of c (take k (drop i ys))
-  unfolding turns
-  turns_tallied few i zero s l h p c o = omega (arith, waiting_of_none c)
-  turns_tallied few i (suc k) s l h p c o =
-      let w = get_or ys i zero_request in
-      let t = turn head i (record_before ys i) w s in
-      rw (drop-cons ys i zero_request (omega arith))
-      (omega (
-        arith,
-        turns_tallied few (suc i) k t (omega arith) (turn_countable head few i (record_before ys i) w s k h) p c o,
-        turn_tallied head few i (record_before ys i) w s (suc k) h (turns_passed (suc i) k t p) c o,
-        waiting_of_cons c w (take k (drop (suc i) ys)),
-      ))
+pub fours_split : (fours : List (List Request)) (k : ℕ) → joined (take k fours) ++ joined (drop k fours) ≡ joined fours
+fours_split fours k = sym (join_fours (take k fours) (drop k fours)) ∙ ap joined (take-append-drop k fours)
 
--- ---- the whole pass, in two parts
-pub pass_told : (head : Head) (ys : List Request) (m n : ℕ) (tally₀ tally₁ tally : List ℕ) (p r : Bool)
-    → Bounded head n → n ≤ length ys → Countable n tally₀ → m ≤ n
-    → (p, tally₁) ≡ turns head ys 0 m (true, tally₀)
-    → (r, tally) ≡ with_last_near head (record_before ys n) (turns head ys m (n - m) (p, tally₁))
-    → Passed head (take n ys) tally₀ r tally
-pass_told head ys m n tally₀ tally₁ tally p r within l few less first second =
-    record {
-      verdict = ap (λ (s : PassState). s.0) whole ∙ turns_verdict head ys 0 n n (true, tally₀) (omega arith) l;
-      tallied = λ e.
-          let all = and_left _ _ (sym (ap (λ (s : PassState). s.0) whole) ∙ e) in
-          record {
-            at = λ c o.
-                ap (λ (s : PassState). tallied_of s.1 c) whole
-                ∙ turns_tallied head ys within.clients 0 n (true, tally₀) (omega arith) few all c o;
-          };
-    }
-  where
-    whole : (r, tally) ≡ with_last_near head (record_before ys n) (turns head ys 0 n (true, tally₀))
-    whole =
-        second
-        ∙ ap (with_last_near head (record_before ys n))
-        (ap (turns head ys m (n - m)) first ∙ turns_join head ys 0 m (n - m) m n (true, tally₀) (omega arith) (omega arith))
+pub last_of_fours : (fours : List (List Request)) (k : ℕ) → k < length fours → length (get_or fours k []) ≡ 4
+    → get_or (get_or fours k []) 3 zero_request ≡ last_of zero_request (joined (take (k + 1) fours))
+last_of_fours fours k l four =
+    rw (one_more_four fours k l)
+    (sym (last_join zero_request (joined (take k fours)) (get_or fours k [])
+    ∙ last_at 3 (last_of zero_request (joined (take k fours))) (get_or fours k []) four))
+
+module _ (head : Head) where
+  each_join : (i j : ℕ) (before : Request) (ws vs : List Request) → j ≡ i + length ws
+      → each_is_next head i before (ws ++ vs) ≡ each_is_next head i before ws && each_is_next head j (last_of before ws) vs
+  unfolding each_is_next
+  each_join i j before [] vs e = let a : j ≡ i = omega arith in rw a
+  each_join i j before (w ∷ ws) vs e =
+      ap (λ (b : Bool). is_next head i before w && b) (each_join (suc i) j w ws vs (omega arith))
+      ∙ sym (and_assoc (is_next head i before w) (each_is_next head (suc i) w ws) (each_is_next head j (last_of w ws) vs))
+
+  -- with the last of them asked whether it is near, they are as waiting ones should be
+  each_near : (i : ℕ) (before : Request) (ws : List Request)
+      → are_next head i before ws ≡ each_is_next head i before ws && is_near head (last_of before ws).deadline
+  unfolding are_next each_is_next
+  each_near i before [] = refl
+  each_near i before (w ∷ ws) =
+      ap (λ (b : Bool). is_next head i before w && b) (each_near (suc i) w ws)
+      ∙ sym (and_assoc (is_next head i before w) (each_is_next head (suc i) w ws) (is_near head (last_of w ws).deadline))
+
+-- ---- what one turn finds, and no turn
+module _ {head : Head} {i : ℕ} {before : Request} {tally : List ℕ} where
+  pub none_counted : Counted head i before [] tally true tally
+  unfolding each_is_next
+  none_counted = record { verdict = refl; tallied = λ _. record { at = λ c _. omega (arith, waiting_of_none c) } }
+
+  pub one_counted : {w : Request} → head.setup.clients ≤ most_clients → length tally ≡ tally_size → true ≡ is_next head i before w
+      → Counted head i before (w ∷ []) tally true (one_more (tally_place (i % parts) w.client) tally)
+  unfolding each_is_next
+  one_counted {w} few size e =
+      let owned = next_client head i before w (sym e) in
+      record {
+        verdict = rw (sym e);
+        tallied = λ _. record {
+          at = λ c l.
+              omega (
+                arith,
+                counted_more (i % parts) w (omega arith) (omega arith) tally size c l,
+                waiting_of_cons c w [],
+                waiting_of_none c,
+              );
+        };
+      }
+
+  pub one_stopped : {w : Request} {tally₁ : List ℕ} → false ≡ is_next head i before w
+      → Counted head i before (w ∷ []) tally false tally₁
+  unfolding each_is_next
+  one_stopped {w} e = record { verdict = rw (sym e); tallied = λ f. absurd (false≢true f) }
+
+-- ---- turns, and more behind them
+module _ {head : Head} {i : ℕ} {before : Request} {ws : List Request} {t₀ t₁ : List ℕ} where
+  pub more_countable : (k : ℕ) → Counted head i before ws t₀ true t₁ → {m : ℕ} → Countable m t₀ → length ws + k ≤ m → Countable k t₁
+  more_countable k h few l =
+      record { most = λ c o. omega (arith, (h.tallied refl).at c o, few.most c o, waiting_most c ws) }
+
+  pub counted_on : {vs all : List Request} → ws ++ vs ≡ all → Counted head i before ws t₀ true t₁ → (j : ℕ)
+      → j ≡ i + length ws → {last : Request} → last ≡ last_of before ws → {r : Bool} {t₂ : List ℕ} → Counted head j last vs t₁ r t₂
+      → Counted head i before all t₀ r t₂
+  counted_on {vs} e h j f in_hand {r} {t₂} g =
+      let on : Counted head j (last_of before ws) vs t₁ r t₂ = rw in_hand at g in
+      rw (sym e)
+      (record {
+        verdict = on.verdict ∙ sym (each_join head i j before ws vs f ∙ rw (sym h.verdict));
+        tallied = λ p. record { at = λ c o. omega (arith, (h.tallied refl).at c o, (on.tallied p).at c o, waiting_join c ws vs) };
+      })
+
+  -- behind a record that does not pass
+  pub stopped_on : (vs : List Request) {all : List Request} → ws ++ vs ≡ all → Counted head i before ws t₀ false t₁
+      → Counted head i before all t₀ false t₁
+  stopped_on vs e h =
+      rw (sym e)
+      (record {
+        verdict = sym (each_join head i (i + length ws) before ws vs refl ∙ rw (sym h.verdict));
+        tallied = λ p. absurd (false≢true p);
+      })
 
 -- ---- bounds hold of fewer records too
 pub fewer_bounded : {head : Head} {n : ℕ} (i : ℕ) → Bounded head n → i ≤ n → Bounded head i
 fewer_bounded i b l = record { clients = b.clients; clock = b.clock; slots = b.slots; records = omega arith }
 
--- ---- the record at an index is the one before the next index
-pub comes_next : (ys : List Request) (i j : ℕ) → j ≡ i + 1 → get_or ys i zero_request ≡ record_before ys j
-comes_next ys i j e = rw (e, add-one i)
+-- ---- the whole pass: the last of all is asked whether it is near, if all may stand where they do
+module _ {head : Head} {ws : List Request} {t₀ t₁ : List ℕ} where
+  pub all_passed : Counted head 0 zero_request ws t₀ true t₁ → {near : Bool} → near ≡ is_near head (last_of zero_request ws).deadline
+      → Passed head ws t₀ near t₁
+  all_passed h e =
+      record { verdict = e ∙ sym (each_near head 0 zero_request ws ∙ rw (sym h.verdict)); tallied = λ _. h.tallied refl }
 
--- ---- the pass on its way over the first n records: where it started, and where it stands at the index i
-pub record OnTheWay (head : Head) (ys : List Request) (start : ℕ) (s : PassState) (n i : ℕ) (passed : Bool) (tally : List ℕ)
-    : Type 0 where
-  pub made : ℕ
-  pub index : i ≡ start + made
-  pub within : i ≤ n
-  pub stands : (passed, tally) ≡ turns head ys start made s
-  pub countable : Countable (n - i) tally
-
-pub sets_out : (head : Head) (ys : List Request) (start n all : ℕ) (ok : Bool) (tally : List ℕ)
-    → n ≡ start + all → Countable all tally → OnTheWay head ys start (ok, tally) n start ok tally
-unfolding turns
-sets_out head ys start n all ok tally e h =
-    record {
-      made = 0;
-      index = omega arith;
-      within = omega arith;
-      stands = refl;
-      countable = fewer_countable tally all (n - start) h (omega arith);
-    }
-
-module _ {head : Head} {ys : List Request} {start : ℕ} {s : PassState} {n i : ℕ} {passed : Bool} {tally : List ℕ}
-    (h : OnTheWay head ys start s n i passed tally) (b : Bounded head n) where
-  -- what the next k turns ask
-  pub may_turn : (k : ℕ) → i + k ≤ n → Bounded head (i + k) × Countable k tally
-  may_turn k l = (fewer_bounded (i + k) b l, fewer_countable tally (n - i) k h.countable (omega arith))
-
-  pub may_step : i < n → Bounded head i × Countable 1 tally
-  may_step l = (fewer_bounded i b (omega arith), (may_turn 1 (omega arith)).1)
-
-  -- they are made, to the index j
-  pub turns_on : (k j : ℕ) → j ≡ i + k → j ≤ n → {r : Bool} {zs : List ℕ} → (r, zs) ≡ turns head ys i k (passed, tally)
-      → OnTheWay head ys start s n j r zs
-  turns_on k j e l t =
-      record {
-        made = h.made + k;
-        index = omega arith;
-        within = l;
-        stands = t ∙ ap (turns head ys i k) h.stands ∙ turns_join head ys start h.made k i _ s h.index refl;
-        countable =
-            subst (Countable (n - j)) (sym (ap (λ (z : PassState). z.1) t))
-            (turns_countable head ys b.clients i k (n - j) (n - i) (passed, tally) (omega arith) h.countable);
-      }
-
-  pub steps_on : {before : Request} → before ≡ record_before ys i → i < n → (j : ℕ) → j ≡ i + 1 → {r : Bool} {zs : List ℕ}
-      → (r, zs) ≡ turn head i before (get_or ys i zero_request) (passed, tally) → OnTheWay head ys start s n j r zs
-  unfolding turns
-  steps_on e l j f t =
-      turns_on 1 j f (omega arith) (t ∙ ap (λ (v : Request). turn head i v (get_or ys i zero_request) (passed, tally)) e)
-
-  -- all of them are made
-  pub turns_made : (all : ℕ) → n ≡ start + all → i ≡ n → (passed, tally) ≡ turns head ys start all s
-  turns_made all e l = let m : h.made ≡ all = omega (arith, h.index) in rw m at h.stands
-
-  -- they are over where no record is left, or where one has not passed
-  pub turns_over : (all : ℕ) → n ≡ start + all → T (not (ltb i n && passed)) → (passed, tally) ≡ turns head ys start all s
-  turns_over all e over =
-      elim (and_no (ltb i n) passed over) [
-        | inl g ↦ turns_made all e (omega (arith, nltb→le i n g, h.within))
-        | inr g ↦
-            sym (turns_stop head ys i (n - i) passed tally g)
-            ∙ ap (turns head ys i (n - i)) h.stands
-            ∙ turns_join head ys start h.made (n - i) i all s h.index (omega (arith, h.index, h.within))
-      ]
-
-  -- then the record before is the last of all, if all have passed
-  pub asked_over : (all : ℕ) → n ≡ start + all → T (not (ltb i n && passed)) → {before : Request} → before ≡ record_before ys i
-      → (passed && is_near head before.deadline, tally) ≡ with_last_near head (record_before ys n) (turns head ys start all s)
-  asked_over all e over {before} f = last ∙ ap (with_last_near head (record_before ys n)) (turns_over all e over)
-    where
-      last : ◌≡◌ {A = PassState} (passed && is_near head before.deadline, tally)
-          (passed && is_near head (record_before ys n).deadline, tally)
-      last =
-          elim (and_no (ltb i n) passed over) [
-            | inl g ↦ let m : i ≡ n = omega (arith, nltb→le i n g, h.within) in rw (f, m)
-            | inr g ↦ rw (is_false passed g)
-          ]
+  pub some_stopped : Counted head 0 zero_request ws t₀ false t₁ → Passed head ws t₀ false t₁
+  some_stopped h =
+      record { verdict = sym (each_near head 0 zero_request ws ∙ rw (sym h.verdict)); tallied = λ p. absurd (false≢true p) }

@@ -1,6 +1,8 @@
 -- The tests of one pass over the waiting records, of one over the clients, and of a second one over the waiting records where hours are
 -- closed. Assumes nothing.
-use Rattle.std.specs.Prelude.{ℕ, zero, suc, ◌+◌, ◌*◌, ◌%◌, ◌≤◌, ◌<◌, ◌≡◌, Bool, true, cond, ◌&&◌, List, [], ◌∷◌, leb, ltb, eqb, length, get_or, set, take, drop}
+use Rattle.std.specs.Prelude.{ℕ, zero, suc, ◌+◌, ◌*◌, ◌≤◌, ◌<◌, ◌≡◌, Bool, true, cond, ◌&&◌, List, [], ◌∷◌, ◌++◌}
+use Rattle.std.specs.Prelude.{leb, ltb, eqb, get_or, set}
+use Rattle.std.specs.Int.Bits.{bit_or}
 use Rattle.spec.specs.declared.types.Head.{Head}
 use Rattle.spec.specs.declared.types.Request.{Request}
 use Rattle.spec.specs.declared.types.Counts.{Counts}
@@ -50,13 +52,8 @@ tallied_of tally client = sum_below parts (λ part. get_or tally (tally_place pa
 abbrev pub one_more : ℕ → List ℕ → List ℕ
 one_more place tally = set tally place (get_or tally place 0 + 1)
 
--- the count with one more request counted, the one with the index i, if it passed
-abbrev pub counted_if : Bool → ℕ → Request → List ℕ → List ℕ
-counted_if passed i w tally = cond passed (one_more (tally_place (i % parts) w.client) tally) tally
-
 -- a count per client to which so many more can be added
 pub record Countable (more : ℕ) (tally : List ℕ) : Type 0 where
-  pub size : length tally ≡ tally_size
   pub most : (c : ℕ) → c < most_clients → tallied_of tally c + more ≤ largest16
 
 -- ---- the pass over the waiting records, and the one over the clients
@@ -67,37 +64,24 @@ pub record Bounded (head : Head) (n : ℕ) : Type 0 where
   pub slots : 1 ≤ head.setup.hour
   pub records : n ≤ most_records
 
--- where it stands: whether all records so far passed, and the count per client
-abbrev pub PassState : Type 0
-PassState = Bool × List ℕ
-
--- one turn, of the record w at the index i, behind the one before it: it is counted if it passes and all so far did
-unfoldable pub turn : Head → ℕ → Request → Request → PassState → PassState
-turn head i before w s =
-    (s.0 && is_next head i before w, counted_if (s.0 && is_next head i before w) i w s.1)
-
--- the record before an index, zero where there is none
-abbrev pub record_before : List Request → ℕ → Request
-record_before ys zero = zero_request
-record_before ys (suc i) = get_or ys i zero_request
-
--- so many turns over the records of a table, the first at the index i
-unfoldable pub turns : Head → List Request → ℕ → ℕ → PassState → PassState
-turns head ys i zero s = s
-turns head ys i (suc k) s = turns head ys (suc i) k (turn head i (record_before ys i) (get_or ys i zero_request) s)
-
 -- a deadline is past the clock by no more than it may
 abbrev pub is_near : Head → ℕ → Bool
 is_near head deadline = leb deadline (head.clock + most_ahead)
-
--- where the pass stands once its last record is asked whether it is near
-abbrev pub with_last_near : Head → Request → PassState → PassState
-with_last_near head last s = (s.0 && is_near head last.deadline, s.1)
 
 -- whether all of them are as they should be, the first with the index i; deadlines ascend, so that all are near if the last is
 unfoldable pub are_next : Head → ℕ → Request → List Request → Bool
 are_next head i before [] = is_near head before.deadline
 are_next head i before (w ∷ ws) = is_next head i before w && are_next head (suc i) w ws
+
+-- whether each of them may stand where it does, however far ahead; the first has the index i and stands behind `before`
+unfoldable pub each_is_next : Head → ℕ → Request → List Request → Bool
+each_is_next head i before [] = true
+each_is_next head i before (w ∷ ws) = is_next head i before w && each_is_next head (suc i) w ws
+
+-- the last of them, the one before them where there is none
+abbrev pub last_of : Request → List Request → Request
+last_of before [] = before
+last_of before (w ∷ ws) = last_of w ws
 
 -- whether each has room for those before it and itself, by open slots; the first has the index i
 unfoldable pub have_room : Head → ℕ → List Request → Bool
@@ -108,22 +92,40 @@ have_room head i (w ∷ ws) = ltb i (room_to head w.deadline) && have_room head 
 unfoldable pub does_balance : Counts → ℕ → Bool
 does_balance k waits = eqb k.submitted (k.served + k.dropped + waits) && leb k.submitted most_counted
 
--- whether a client's counts balance, and those of the clients from one index to another
+-- whether a client's counts balance
 abbrev pub balances_at : List ℕ → List ℕ → ℕ → Bool
 balances_at tally numbers c = does_balance (get_or (records_of numbers) c zero_counts) (tallied_of tally c)
 
-abbrev pub are_balanced_from : List ℕ → List ℕ → ℕ → ℕ → Bool
-are_balanced_from tally numbers from to =
-    every_from (λ c k. does_balance k (tallied_of tally c)) from (drop from (take to (records_of numbers)))
+-- whether those of four clients do
+abbrev pub do_four_balance : List ℕ → List ℕ → ℕ → Bool
+do_four_balance tally numbers c =
+    (balances_at tally numbers c && balances_at tally numbers (c + 1))
+    && (balances_at tally numbers (c + 2) && balances_at tally numbers (c + 3))
 
 -- a count per client with these requests counted
 pub record Tallied (ws : List Request) (tally₀ tally : List ℕ) : Type 0 where
   pub at : (c : ℕ) → c < most_clients → tallied_of tally c ≡ tallied_of tally₀ c + waiting_of c ws
 
+-- what turns over these records find, the first with the index i, behind the one before it: whether each may stand where it does, and then
+-- the count per client with them
+pub record Counted (head : Head) (i : ℕ) (before : Request) (ws : List Request) (tally₀ : List ℕ) (r : Bool) (tally : List ℕ)
+    : Type 0 where
+  pub verdict : r ≡ each_is_next head i before ws
+  pub tallied : r ≡ true → Tallied ws tally₀ tally
+
 -- what the pass over the records finds: whether they are as they should be, and then the count per client
 pub record Passed (head : Head) (ws : List Request) (tally₀ : List ℕ) (r : Bool) (tally : List ℕ) : Type 0 where
   pub verdict : r ≡ are_next head 0 zero_request ws
   pub tallied : r ≡ true → Tallied ws tally₀ tally
+
+-- the records of fours, one four after the other
+abbrev pub joined : List (List Request) → List Request
+joined [] = []
+joined (four ∷ fours) = four ++ joined fours
+
+-- all the bits of a record's fields
+abbrev pub bits_of : Request → ℕ
+bits_of w = bit_or (bit_or w.deadline w.number) w.client
 
 -- what the tables call for, before a call's own refusals: 4 or 5, or 0 where neither matches
 unfoldable pub tables_refusal : State → ℕ

@@ -4,3 +4,4 @@
 pub mod check;
 mod records;
 mod room;
+mod tally;

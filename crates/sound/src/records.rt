@@ -1,14 +1,14 @@
 // The waiting records one after the other, and those behind them: each is tested once.
-ghost use Rattle.std.specs.Prelude.{◌+◌, ◌-◌, ◌%◌, ◌≤◌, ◌≡◌, true, ◌&&◌, length, take, drop};
+ghost use Rattle.std.specs.Prelude.{◌+◌, ◌*◌, ◌≤◌, ◌≡◌, ◌&&◌, [], ◌∷◌, length};
 ghost use Rattle.spec.specs.Every.{every};
-ghost use Rattle.spec.specs.Tables.{most_records, clock_end};
+ghost use Rattle.spec.specs.Tables.{most_records, clock_end, zero_request};
 ghost use Rattle.spec.specs.Sound.{is_zero_request};
-ghost use Rattle.sound.specs.Checks.{is_next, is_near, Countable, Bounded, turn, turns, record_before, with_last_near, Passed};
+ghost use Rattle.sound.specs.Checks.{is_next, is_near, Countable, Bounded, Counted, joined, last_of, bits_of, Passed};
 
+use crate::tally::Tally;
 use occupancy::overfull;
 use spec::bounds;
 use spec::types::{Head, Request};
-use table::waiting;
 
 // Whether w can stand at the index i, behind the record before it. All slots count here: `room::have_room` asks for room by open slots, and
 // `is_near` asks of the last record how far ahead it is. Chart order takes one comparison: w's deadline counts one less where its number is
@@ -30,7 +30,7 @@ pub(crate) fn is_next(head: Head, i: u64, before: Request, w: Request) -> bool
     if !overfull::is_ahead_by(head, i, w.deadline) {
         return false;
     }
-    before.deadline <= w.deadline - (w.number <= before.number) as u64
+    before.deadline <= w.deadline - u64::from(w.number <= before.number)
 }
 
 // Whether a deadline is past the clock by at most 65,535.
@@ -41,171 +41,102 @@ pub(crate) fn is_near(head: Head, deadline: u64) -> bool
     deadline <= head.clock + bounds::MOST_AHEAD
 }
 
-// One turn of the pass over the records, told whether all before it passed: whether they and this one do, a record that may
-// stand at its index behind the one before it; if so it is counted. The tally has four parts, used by turns: adding to one place
-// twice in a row waits for the store, and with few clients most records would.
-#[tactic(auto, using(crate::proofs::RecordTests::next_client), unfolding(crate::specs::Checks::turn))]
+// One turn of the pass over the records: whether one may stand at its index behind the one before it; if so it is counted.
 pub(crate) fn check_record(
-    ok: bool,
-    tally: &mut [u16],
+    tally: &mut Tally,
     head: Head,
     i: usize,
     before: Request,
     w: Request,
 ) -> bool
-    requires { Bounded head i × Countable 1 tally.old }
-    ensures { (result, tally.new) ≡ turn head i before w (ok, tally.old) }
+    requires { Bounded head i × Countable 1 tally.old.counts }
+    ensures { Counted head i before (w ∷ []) tally.old.counts result tally.new.counts }
 {
-    if !ok {
-        return false;
-    }
-    if !is_next(head, i as u64, before, w) {
-        return false;
-    }
-    let at = (i % 4) * bounds::MOST_CLIENTS + w.client as usize;
-    tally[at] = tally[at] + 1;
-    true
-}
-
-// Four turns, from the index i on. Each is told whether those before it passed, so that there is no branch between them.
-fn check_four(t: &[Request], tally: &mut [u16], head: Head, i: usize, before: Request) -> bool
-    requires { Bounded head (i + 4) × (i + 4 ≤ length t.now) × (before ≡ record_before t.now i) × Countable 4 tally.old }
-    ensures { (result, tally.new) ≡ turns head t.now i 4 (true, tally.old) }
-{
-    let a = waiting::get(t, i);
-    let p = check_record(true, tally, head, i, before, a);
-    let b = waiting::get(t, i + 1);
-    let q = check_record(p, tally, head, i + 1, a, b);
-    let c = waiting::get(t, i + 2);
-    let r = check_record(q, tally, head, i + 2, b, c);
-    let d = waiting::get(t, i + 3);
-    check_record(r, tally, head, i + 3, c, d)
-}
-
-// The turns of the first n records, four at a time, until one of the four does not pass.
-fn check_fours(t: &[Request], tally: &mut [u16], head: Head, n: usize) -> bool
-    requires { Bounded head n × (n ≤ length t.now) × (n % 4 ≡ 0) × Countable n tally.old }
-    ensures { (result, tally.new) ≡ turns head t.now 0 n (true, tally.old) }
-{
-    let mut before = Request {
-        deadline: 0,
-        number: 0,
-        client: 0,
-    };
-    let mut passed = true;
-    let mut i = 0;
-    while (i < n) & passed {
-        passed = check_four(t, tally, head, i, before);
-        before = waiting::get(t, i + 3);
-        i += 4;
+    let passed = is_next(head, i as u64, before, w);
+    if passed {
+        tally.count(i, w.client);
     }
     passed
 }
 
-// The record before an index, zero where there is none.
-fn previous(t: &[Request], i: usize) -> Request
-    requires { i ≤ length t.now }
-    ensures { result ≡ record_before t.now i }
+// Turns of records that stand one behind another, the first at the index i behind `before`, until one does not pass.
+fn check_run(records: &[Request], tally: &mut Tally, head: Head, i: usize, before: Request) -> bool
+    requires { Bounded head (i + length records.now) × Countable (length records.now) tally.old.counts }
+    ensures { Counted head i before records.now tally.old.counts result tally.new.counts }
 {
-    if i == 0 {
-        return Request {
-            deadline: 0,
-            number: 0,
-            client: 0,
-        };
+    let mut last = before;
+    for (k, w) in records.iter().enumerate() {
+        if !check_record(tally, head, i + k, last, *w) {
+            return false;
+        }
+        last = *w;
     }
-    waiting::get(t, i - 1)
+    true
 }
 
-// The turns of the records from one index on, one at a time, if all before it passed, until one does not pass; and whether the
-// last is near.
-fn check_rest(t: &[Request], tally: &mut [u16], head: Head, from: usize, n: usize, ok: bool) -> bool
-    requires { Bounded head n × (n ≤ length t.now) × (from ≤ n) × Countable (n - from) tally.old }
-    ensures { (result, tally.new)
-        ≡ with_last_near head (record_before t.now n) (turns head t.now from (n - from) (ok, tally.old)) }
+// The turns of the first records, four at a time, until one does not pass: one by one they made the check take 1.2 times as long.
+fn check_fours(fours: &[[Request; 4]], tally: &mut Tally, head: Head) -> bool
+    requires { Bounded head (4 * length fours.now) × Countable (4 * length fours.now) tally.old.counts }
+    ensures { Counted head 0 zero_request (joined fours.now) tally.old.counts result tally.new.counts }
 {
-    let mut before = previous(t, from);
-    let mut passed = ok;
-    let mut i = from;
-    while (i < n) & passed {
-        let w = waiting::get(t, i);
-        passed = check_record(true, tally, head, i, before, w);
-        before = w;
-        i += 1;
+    let mut before = Request::default();
+    for (k, four) in fours.iter().enumerate() {
+        if !check_run(four, tally, head, 4 * k, before) {
+            return false;
+        }
+        before = four[3];
     }
-    let near = is_near(head, before.deadline);
-    passed & near
+    true
 }
 
-// Whether the first n records are as waiting ones should be, and how many of them each client has. Deadlines ascend, so that
-// only the last is asked whether it is near; where there is none, the zero record is asked.
-pub(crate) fn are_next(t: &[Request], tally: &mut [u16], head: Head, n: usize) -> bool
-    requires { Bounded head n × (n ≤ length t.now) × Countable n tally.old }
-    ensures { Passed head (take n t.now) tally.old result tally.new }
+// The last of some records, zero where there is none.
+fn last(records: &[Request]) -> Request
+    ensures { result ≡ last_of zero_request records.now }
 {
-    let m = n / 4 * 4;
-    let p = check_fours(t, tally, head, m);
-    check_rest(t, tally, head, m, n, p)
+    records.last().copied().unwrap_or_default()
 }
 
-// Whether a record is zero, by one test of the bits of its fields.
+// Whether the waiting records are as waiting ones should be, and how many of them each client has. Deadlines ascend, so that only the
+// last is asked whether it is near; where there is none, the zero record is asked.
+pub(crate) fn are_next(waiting: &[Request], tally: &mut Tally, head: Head) -> bool
+    requires { Bounded head (length waiting.now) × Countable (length waiting.now) tally.old.counts }
+    ensures { Passed head waiting.now tally.old.counts result tally.new.counts }
+{
+    let (fours, rest) = waiting.as_chunks::<4>();
+    let m = 4 * fours.len();
+    check_fours(fours, tally, head)
+        && check_run(rest, tally, head, m, last(&waiting[..m]))
+        && is_near(head, last(waiting).deadline)
+}
+
+// All the bits of a record's fields, joined: it is zero where none is set. With `==` in its place, as derived, the check of a table with few
+// waiting records took 1.3 times as long.
+fn bits(w: Request) -> u64
+    ensures { result ≡ bits_of w }
+{
+    w.deadline | w.number | w.client
+}
+
+// Whether a record is zero.
 #[tactic(auto, using(crate::proofs::RecordTests::bits_zero))]
 pub(crate) fn is_zero(w: Request) -> bool
     ensures { result ≡ is_zero_request w }
 {
-    (w.deadline | w.number | w.client) == 0
+    bits(w) == 0
 }
 
 // Whether four records are zero, by one test of the bits of all their fields.
-#[tactic(auto, using(crate::proofs::RecordTests::bits_zero_four))]
-pub(crate) fn are_zero_four(a: Request, b: Request, c: Request, d: Request) -> bool
-    ensures { result ≡ is_zero_request a && is_zero_request b && (is_zero_request c && is_zero_request d) }
+pub(crate) fn are_zero_four(four: &[Request; 4]) -> bool
+    ensures { result ≡ every is_zero_request four.now }
 {
-    let ab = (a.deadline | a.number | a.client) | (b.deadline | b.number | b.client);
-    let cd = (c.deadline | c.number | c.client) | (d.deadline | d.number | d.client);
-    (ab | cd) == 0
+    let [a, b, c, d] = *four;
+    (bits(a) | bits(b) | (bits(c) | bits(d))) == 0
 }
 
-// Whether the records from one index to another are zero, four at a time; the first four of which one is not end the search.
-fn zero_fours(t: &[Request], from: usize, to: usize) -> bool
-    requires { (to ≤ length t.now) × ((to - from) % 4 ≡ 0) }
-    ensures { result ≡ every is_zero_request (drop from (take to t.now)) }
+// Whether records are zero, four at a time as far as that goes; the first four of which one is not end the search.
+pub(crate) fn are_zero(records: &[Request]) -> bool
+    ensures { result ≡ every is_zero_request records.now }
 {
-    let mut zero = true;
-    let mut i = from;
-    while (i < to) & zero {
-        let a = waiting::get(t, i);
-        let b = waiting::get(t, i + 1);
-        let c = waiting::get(t, i + 2);
-        let d = waiting::get(t, i + 3);
-        zero = are_zero_four(a, b, c, d);
-        i += 4;
-    }
-    zero
-}
-
-// Whether the records from one index on are zero, one at a time, if those before it are; the first that is not ends the search.
-fn zero_rest(t: &[Request], from: usize, ok: bool) -> bool
-    ensures { result ≡ ok && every is_zero_request (drop from t.now) }
-{
-    let n = t.len();
-    let mut zero = ok;
-    let mut i = from;
-    while (i < n) & zero {
-        let w = waiting::get(t, i);
-        zero = is_zero(w);
-        i += 1;
-    }
-    zero
-}
-
-// Whether the records from one index on are zero.
-pub(crate) fn are_zero(t: &[Request], from: usize) -> bool
-    requires { from ≤ length t.now }
-    ensures { result ≡ every is_zero_request (drop from t.now) }
-{
-    let n = t.len();
-    let m = from + (n - from) / 4 * 4;
-    let p = zero_fours(t, from, m);
-    zero_rest(t, m, p)
+    let (fours, rest) = records.as_chunks::<4>();
+    fours.iter().all(|four| are_zero_four(four)) && rest.iter().all(|w| is_zero(*w))
 }

@@ -2,6 +2,7 @@ pub mod Every
 pub mod Tables
 pub mod Hours
 pub mod Setup
+pub mod Reasons
 pub mod Order
 pub mod Chart
 pub mod Sound

@@ -2,18 +2,19 @@
 use Prim.Native.Nat.{ℕ, zero, suc, ◌+◌, ◌*◌, ◌≤◌, ◌<◌}
 use mathlib.Core.Path.{◌≡◌, refl, ap, ◌∙◌}
 use mathlib.Core.Bool.{Bool, true, false, cond, ◌&&◌}
-use mathlib.Core.List.{List, [], ◌∷◌, ◌++◌, map}
+use mathlib.Core.List.{List, [], ◌∷◌, map}
 use native.Mathlib.Numerals.{add-one}
 use native.Mathlib.Omega.{arith}
 use borrow.Author.Tests.{lt-ltb}
 use lib.Dec.{ltb}
-use lib.ListN.{length, get_or, set, drop, replicate}
+use lib.ListN.{length, get_or, set}
+use Rattle.std.specs.Simd.{first_chunks}
 use Rattle.spec.specs.declared.types.Counts.{Counts}
-use Rattle.spec.specs.Tables.{zero_counts, client_width, record_then, records_of, numbers_of, change}
+use Rattle.spec.specs.Tables.{zero_counts, client_width, record_of, record_then, records_of, numbers_of, change}
 use Rattle.spec.specs.Calls.Tick.{is_period_start}
 use Rattle.table.specs.declared.clients.Count.{Count}
-use Rattle.table.specs.Widths.{largest32, saturating_next}
-use Rattle.table.specs.Clients.{changed_at, changed_all, count_of, one_more_of, one_more_unless_full, restarted_counts, restarted_numbers}
+use Rattle.table.specs.Widths.{largest32}
+use Rattle.table.specs.Clients.{changed_at, changed_all, counts_of, count_of, one_more_of, one_more_unless_full, restarted_counts, restarted_numbers}
 use Rattle.spec.proofs.Laws.Layout.{next_first, next_other, records_numbers}
 
 module _ (f : Counts → Counts) where
@@ -56,6 +57,17 @@ changed_at_same f g i (a ∷ b ∷ []) e = refl
 changed_at_same f g zero (a ∷ b ∷ c ∷ xs) e = ap (λ (k : Counts). record_then k xs) e
 changed_at_same f g (suc i) (a ∷ b ∷ c ∷ xs) e = ap (λ (l : List ℕ). a ∷ b ∷ c ∷ l) (changed_at_same f g i xs e)
 
+-- ---- the records as chunks of three numbers
+pub chunks_records : (xs : List ℕ) (n : ℕ) → n ≡ length (records_of xs) → map counts_of (first_chunks client_width n xs) ≡ records_of xs
+unfolding records_of
+chunks_records xs n e = rw e (go xs)
+  where
+    go : (xs : List ℕ) → map counts_of (first_chunks client_width (length (records_of xs)) xs) ≡ records_of xs
+    go [] = refl
+    go (a ∷ []) = refl
+    go (a ∷ b ∷ []) = refl
+    go (a ∷ b ∷ c ∷ xs) = ap (λ (l : List Counts). record_of a b c ∷ l) (go xs)
+
 -- ---- a record's three numbers written
 pub put_changed : (xs : List ℕ) (i : ℕ) (k : Counts) → client_width * i + 2 < length xs
     → set (set (set xs (client_width * i) k.submitted) (client_width * i + 1) k.served) (client_width * i + 2) k.dropped
@@ -81,14 +93,6 @@ module _ (which : Count) where
       → changed_at (one_more_unless_full which) client (numbers_of cs) ≡ numbers_of (change (one_more_of which) client cs)
   more_numbers client cs h =
       more_changed client (numbers_of cs) (rw (records_numbers cs) h) ∙ changed_at_numbers (one_more_of which) client cs
-
--- a number that rises unless it is the largest, chosen in a record or between two
-pub next_record : (f : ℕ → Counts) (n : ℕ) → f (saturating_next largest32 n) ≡ cond (ltb n largest32) (f (suc n)) (f n)
-next_record f n = chosen (ltb n largest32)
-  where
-    chosen : (b : Bool) → f (cond b (suc n) n) ≡ cond b (f (suc n)) (f n)
-    chosen true = refl
-    chosen false = refl
 
 -- ---- a period's start
 -- the client table once the clock is this: at a period start all restart
@@ -140,20 +144,3 @@ module _ (f : Counts → Counts) where
   changed_end (suc i) (a ∷ []) h = refl
   changed_end (suc i) (a ∷ b ∷ []) h = refl
   changed_end (suc i) (a ∷ b ∷ c ∷ xs) h = ap (λ (l : List ℕ). a ∷ b ∷ c ∷ l) (changed_end i xs (omega arith))
-
--- ---- a loop that writes zeros, from the first number on
-pub cleared_turn : (i : ℕ) (xs : List ℕ) → i < length xs
-    → set (replicate i 0 ++ drop i xs) i 0 ≡ replicate (i + 1) 0 ++ drop (i + 1) xs
-cleared_turn i xs h = rw (add-one i) (turn i xs h)
-  where
-    turn : (i : ℕ) (xs : List ℕ) → i < length xs → set (replicate i 0 ++ drop i xs) i 0 ≡ replicate (suc i) 0 ++ drop (suc i) xs
-    turn i [] h = absurd (omega arith)
-    turn zero (x ∷ xs) h = refl
-    turn (suc i) (x ∷ xs) h = ap (λ (l : List ℕ). 0 ∷ l) (turn i xs (omega arith))
-
-pub cleared_end : (i : ℕ) (xs : List ℕ) → i ≡ length xs → replicate i 0 ++ drop i xs ≡ replicate (length xs) 0
-cleared_end i xs e = rw e (end xs)
-  where
-    end : (xs : List ℕ) → replicate (length xs) 0 ++ drop (length xs) xs ≡ replicate (length xs) 0
-    end [] = refl
-    end (x ∷ xs) = ap (λ (l : List ℕ). 0 ∷ l) (end xs)

@@ -1,25 +1,26 @@
 -- Laws of the waiting table as a list of records: a record moved by one, one put in for another, one put in or taken out, the first
 -- entries replaced.
 -- Assumes nothing.
-use Prim.Native.Nat.{ℕ, zero, suc, ◌+◌, ◌-◌, ◌≤◌, ◌<◌, ◌^◌, zero-le}
+use Prim.Native.Nat.{ℕ, zero, suc, ◌+◌, ◌-◌, ◌≤◌, ◌<◌, ◌^◌}
 use mathlib.Core.Path.{◌≡◌, refl, sym, ap, ◌∙◌}
-use mathlib.Core.Bool.{Bool, true, false, cond, not, ◌&&◌, true≢false}
-use mathlib.Core.Logic.{◌≢◌}
-use mathlib.Core.List.{List, [], ◌∷◌, ◌++◌, map, append-nil}
+use mathlib.Core.Bool.{Bool, true, false, cond, not, ◌&&◌}
+use mathlib.Core.Logic.{◌⊎◌, inl, inr, ◌≢◌}
+use mathlib.Core.List.{List, [], ◌∷◌, ◌++◌, append-nil}
 use native.Mathlib.Nat.{zero-add, add-zero, suc-add, le_of_lt}
 use native.Mathlib.Numerals.{add-one}
 use native.Mathlib.Omega.{arith}
 use borrow.Author.Tests.{lt-ltb, le-ltb, le-leb, lt-leb}
 use borrow.Rule.Slice.PartMut.{put_mid}
-use lib.Dec.{T, ltb, leb, eqb, ltb→lt, nltb→le, leb→le, nleb→lt, eqb→eq, eqb_refl, T_not}
-use lib.ListN.{length, get_or, set, take, drop, length-set, get_or-map, length-map, length-drop, take-append-drop, drop_of_length-le}
-use lib.Seq.{get_or-take, paste-suc, length-paste, take_all, length-take-le, take-append_seam, drop-append_seam}
+use lib.Dec.{T, ltb, eqb, ltb→lt, nltb→le, eqb_refl, T_not}
+use lib.ListN.{length, get_or, set, take, drop, length-set, length-drop, take-append-drop, drop_of_length-le}
+use lib.Seq.{paste-suc, take_all, length-take-le, take-append_seam, drop-append_seam}
+use Rattle.std.proofs.Common.{None, Some}
 use Rattle.std.proofs.lemmas.List.{take_rest}
 use Rattle.spec.specs.declared.types.Request.{Request}
 use Rattle.spec.specs.Tables.{zero_request}
 use Rattle.spec.specs.Order.{insert_at, remove_at}
 use Rattle.spec.proofs.Laws.Every.{length_remove}
-use Rattle.table.specs.Records.{Slid, are_in, replaced, taken_out, shift_at, inserted, removed, removed_out}
+use Rattle.table.specs.Records.{Slid, are_in, replaced, taken_out, shift_at, inserted, removed, removed_from}
 
 -- a test denied twice holds
 pub not_not : (b : Bool) → T (not (not b)) → T b
@@ -83,14 +84,6 @@ pub record Going (up : Bool) (from to : ℕ) (ys : List Request) (i : ℕ) (zs :
   pub within : i < length ys
   pub toward : Toward up to i
 
--- what `slide` asks of two places in a table of n
-abbrev pub SlideBounds : Bool → ℕ → ℕ → ℕ → Type 0
-SlideBounds up from to n = (from < n) × (to < n) × (up ≡ true → to ≤ from) × (up ≡ false → from ≤ to)
-
-pub sets_out : (up : Bool) (from to : ℕ) (ys : List Request) → SlideBounds up from to (length ys) → Going up from to ys from ys
-sets_out true from to ys h = record { others = refl; same_length = refl; within = h.0; toward = h.2 refl }
-sets_out false from to ys h = record { others = refl; same_length = refl; within = h.0; toward = h.3 refl }
-
 -- the record at the next place is copied to this one
 module _ {up : Bool} {from to : ℕ} {ys : List Request} (i : ℕ) (zs : List Request) (g : Going up from to ys i zs) where
   pub steps : length ys < 2 ^ 64 → to < length ys → T (not (eqb i to)) → NextPlace up (length ys) to i (cond up (i - 1) (i + 1))
@@ -108,22 +101,6 @@ module _ {up : Bool} {from to : ℕ} {ys : List Request} (i : ℕ) (zs : List Re
         within = s.within;
         toward = s.toward;
       }
-
-  pub arrives : T (not (not (eqb i to))) → Slid from to ys zs
-  arrives h = record { others = rw (← eqb→eq i to (not_not (eqb i to) h)) g.others }
-
--- ---- a slide over the first places, the way that `up` says
-pub asks : (up : Bool) (last n : ℕ) → last < n → SlideBounds up (cond up last 0) (cond up 0 last) n
-asks true last n h = (h, omega arith, (λ _. zero-le), λ e. absurd (true≢false e))
-asks false last n h = (omega arith, h, (λ e. absurd (true≢false (sym e))), λ _. zero-le)
-
--- a test has come out as b
-pub turned : (up b : Bool) (last : ℕ) (ys zs : List Request) → T (cond b up (not up))
-    → Slid (cond b last 0) (cond b 0 last) ys zs → Slid (cond up last 0) (cond up 0 last) ys zs
-turned true true last ys zs h s = s
-turned true false last ys zs h s = absurd h
-turned false true last ys zs h s = absurd h
-turned false false last ys zs h s = s
 
 -- ---- a slide of a part
 -- a record behind others is taken out: they stay
@@ -146,9 +123,6 @@ slid_from a k l ys zs h s =
     behind i ws = rw (length-take-le a ys h) at (remove_behind (take a ys) ws i)
 
 module _ (a i : ℕ) (ys : List Request) (h : a ≤ i) (k : i < length ys) where
-  pub far_within : i - a < length (drop a ys)
-  far_within = rw (length-drop a ys) (omega arith)
-
   -- between a and i, the way that `up` says
   pub moved : (up : Bool) (zs : List Request) → Slid (cond up (i - a) 0) (cond up 0 (i - a)) (drop a ys) zs
       → Slid (cond up i a) (cond up a i) ys (take a ys ++ zs)
@@ -195,37 +169,19 @@ module _ (out at : ℕ) (ys : List Request) where
       go false = refl
 
 -- nothing changes where one of the places is not in the table
-pub untouched : (out at : ℕ) (r : Request) (ys : List Request) → T (not (are_in out at ys))
-    → (r ≡ taken_out out at r ys) × (ys ≡ replaced out at r ys)
-unfolding taken_out replaced
-untouched out at r ys h = go (are_in out at ys) h
-  where
-    go : (b : Bool) → T (not b)
-        → (r ≡ cond b (get_or ys out zero_request) r) × (ys ≡ cond b (insert_at at r (remove_at out ys)) ys)
-    go true i = absurd i
-    go false i = (refl, refl)
+module _ (out at : ℕ) (r : Request) (ys : List Request) where
+  pub untouched : (length ys ≤ out) ⊎ ((out < length ys) × (length ys ≤ at)) → (r ≡ taken_out out at r ys) × (ys ≡ replaced out at r ys)
+  unfolding taken_out replaced
+  untouched (inl h) = rw (first_out out at ys h) (refl, refl)
+  untouched (inr h) = rw (second_out out at ys h.1) (refl, refl)
 
-pub both_in : (out at : ℕ) (ys : List Request) → T (are_in out at ys) → (out < length ys) × (at < length ys)
-both_in out at ys h = go (ltb out (length ys)) (ltb at (length ys)) (ltb→lt out (length ys)) (ltb→lt at (length ys)) h
-  where
-    go : (b c : Bool) → (T b → out < length ys) → (T c → at < length ys) → T (b && c) → (out < length ys) × (at < length ys)
-    go true c f g i = (f tt, g i)
-    go false c f g i = absurd i
-
--- otherwise the slide leaves `at` to be written
-pub puts_for : (out at : ℕ) (r : Request) (ys zs : List Request) → T (are_in out at ys) → Slid out at ys zs
-    → length zs ≡ length ys → (get_or ys out zero_request ≡ taken_out out at r ys) × (set zs at r ≡ replaced out at r ys)
-unfolding taken_out replaced
-puts_for out at r ys zs h s l = go (are_in out at ys) h
-  where
-    put_in : set zs at r ≡ insert_at at r (remove_at out ys)
-    put_in =
-        set_insert at r zs (omega (arith, (both_in out at ys h).1, l)) ∙ ap (λ (ws : List Request). insert_at at r ws) s.others
-
-    go : (b : Bool) → T b → (get_or ys out zero_request ≡ cond b (get_or ys out zero_request) r)
-        × (set zs at r ≡ cond b (insert_at at r (remove_at out ys)) ys)
-    go true i = (refl, put_in)
-    go false i = absurd i
+  -- otherwise the slide leaves `at` to be written
+  pub puts_for : out < length ys → at < length ys → (zs : List Request) → Slid out at ys zs → length zs ≡ length ys
+      → (get_or ys out zero_request ≡ taken_out out at r ys) × (set zs at r ≡ replaced out at r ys)
+  unfolding taken_out replaced
+  puts_for h k zs s l =
+      rw (are_in_lem out at ys h k)
+      (refl, set_insert at r zs (omega arith) ∙ ap (λ (ws : List Request). insert_at at r ws) s.others)
 
 -- ---- one put in among the first, or taken out of them
 pub insert_front : (k : ℕ) (r : Request) (ws zs : List Request) → k ≤ length ws → insert_at k r (ws ++ zs) ≡ insert_at k r ws ++ zs
@@ -261,32 +217,25 @@ module _ (n at : ℕ) (r : Request) (ys : List Request) where
 
 -- a remove finds none, or puts a zero record in for the one that it takes out
 module _ (n at : ℕ) (ys : List Request) where
-  pub not_removed : n ≤ at → (zero_request ≡ removed_out n at ys) × (ys ≡ removed n at ys)
-  unfolding removed_out removed
-  not_removed h = rw (le-ltb at n h) (refl, refl)
+  pub not_removed : (n ≤ at) ⊎ ((at < n) × (length ys < n)) → (None ≡ removed_from n at ys) × (ys ≡ removed n at ys)
+  unfolding removed_from removed
+  not_removed (inl h) = rw (le-ltb at n h) (refl, refl)
+  not_removed (inr h) = rw (lt-ltb at n h.0, lt-leb n (length ys) h.1) (refl, refl)
 
-  pub removes : at < n → (taken_out at (n - 1) zero_request ys ≡ removed_out n at ys)
+  pub removes : at < n → n ≤ length ys → (Some (taken_out at (n - 1) zero_request ys) ≡ removed_from n at ys)
       × (replaced at (n - 1) zero_request ys ≡ removed n at ys)
-  unfolding taken_out replaced removed_out removed
-  removes h = go (leb n (length ys)) (leb→le n (length ys)) (nleb→lt n (length ys))
+  unfolding taken_out replaced removed_from removed
+  removes h l =
+      rw (are_in_lem at (n - 1) ys (omega arith) (omega arith), lt-ltb at n h, le-leb n (length ys) l) (refl, taken)
     where
-      one_less : n ≤ length ys → length (remove_at at (take n ys)) ≡ n - 1
-      one_less l =
-          omega (arith, length-take-le n ys l, length_remove at (take n ys) (omega (arith, length-take-le n ys l)))
+      one_less : length (remove_at at (take n ys)) ≡ n - 1
+      one_less = omega (arith, length-take-le n ys l, length_remove at (take n ys) (omega (arith, length-take-le n ys l)))
 
-      taken : n ≤ length ys → insert_at (n - 1) zero_request (remove_at at ys) ≡ remove_at at (take n ys) ++ zero_request ∷ drop n ys
-      taken l =
+      taken : insert_at (n - 1) zero_request (remove_at at ys) ≡ remove_at at (take n ys) ++ zero_request ∷ drop n ys
+      taken =
           ap (λ (ws : List Request). insert_at (n - 1) zero_request (remove_at at ws)) (sym (take-append-drop n ys))
           ∙ ap (insert_at (n - 1) zero_request) (remove_front at (take n ys) (drop n ys) (omega (arith, length-take-le n ys l)))
-          ∙ insert_seam (n - 1) zero_request (remove_at at (take n ys)) (drop n ys) (one_less l)
-
-      go : (b : Bool) → (T b → n ≤ length ys) → (T (not b) → length ys < n)
-          → (taken_out at (n - 1) zero_request ys ≡ removed_out n at ys) × (replaced at (n - 1) zero_request ys ≡ removed n at ys)
-      go true f g =
-          rw (are_in_lem at (n - 1) ys (omega (arith, f tt)) (omega (arith, f tt)), lt-ltb at n h, le-leb n (length ys) (f tt))
-          (refl, taken (f tt))
-      go false f g =
-          rw (second_out at (n - 1) ys (omega (arith, g tt)), lt-ltb at n h, lt-leb n (length ys) (g tt)) (refl, refl)
+          ∙ insert_seam (n - 1) zero_request (remove_at at (take n ys)) (drop n ys) one_less
 
 -- ---- the first entries replaced one after the other by those of another list
 abbrev pub filled : {A : Type 0} → List A → List A → ℕ → List A
@@ -297,19 +246,8 @@ module _ {A : Type 0} (ps ds : List A) (n : ℕ) (e : length ps ≡ n) (h : n �
   fills i x d l k =
       rw (← k, add-one) (rw (zero-add i, zero-add (suc i)) at (paste-suc ds 0 ps i d (omega arith) (omega arith)))
 
-  pub length_filled : (i : ℕ) → i ≤ n → length (filled ps ds i) ≡ length ds
-  length_filled i l = rw zero-add at (length-paste ds 0 ps i (omega arith) (omega arith))
-
   pub filled_all : (i : ℕ) → i ≡ n → filled ps ds i ≡ ps ++ drop n ds
   filled_all i k = rw (k, take_all n ps (omega arith))
-
--- one value of each of the first n entries
-module _ {A B : Type 0} (f : A → B) (n : ℕ) (ys : List A) where
-  pub length_column : n ≤ length ys → length (map f (take n ys)) ≡ n
-  length_column h = length-map (take n ys) f ∙ length-take-le n ys h
-
-  pub get_d_column : (i : ℕ) (d : A) → i < n → get_or (map f (take n ys)) i (f d) ≡ f (get_or ys i d)
-  get_d_column i d h = get_or-map f (take n ys) i d ∙ ap f (get_or-take n ys i d h)
 
 -- ---- the shift of a place is the number of records behind it, of n that are in the table
 pub shift_records : (n at : ℕ) (ys : List Request) → n ≤ length ys → shift_at n at ≡ length (drop at (take n ys))

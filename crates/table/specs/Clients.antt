@@ -1,5 +1,5 @@
 -- What is done to the records of a client table, as its numbers are lent. Assumes nothing.
-use Rattle.std.specs.Prelude.{ℕ, zero, suc, ◌+◌, ◌-◌, cond, ◌&&◌, List, [], ◌∷◌, ltb}
+use Rattle.std.specs.Prelude.{ℕ, zero, suc, ◌+◌, ◌-◌, cond, ◌&&◌, List, [], ◌∷◌, ltb, get_or}
 use Rattle.spec.specs.declared.types.Counts.{Counts}
 use Rattle.spec.specs.Tables.{one_more_submitted, one_more_served, one_more_dropped, record_of, record_then}
 use Rattle.spec.specs.Calls.Tick.{is_period_start}
@@ -21,6 +21,10 @@ changed_all f [] = []
 changed_all f (a ∷ []) = a ∷ []
 changed_all f (a ∷ b ∷ []) = a ∷ b ∷ []
 changed_all f (a ∷ b ∷ c ∷ xs) = record_then (f (record_of a b c)) (changed_all f xs)
+
+-- the counts that a record's numbers are; one that is not there is 0
+abbrev pub counts_of : List ℕ → Counts
+counts_of xs = record_of (get_or xs 0 0) (get_or xs 1 0) (get_or xs 2 0)
 
 -- one of a client's counts, and the counts with 1 added to it
 abbrev pub count_of : Count → Counts → ℕ

@@ -1,5 +1,5 @@
 -- What is done to the waiting table as a list of records. Assumes nothing.
-use Rattle.std.specs.Prelude.{ℕ, suc, ◌-◌, ◌≡◌, Bool, cond, ◌&&◌, List, ◌∷◌, ◌++◌, ltb, leb, length, get_or, take, drop}
+use Rattle.std.specs.Prelude.{ℕ, suc, ◌-◌, ◌≡◌, Bool, Option, None, Some, cond, ◌&&◌, List, ◌∷◌, ◌++◌, ltb, leb, length, get_or, take, drop}
 use Rattle.spec.specs.declared.types.Request.{Request}
 use Rattle.spec.specs.Tables.{zero_request}
 use Rattle.spec.specs.Order.{insert_at, remove_at}
@@ -42,6 +42,10 @@ removed n at ys = cond (can_remove n at ys) (remove_at at (take n ys) ++ zero_re
 -- the record that was taken out; a zero record where none was
 unfoldable pub removed_out : ℕ → ℕ → List Request → Request
 removed_out n at ys = cond (can_remove n at ys) (get_or ys at zero_request) zero_request
+
+-- the same, where there was one
+unfoldable pub removed_from : ℕ → ℕ → List Request → Option Request
+removed_from n at ys = cond (can_remove n at ys) (Some (get_or ys at zero_request)) None
 
 -- ---- a slide
 -- the records but for one place: from one table to the other that place moved from `from` to `to`

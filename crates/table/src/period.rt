@@ -10,24 +10,20 @@ use spec::types::Counts;
 fn restarted_counts(k: Counts) -> Counts
     ensures { result ≡ restarted_counts k }
 {
-    let mut fresh = k;
-    fresh.submitted = waiting_count(k) as u32;
-    fresh.served = 0;
-    fresh.dropped = 0;
-    fresh
+    Counts {
+        submitted: waiting_count(k) as u32,
+        served: 0,
+        dropped: 0,
+    }
 }
 
 // A period's start, for each client.
+#[tactic(auto, using(spec::proofs::Laws::Layout::length_records))]
 fn restart(numbers: &mut [u32])
     ensures { numbers.new ≡ changed_all restarted_counts numbers.old }
 {
-    let n = record_count(numbers);
-    let mut i: usize = 0;
-    while i < n {
-        let k = get(numbers, i);
-        let fresh = restarted_counts(k);
-        put(numbers, i, fresh);
-        i += 1;
+    for i in 0..record_count(numbers) {
+        put(numbers, i, restarted_counts(get(numbers, i)));
     }
 }
 
@@ -35,18 +31,14 @@ fn restart(numbers: &mut [u32])
 fn is_period_start(period: u64, clock: u64) -> bool
     ensures { result ≡ ltb 0 period && is_period_start period clock }
 {
-    if period == 0 {
-        return false;
-    }
-    clock % period == 0
+    period != 0 && clock.is_multiple_of(period)
 }
 
 // A period's start where the clock is at one; at any other nothing changes.
 pub fn restart_at(period: u64, clock: u64, numbers: &mut [u32])
     ensures { numbers.new ≡ restarted_numbers period clock numbers.old }
 {
-    if !is_period_start(period, clock) {
-        return;
+    if is_period_start(period, clock) {
+        restart(numbers);
     }
-    restart(numbers);
 }

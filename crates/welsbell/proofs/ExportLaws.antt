@@ -79,7 +79,7 @@ module _ (setup given-marks head marks values₀ : List ℕ) {h : Head} (is-head
   abbrev before : State
   before = state_of (head_of head marks) ws xs
 
-  marks_left : head_of (head_numbers reply.head) (marks_after kind given-marks marks) ≡ reply.head
+  marks_left : head_of (head_numbers reply.head) (marks_after (kind_of reply.answer) given-marks marks) ≡ reply.head
   unfolding open_accepted
   marks_left =
       go (outcome_decided opens before) (ap (first_or Opened) (given opens head marks values₀ is-head gave told).answers_same)
@@ -87,12 +87,12 @@ module _ (setup given-marks head marks values₀ : List ℕ) {h : Head} (is-head
     where
       go : {o : Outcome} → Decided (refusals_of opens before) before (accepted_of opens before) o
           → reply.answer ≡ first_or Opened o.answers → reply.head.setup ≡ o.after.head.setup
-          → head_of (head_numbers reply.head) (marks_after kind given-marks marks) ≡ reply.head
-      go (accepts e) a b = rw (told.0, a) (read_back reply.head setup given-marks b)
-      go (refuses e) a b = rw (told.0, a) (read_back reply.head head marks b)
+          → head_of (head_numbers reply.head) (marks_after (kind_of reply.answer) given-marks marks) ≡ reply.head
+      go (accepts e) a b = rw a (read_back reply.head setup given-marks b)
+      go (refuses e) a b = rw a (read_back reply.head head marks b)
 
-  pub exports_open : (head' marks' : List ℕ) → head' ≡ head_numbers reply.head → marks' ≡ marks_after kind given-marks marks
+  pub exports_open : (head' marks' : List ℕ) → head' ≡ head_numbers reply.head → marks' ≡ marks_after (kind_of reply.answer) given-marks marks
       → Exported opens before values₀ kind values (state_of (head_of head' marks') ws' xs')
   exports_open head' marks' headed marked =
       rw (headed, marked)
-      (exports_given opens head marks values₀ is-head gave told (marks_after kind given-marks marks) marks_left)
+      (exports_given opens head marks values₀ is-head gave told (marks_after (kind_of reply.answer) given-marks marks) marks_left)

@@ -1,2 +1,3 @@
 pub mod ExportLaws
 pub mod Lists
+pub mod Marks

@@ -39,13 +39,11 @@ pub fn welsbell_open(
         values.old result values.new
         (state_of (head_of head.new hours.new) waiting.new clients.new) }
 {
-    let h = numbers::head_of(head, hours);
-    let s = numbers::setup_of(setup, marks);
-    let reply = queue::open(h, waiting, clients, s);
-    numbers::write_head(head, reply);
-    let kind = numbers::write_values(values, reply);
-    numbers::write_marks(hours, marks, kind);
-    kind
+    let given = numbers::setup_of(*setup, marks);
+    let reply = queue::open(numbers::head_of(head, hours), waiting, clients, given);
+    numbers::write_head(head, reply.head);
+    numbers::write_marks(hours, marks, reply.answer);
+    numbers::write_answer(values, reply.answer)
 }
 
 // Submit: a request of a client with a deadline.
@@ -63,10 +61,15 @@ pub fn welsbell_submit(
         values.old result values.new
         (state_of (head_of head.new hours.now) waiting.new clients.new) }
 {
-    let h = numbers::head_of(head, hours);
-    let reply = queue::submit(h, waiting, clients, client, deadline);
-    numbers::write_head(head, reply);
-    numbers::write_values(values, reply)
+    let reply = queue::submit(
+        numbers::head_of(head, hours),
+        waiting,
+        clients,
+        client,
+        deadline,
+    );
+    numbers::write_head(head, reply.head);
+    numbers::write_answer(values, reply.answer)
 }
 
 // Tick: one slot passes.
@@ -82,10 +85,9 @@ pub fn welsbell_tick(
         values.old result values.new
         (state_of (head_of head.new hours.now) waiting.new clients.new) }
 {
-    let h = numbers::head_of(head, hours);
-    let reply = queue::tick(h, waiting, clients);
-    numbers::write_head(head, reply);
-    numbers::write_values(values, reply)
+    let reply = queue::tick(numbers::head_of(head, hours), waiting, clients);
+    numbers::write_head(head, reply.head);
+    numbers::write_answer(values, reply.answer)
 }
 
 // Report: a client's three counts and its waiting count. Head and tables are only read.
@@ -102,9 +104,8 @@ pub fn welsbell_report(
         values.old result values.new
         (state_of (head_of head.now hours.now) waiting.now clients.now) }
 {
-    let h = numbers::head_of(head, hours);
-    let reply = queue::report(h, waiting, clients, client);
-    numbers::write_values(values, reply)
+    let reply = queue::report(numbers::head_of(head, hours), waiting, clients, client);
+    numbers::write_answer(values, reply.answer)
 }
 
 // Chart: the start slots into the output. Head and tables are only read.
@@ -123,7 +124,6 @@ pub fn welsbell_chart(
         × (output.new ≡ chart_output output.old
         (state_of (head_of head.now hours.now) waiting.now clients.now)) }
 {
-    let h = numbers::head_of(head, hours);
-    let reply = queue::chart(h, waiting, clients, output);
-    numbers::write_values(values, reply)
+    let reply = queue::chart(numbers::head_of(head, hours), waiting, clients, output);
+    numbers::write_answer(values, reply.answer)
 }

@@ -1,10 +1,8 @@
 // Setup, head and answer as numbers in lent arrays.
-ghost use Rattle.std.specs.Prelude.{◌+◌, ◌^◌, ◌≤◌, ◌<◌, ◌≡◌, [], ◌∷◌, take};
+ghost use Rattle.std.specs.Prelude.{◌+◌, ◌≤◌, ◌≡◌, drop, take};
 ghost use Rattle.spec.specs.Calls.Readings.{kind_of};
-ghost use Rattle.welsbell.specs.Numbers.{mark_bytes, number_at, setup_with, head_of, head_numbers, marks_after, value_numbers};
-ghost use Rattle.welsbell.specs.Numbers.{written};
+ghost use Rattle.welsbell.specs.Numbers.{mark_bytes, setup_with, head_of, head_numbers, marks_after, value_numbers, written};
 
-use queue::Reply;
 use spec::types::{Answer, Head, Setup};
 
 // How many numbers there are: a setup's beside its marks, a head's, which are its setup's and three more, and an answer's at most.
@@ -17,70 +15,49 @@ pub const MOST_VALUES: usize = 5;
 // How many bytes the 168 marks are.
 pub const MARK_BYTES: usize = 21;
 
-// A byte as a number of 64 bits.
-fn wide(byte: u8) -> u64
-    ensures { (result ≡ byte) × (result < 256) }
+// So many of the marks' bytes from one place on.
+fn bytes_at<const N: usize>(marks: &[u8; MARK_BYTES], from: usize) -> [u8; N]
+    requires { from + N ≤ mark_bytes }
+    ensures { result ≡ take N (drop from marks.now) }
 {
-    byte as u64
+    let mut bytes = [0; N];
+    bytes.copy_from_slice(&marks[from..from + N]);
+    bytes
 }
 
-// The number of `width` bytes from one place on, big-endian.
-fn number_at(bytes: &[u8; MARK_BYTES], from: usize, width: usize) -> u64
-    requires { (from + width ≤ mark_bytes) × (width ≤ 8) }
-    ensures { (result ≡ number_at bytes.now from width) × (result < 256 ^ width) }
+// The setup whose numbers and marks these are. Functions and no `From`, here and below: the types of both sides are other crates'.
+pub(crate) fn setup_of(numbers: [u64; SETUP_WIDTH], marks: &[u8; MARK_BYTES]) -> Setup
+    ensures { result ≡ setup_with numbers marks.now }
 {
-    let mut number: u64 = 0;
-    let mut i: usize = 0;
-    while i < width {
-        number = number * 256 + wide(bytes[from + i]);
-        i += 1;
-    }
-    number
-}
-
-// The setup with these clients, this period, so many slots per hour, and these marks.
-fn setup_with(clients: u64, period: u64, hour: u64, marks: &[u8; MARK_BYTES]) -> Setup
-    ensures { result ≡ setup_with (clients ∷ period ∷ hour ∷ []) marks.now }
-{
-    let marks0 = number_at(marks, 0, 8);
-    let marks64 = number_at(marks, 8, 8);
-    let marks128 = number_at(marks, 16, 4);
+    let [clients, period, hour] = numbers;
     Setup {
         clients,
         period,
         hour,
-        marks0,
-        marks64,
-        marks128: marks128 as u32,
+        marks0: u64::from_be_bytes(bytes_at(marks, 0)),
+        marks64: u64::from_be_bytes(bytes_at(marks, 8)),
+        marks128: u32::from_be_bytes(bytes_at(marks, 16)),
         marks160: marks[20],
     }
-}
-
-// The setup whose numbers and marks these are.
-pub(crate) fn setup_of(setup: &[u64; SETUP_WIDTH], marks: &[u8; MARK_BYTES]) -> Setup
-    ensures { result ≡ setup_with setup.now marks.now }
-{
-    setup_with(setup[0], setup[1], setup[2], marks)
 }
 
 // The head whose numbers and marks these are.
 pub(crate) fn head_of(numbers: &[u64; HEAD_WIDTH], marks: &[u8; MARK_BYTES]) -> Head
     ensures { result ≡ head_of numbers.now marks.now }
 {
-    let setup = setup_with(numbers[0], numbers[1], numbers[2], marks);
+    let [clients, period, hour, clock, last, waiting] = *numbers;
     Head {
-        setup,
-        clock: numbers[SETUP_WIDTH],
-        last: numbers[SETUP_WIDTH + 1],
-        waiting: numbers[SETUP_WIDTH + 2],
+        setup: setup_of([clients, period, hour], marks),
+        clock,
+        last,
+        waiting,
     }
 }
 
 // The head's numbers are written. Its marks are those that it had, but for an open that is accepted.
-pub(crate) fn write_head(numbers: &mut [u64; HEAD_WIDTH], reply: Reply)
-    ensures { numbers.new ≡ head_numbers reply.head }
+pub(crate) fn write_head(numbers: &mut [u64; HEAD_WIDTH], head: Head)
+    ensures { numbers.new ≡ head_numbers head }
 {
-    let head = reply.head;
     *numbers = [
         head.setup.clients,
         head.setup.period,
@@ -91,97 +68,82 @@ pub(crate) fn write_head(numbers: &mut [u64; HEAD_WIDTH], reply: Reply)
     ];
 }
 
-// The marks that an open is given become the head's, where its answer has the kind opened.
-pub(crate) fn write_marks(hours: &mut [u8; MARK_BYTES], marks: &[u8; MARK_BYTES], kind: u64)
-    ensures { hours.new ≡ marks_after kind marks.now hours.old }
+// The marks that an open is given become the head's, where it is answered opened.
+pub(crate) fn write_marks(hours: &mut [u8; MARK_BYTES], marks: &[u8; MARK_BYTES], answer: Answer)
+    ensures { hours.new ≡ marks_after (kind_of answer) marks.now hours.old }
 {
-    if kind != 0x81 {
-        return;
-    }
-    *hours = *marks;
-}
-
-// An answer as numbers: its kind, and its values, which are the first `count` of `numbers`.
-#[derive(Clone, Copy)]
-struct Values {
-    kind: u64,
-    numbers: [u64; MOST_VALUES],
-    count: usize,
-}
-
-impl Values {
-    fn new(kind: u64, numbers: [u64; MOST_VALUES], count: usize) -> Self
-        ensures { result ≡ record { kind = kind; numbers = numbers; count = count } }
-    {
-        Self {
-            kind,
-            numbers,
-            count,
-        }
+    if matches!(answer, Answer::Opened) {
+        *hours = *marks;
     }
 }
 
-// An answer's kind and values, document 01, "Session lines": kinds and the order of values are the paper's.
-#[tactic(auto, unfolding(crate::specs::Numbers::value_numbers))]
-fn values_of(answer: Answer) -> Values
-    ensures { (result.kind ≡ kind_of answer) × (take result.count result.numbers ≡ value_numbers answer) × (result.count ≤ 5) }
+// An answer's kind is the paper's, document 01, "Session lines".
+fn kind_of(answer: Answer) -> u64
+    ensures { result ≡ kind_of answer }
 {
     match answer {
-        Answer::Opened => Values::new(0x81, [0; MOST_VALUES], 0),
+        Answer::Opened => 0x81,
+        Answer::Kept { .. } => 0x82,
+        Answer::Dropped { .. } => 0x83,
+        Answer::Served { .. } => 0x84,
+        Answer::Idle { .. } => 0x85,
+        Answer::Reported { .. } => 0x86,
+        Answer::Charted { .. } => 0x88,
+        Answer::Closed { .. } => 0x89,
+        Answer::Refused { .. } => 0xFF,
+    }
+}
+
+// Numbers over the front of the array; those behind them stay.
+#[tactic(auto, unfolding(crate::specs::Numbers::written))]
+fn write_over<const N: usize>(values: &mut [u64; MOST_VALUES], numbers: [u64; N])
+    requires { N ≤ 5 }
+    ensures { values.new ≡ written numbers.entry values.old }
+{
+    values[..N].copy_from_slice(&numbers);
+}
+
+// An answer's values stand in the paper's order.
+#[tactic(auto, unfolding(crate::specs::Numbers::value_numbers, crate::specs::Numbers::written))]
+fn write_values(values: &mut [u64; MOST_VALUES], answer: Answer)
+    ensures { values.new ≡ written (value_numbers answer) values.old }
+{
+    match answer {
+        Answer::Opened => {}
         Answer::Kept {
             number,
             place,
             shift,
-        } => Values::new(0x82, [number, place, shift, 0, 0], 3),
+        } => write_over(values, [number, place, shift]),
         Answer::Dropped {
             number,
             victim,
             client,
             shift,
-        } => Values::new(0x83, [number, victim, client, shift, 0], 4),
+        } => write_over(values, [number, victim, client, shift]),
         Answer::Served {
             slot,
             number,
             client,
-        } => Values::new(0x84, [slot, number, client, 0, 0], 3),
-        Answer::Idle { slot } => Values::new(0x85, [slot, 0, 0, 0, 0], 1),
+        } => write_over(values, [slot, number, client]),
+        Answer::Idle { slot } => write_over(values, [slot]),
         Answer::Reported {
             client,
             submitted,
             served,
             dropped,
             waiting,
-        } => Values::new(0x86, [client, submitted, served, dropped, waiting], 5),
-        Answer::Charted { count } => Values::new(0x88, [count, 0, 0, 0, 0], 1),
-        Answer::Closed { slot } => Values::new(0x89, [slot, 0, 0, 0, 0], 1),
-        Answer::Refused { number } => Values::new(0xFF, [number, 0, 0, 0, 0], 1),
+        } => write_over(values, [client, submitted, served, dropped, waiting]),
+        Answer::Charted { count } => write_over(values, [count]),
+        Answer::Closed { slot } => write_over(values, [slot]),
+        Answer::Refused { number } => write_over(values, [number]),
     }
-}
-
-// The first of the numbers, so many, over the front of the others.
-fn over(others: [u64; MOST_VALUES], numbers: [u64; MOST_VALUES], count: usize) -> [u64; MOST_VALUES]
-    requires { count ≤ 5 }
-    ensures { result ≡ written (take count numbers) others }
-{
-    let mut all = others;
-    let mut i: usize = 0;
-    while i < count {
-        all[i] = numbers[i];
-        i += 1;
-    }
-    all
 }
 
 // The answer's values are written, and its kind handed back.
-pub(crate) fn write_values(values: &mut [u64; MOST_VALUES], reply: Reply) -> u64
-    ensures { (result ≡ kind_of reply.answer)
-        × (values.new ≡ written (value_numbers reply.answer) values.old) }
+pub(crate) fn write_answer(values: &mut [u64; MOST_VALUES], answer: Answer) -> u64
+    ensures { (result ≡ kind_of answer) × (values.new ≡ written (value_numbers answer) values.old) }
 {
-    let answer = reply.answer;
-    let said = values_of(answer);
-    let others = *values;
-    let numbers = said.numbers;
-    let all = over(others, numbers, said.count);
-    *values = all;
-    said.kind
+    write_values(values, answer);
+    kind_of(answer)
 }

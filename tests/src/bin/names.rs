@@ -1,6 +1,7 @@
 //! Holds the documents to the repository: what they name in backticks, a file, a folder, a definition, a theorem or a function, has to
 //! stand there. So a promise cannot rest on a theorem that is gone or has another name. It does not show that the theorem says what the
-//! document says of it. Notes of landings and the page on the port to today's toolchain are left out, since they tell of names as these were.
+//! document says of it. Notes of landings and the pages on the port to today's toolchain and on the design pass are left out, since they
+//! tell of names as these were.
 use std::collections::{HashMap, HashSet};
 use std::fs;
 use std::path::Path;
@@ -8,8 +9,8 @@ use std::process::exit;
 
 /// Besides the pages in `docs/`.
 const DOCUMENTS: [&str; 3] = ["README.md", "CONTRIBUTING.md", "CHANGELOG.md"];
-/// What was renamed, moved or left out when the repository was brought to today's toolchain.
-const PORT: &str = "docs/PORT.md";
+/// What was renamed, moved or left out when the repository was brought to today's toolchain, and then to today's forms.
+const PASSES: [&str; 2] = ["docs/PORT.md", "docs/DESIGN-PASS.md"];
 const FOLDERS: [&str; 9] = [".cargo", ".ci", "bench", "command", "crates", "docs", "examples", "package", "tests"];
 
 /// What stands in the repository: the words of all files, the words of each file by its path, and every part of every path.
@@ -146,7 +147,7 @@ fn documents() -> Vec<String> {
     let pages = fs::read_dir("docs").expect("a folder of the repository");
     let pages = pages.map(|page| page.expect("an entry of a folder").path().to_str().expect("a path in UTF-8").to_string());
     let named = DOCUMENTS.map(str::to_string).into_iter();
-    named.chain(pages.filter(|page| page.ends_with(".md") && page != PORT)).collect()
+    named.chain(pages.filter(|page| page.ends_with(".md") && !PASSES.contains(&page.as_str()))).collect()
 }
 
 fn main() {

@@ -1,15 +1,6 @@
 -- What a submit decides, refused or not, and what it is told to decide it. Assumes nothing.
-use Prim.Native.Nat.{ℕ, ◌<◌}
-use mathlib.Core.Path.{◌≡◌}
-use mathlib.Core.Logic.{◌≢◌}
-use mathlib.Core.Bool.{Bool, true, false, cond}
-use mathlib.Core.List.{List, ◌∷◌}
-use native.Mathlib.Omega.{arith}
-use borrow.Author.Tests.{eq-eqb, ne_eqb}
-use lib.Dec.{eqb}
-use lib.ListN.{get_or, take, drop, replicate}
+use Rattle.std.proofs.Common.{◌≡◌, ◌≢◌, ℕ, ◌<◌, Bool, true, false, cond, eqb, Option, Some, Result, Ok, Err, List, ◌∷◌, get_or, take, drop, replicate, arith}
 use Rattle.slots.proofs.Laws.Tests.{Same, same_yes, same_no, same}
-use Rattle.spec.specs.declared.types.Head.{Head}
 use Rattle.spec.specs.Tables.{most_clients, zero_counts, State, waiting, deadlines_of, clients_of, client_table}
 use Rattle.spec.specs.Setup.{first_match}
 use Rattle.spec.specs.Order.{place_of}
@@ -18,34 +9,22 @@ use Rattle.spec.specs.Calls.Outcomes.{Outcome, refusing}
 use Rattle.spec.specs.Calls.Submit.{submit_refusals, new_request, with_new, victim_place, kept, dropped_at, submit_accepted}
 use Rattle.spec.specs.Calls.{submit, outcome_of}
 use Rattle.spec.proofs.Laws.Accepted.{SubmitReady}
+use Rattle.spec.proofs.Calls.Refused.{none_accepted}
 use Rattle.table.specs.Widths.{largest32}
-use Rattle.occupancy.specs.Scans.{overfull_from, latest_of, put_at}
+use Rattle.occupancy.specs.Scans.{overfull_from, if_any, latest_of, put_at}
 use Rattle.decide.specs.declared.submit.Decision.{Decision}
-use Rattle.decide.specs.declared.submit.Decision.TheVariants.{Refuse, Keep, Drop}
+use Rattle.decide.specs.declared.submit.Decision.TheVariants.{Keep, Drop}
 use Rattle.queue.specs.Decision.{submit_choice, submit_decision}
 
--- what the searches find of an accepted submit in a state: the new request's place; the first overfull deadline, 0 where there is
--- none; and, where there is one, of each client the last candidate, the waiting requests that are due by it and the new one
-pub record SearchResults (client deadline : ℕ) (head : Head) (latest numbers : List ℕ) (place found : ℕ) (s : State)
-    : Type 0 where
+-- what the searches find of an accepted submit in a state: the new request's place; the first overfull deadline, where there is one; and,
+-- where there is, of each client the last candidate, the waiting requests that are due by it and the new one
+pub record SearchResults (client deadline : ℕ) (latest : List ℕ) (place : ℕ) (found : Option ℕ) (s : State) : Type 0 where
   pub accepted : first_match (submit_refusals client deadline s) ≡ 0
-  pub head_same : s.head ≡ head
-  pub numbers_same : s.client_numbers ≡ numbers
   pub placed : place ≡ due_by deadline (waiting s)
-  pub searched : found ≡ overfull_from s.head place (deadline ∷ drop place (deadlines_of (waiting s)))
-  pub marked : 0 < found
+  pub searched : found ≡ if_any (overfull_from s.head place (deadline ∷ drop place (deadlines_of (waiting s))))
+  pub marked : (D : ℕ) → found ≡ Some D
       → latest
-      ≡ latest_of 1 (put_at place client (take (due_by found (waiting s)) (clients_of (waiting s)))) (replicate most_clients 0)
-
--- ---- "first match wins": the number that was found tells whether the submit is refused or goes on
-module _ (client deadline : ℕ) (s : State) {t : ℕ} (found : t ≡ first_match (submit_refusals client deadline s)) where
-  pub submit_refused : t ≢ 0 → Refuse t ≡ submit_decision client deadline s
-  unfolding submit_decision
-  submit_refused n = rw (← found, ne_eqb t 0 n)
-
-  pub submit_goes : t ≡ 0 → submit_choice client deadline s ≡ submit_decision client deadline s
-  unfolding submit_decision
-  submit_goes z = rw (← found, eq-eqb t 0 z)
+      ≡ latest_of 1 (put_at place client (take (due_by D (waiting s)) (clients_of (waiting s)))) (replicate most_clients 0)
 
 -- ---- what an accepted submit says of the client's submitted: it has room for one more
 pub small : {client deadline : ℕ} (s : State) → SubmitReady client deadline s
@@ -57,33 +36,52 @@ small {client} s ready =
     )
 
 -- ---- what is decided, and what it comes to
-pub data Carried (client deadline : ℕ) (s : State) : Decision → Outcome → Type 0 where
-  refuses : first_match (submit_refusals client deadline s) ≢ 0
-      → Carried client deadline s (Refuse (first_match (submit_refusals client deadline s)))
-      (refusing (first_match (submit_refusals client deadline s)) s)
-  keeps : first_match (submit_refusals client deadline s) ≡ 0
-      → Carried client deadline s (Keep (place_of (new_request client deadline s) (waiting s))) (kept client deadline s)
-  drops : first_match (submit_refusals client deadline s) ≡ 0
-      → Carried client deadline s
+pub data Chosen (client deadline : ℕ) (s : State) : Decision → Outcome → Type 0 where
+  keeps : Chosen client deadline s (Keep (place_of (new_request client deadline s) (waiting s))) (kept client deadline s)
+  drops : Chosen client deadline s
       (Drop (place_of (new_request client deadline s) (waiting s)) (victim_place client deadline s))
       (dropped_at (victim_place client deadline s) client deadline s)
 
+choice_made : (client deadline : ℕ) (s : State)
+    → Chosen client deadline s (submit_choice client deadline s) (submit_accepted client deadline s)
+unfolding submit_choice submit_accepted
+choice_made client deadline s = go (has_no_overfull s.head (with_new client deadline s))
+  where
+    place : ℕ
+    place = place_of (new_request client deadline s) (waiting s)
+
+    go : (y : Bool)
+        → Chosen client deadline s
+        (cond y (Keep place) (Drop place (victim_place client deadline s)))
+        (cond y (kept client deadline s) (dropped_at (victim_place client deadline s) client deadline s))
+    go true = keeps
+    go false = drops
+
+-- of a submit that is not refused what is chosen is what the call does
+pub submit_chosen : (client deadline : ℕ) (s : State) → first_match (submit_refusals client deadline s) ≡ 0
+    → Chosen client deadline s (submit_choice client deadline s) (outcome_of (submit client deadline) s)
+submit_chosen client deadline s z =
+    rw (none_accepted (submit client deadline) s z) (choice_made client deadline s)
+
+-- of every submit what is decided is what the call does, case by case
+pub data Carried (client deadline : ℕ) (s : State) : Result Decision ℕ → Outcome → Type 0 where
+  refuses : first_match (submit_refusals client deadline s) ≢ 0
+      → Carried client deadline s (Err (first_match (submit_refusals client deadline s)))
+      (refusing (first_match (submit_refusals client deadline s)) s)
+  goes : {d : Decision} {o : Outcome} → first_match (submit_refusals client deadline s) ≡ 0 → Chosen client deadline s d o
+      → Carried client deadline s (Ok d) o
+
 pub submit_carried : (client deadline : ℕ) (s : State)
     → Carried client deadline s (submit_decision client deadline s) (outcome_of (submit client deadline) s)
-unfolding submit_decision submit_choice submit_accepted outcome_of
-submit_carried client deadline s =
-    go (eqb t 0) (same t 0) (has_no_overfull s.head (with_new client deadline s))
+unfolding submit_decision outcome_of
+submit_carried client deadline s = go (eqb t 0) (same t 0)
   where
     t : ℕ
     t = first_match (submit_refusals client deadline s)
 
-    place : ℕ
-    place = place_of (new_request client deadline s) (waiting s)
-
-    go : (x : Bool) → Same t 0 x → (y : Bool)
+    go : (x : Bool) → Same t 0 x
         → Carried client deadline s
-        (cond x (cond y (Keep place) (Drop place (victim_place client deadline s))) (Refuse t))
-        (cond x (cond y (kept client deadline s) (dropped_at (victim_place client deadline s) client deadline s)) (refusing t s))
-    go true (same_yes e) true = keeps e
-    go true (same_yes e) false = drops e
-    go false (same_no e) y = refuses e
+        (cond x (Ok (submit_choice client deadline s)) (Err t))
+        (cond x (submit_accepted client deadline s) (refusing t s))
+    go true (same_yes z) = goes z (choice_made client deadline s)
+    go false (same_no n) = refuses n

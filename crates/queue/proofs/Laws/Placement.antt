@@ -3,6 +3,7 @@ use Prim.Native.Nat.{ℕ, zero, suc, ◌-◌, ◌≤◌, ◌<◌}
 use mathlib.Core.Path.{◌≡◌, refl, sym, ap, ◌∙◌}
 use mathlib.Core.Logic.{◌≢◌}
 use mathlib.Core.List.{List, [], ◌∷◌, ◌++◌}
+use Rattle.std.specs.Prelude.{None, Some, Result, Ok, Err}
 use native.Mathlib.Omega.{arith}
 use borrow.Author.Tests.{lt-ltb, le-ltb, le-leb}
 use lib.ListN.{length, get_or, take, drop, replicate, length-take, get_or-append}
@@ -20,16 +21,15 @@ use Rattle.spec.proofs.Laws.Order.{place_most, length_put}
 use Rattle.spec.proofs.Laws.Accepted.{SubmitReady, submit_ready, waiting_length, table_held}
 use Rattle.spec.proofs.Calls.Victim.{victim_place_lem}
 use Rattle.spec.proofs.Calls.Fair.{new_place_and_shift}
-use Rattle.table.specs.Widths.{largest64}
 use Rattle.table.specs.Records.{replaced, taken_out, shift_at, inserted}
 use Rattle.table.proofs.MovedRecords.{are_in_lem, first_out, second_out, insert_front, remove_front}
 use Rattle.decide.specs.declared.submit.Decision.{Decision}
-use Rattle.decide.specs.declared.submit.Decision.TheVariants.{Refuse, Keep, Drop}
+use Rattle.decide.specs.declared.submit.Decision.TheVariants.{Keep, Drop}
 use Rattle.decide.specs.declared.submit.Insertion.{Insertion}
 use Rattle.decide.specs.Submit.{place_without}
 use Rattle.queue.specs.Placement.{without_victim, victim_at, table_after, insertion_by}
-use Rattle.queue.specs.Decision.{submit_decision}
-use Rattle.queue.proofs.Laws.Decision.{Carried, refuses, keeps, drops, submit_carried}
+use Rattle.queue.specs.Decision.{submit_choice, submit_decision}
+use Rattle.queue.proofs.Laws.Decision.{Chosen, keeps, drops, submit_chosen, Carried, refuses, goes, submit_carried}
 
 -- ---- one put in and another taken out, in either order
 remove_later : (p v : ℕ) (r : Request) (ws : List Request) → p ≤ v → p ≤ length ws
@@ -202,40 +202,50 @@ module _ (client deadline : ℕ) (s : State) (ready : SubmitReady client deadlin
   shift_same : shift_at s.head.waiting place ≡ new_shift client deadline s
   shift_same = omega (arith, new_place_and_shift client deadline s ready)
 
--- what an accepted submit's answer says of its insertion: the shift, and the victim where there is one
+-- what an accepted submit's answer says of its insertion: place and shift, or the victim and the shift
 abbrev pub InsertionFor : ℕ → ℕ → State → Decision → Insertion → Type 0
-InsertionFor client deadline s (Refuse number) p = Unit {0}
-InsertionFor client deadline s (Keep _) p = p.shift ≡ new_shift client deadline s
-InsertionFor client deadline s (Drop _ victim) p =
-    (p.gone ≡ request_at victim client deadline s) × (p.shift ≡ new_shift client deadline s)
+InsertionFor client deadline s (Keep place) p = p ≡ record { place = place; shift = new_shift client deadline s; gone = None }
+InsertionFor client deadline s (Drop place victim) p =
+    p ≡ record { place = place; shift = new_shift client deadline s; gone = Some (request_at victim client deadline s) }
 
--- ---- the number of an accepted submit's record fits
-pub new_fits : (client deadline : ℕ) (s : State) → first_match (submit_refusals client deadline s) ≡ 0
-    → s.head.last < largest64
-new_fits client deadline s z = omega (arith, (submit_ready client deadline s z).ready.sound.headed.last)
-
--- ---- a submit, refused ones too. A refused one's record goes nowhere, so that it may be any
-module _
-    (client deadline : ℕ) (s : State) (r : Request)
-    (new : first_match (submit_refusals client deadline s) ≡ 0 → r ≡ new_request client deadline s) where
-  pub submit_table : table_after s.head r (submit_decision client deadline s) s.waiting_table
+-- ---- a submit that is not refused
+module _ (client deadline : ℕ) (s : State) (z : first_match (submit_refusals client deadline s) ≡ 0) where
+  pub chosen_table : table_after s.head (new_request client deadline s) (submit_choice client deadline s) s.waiting_table
       ≡ (outcome_of (submit client deadline) s).after.waiting_table
+  chosen_table = go (submit_chosen client deadline s z)
+    where
+      go : {d : Decision} {o : Outcome} → Chosen client deadline s d o
+          → table_after s.head (new_request client deadline s) d s.waiting_table ≡ o.after.waiting_table
+      go keeps = kept_table client deadline s (submit_ready client deadline s z)
+      go drops = dropped_table client deadline s (submit_ready client deadline s z)
+
+  pub submit_inserted : InsertionFor client deadline s (submit_choice client deadline s)
+      (insertion_by s.head (new_request client deadline s) (submit_choice client deadline s) s.waiting_table)
+  submit_inserted = go (submit_chosen client deadline s z)
+    where
+      go : {d : Decision} {o : Outcome} → Chosen client deadline s d o
+          → InsertionFor client deadline s d (insertion_by s.head (new_request client deadline s) d s.waiting_table)
+      go keeps = rw (shift_same client deadline s (submit_ready client deadline s z)) refl
+      go drops =
+          let ready = submit_ready client deadline s z in
+          rw (dropped_gone client deadline s ready, shift_same client deadline s ready) refl
+
+-- ---- every submit, refused or not
+-- the waiting table by what is decided
+abbrev pub table_by : Request → State → Result Decision ℕ → List Request
+table_by r s (Ok decision) = table_after s.head r decision s.waiting_table
+table_by r s (Err number) = s.waiting_table
+
+module _ (client deadline : ℕ) (s : State) (r : Request)
+    (new : first_match (submit_refusals client deadline s) ≡ 0 → r ≡ new_request client deadline s) where
+  pub submit_table : table_by r s (submit_decision client deadline s) ≡ (outcome_of (submit client deadline) s).after.waiting_table
   submit_table = go (submit_carried client deadline s)
     where
-      go : {d : Decision} {o : Outcome} → Carried client deadline s d o
-          → table_after s.head r d s.waiting_table ≡ o.after.waiting_table
-      go (refuses n) = refl
-      go (keeps z) = rw (new z) (kept_table client deadline s (submit_ready client deadline s z))
-      go (drops z) = rw (new z) (dropped_table client deadline s (submit_ready client deadline s z))
+      chosen : {d : Decision} {o : Outcome} → SubmitReady client deadline s → Chosen client deadline s d o
+          → table_after s.head (new_request client deadline s) d s.waiting_table ≡ o.after.waiting_table
+      chosen ready keeps = kept_table client deadline s ready
+      chosen ready drops = dropped_table client deadline s ready
 
-  pub submit_inserted : InsertionFor client deadline s (submit_decision client deadline s)
-      (insertion_by s.head r (submit_decision client deadline s) s.waiting_table)
-  submit_inserted = go (submit_carried client deadline s)
-    where
-      go : {d : Decision} {o : Outcome} → Carried client deadline s d o
-          → InsertionFor client deadline s d (insertion_by s.head r d s.waiting_table)
-      go (refuses n) = tt
-      go (keeps z) = shift_same client deadline s (submit_ready client deadline s z)
-      go (drops z) =
-          let ready = submit_ready client deadline s z in
-          rw (new z) (dropped_gone client deadline s ready, shift_same client deadline s ready)
+      go : {d : Result Decision ℕ} {o : Outcome} → Carried client deadline s d o → table_by r s d ≡ o.after.waiting_table
+      go (refuses n) = refl
+      go (goes z c) = rw (new z) (chosen (submit_ready client deadline s z) c)

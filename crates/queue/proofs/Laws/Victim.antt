@@ -2,22 +2,22 @@
 -- client's last candidate. Assumes nothing.
 use Prim.Native.Nat.{ℕ, suc, ◌+◌, ◌%◌, ◌≤◌, ◌<◌}
 use mathlib.Core.Path.{◌≡◌, refl, sym, ap, subst, ◌∙◌}
-use mathlib.Core.Logic.{◌≢◌}
-use mathlib.Core.Bool.{Bool, true, false, cond}
+use mathlib.Core.Bool.{true, false, cond}
 use mathlib.Core.List.{List, ◌∷◌, map}
 use native.Mathlib.Nat.{zero-add}
 use native.Mathlib.Omega.{arith}
-use borrow.Author.Tests.{le-leb, leb-true}
-use lib.Dec.{leb, eqb}
+use Rattle.std.proofs.Common.{Option, Some, ap₂}
+use borrow.Author.Tests.{le-leb, leb-true, ne_eqb}
+use lib.Dec.{leb}
 use lib.ListN.{length, get_or, take, drop, replicate, get_or-map, length-map, length-take, length-replicate, get_or-replicate}
 use lib.ListN.{get_or-eq_default}
 use lib.Seq.{get_or-take, get_or_at, length-take-le}
 use Rattle.slots.proofs.Laws.Sums.{all_imp}
-use Rattle.slots.proofs.Laws.Tests.{Same, same_yes, same_no, same, le, gt, order}
+use Rattle.slots.proofs.Laws.Tests.{le, gt, order}
 use Rattle.spec.specs.declared.types.Head.{Head}
 use Rattle.spec.specs.declared.types.Request.{Request}
 use Rattle.spec.specs.declared.types.Counts.{Counts}
-use Rattle.spec.specs.Tables.{most_clients, zero_request, zero_counts, State, waiting, deadlines_of, clients_of, records_of}
+use Rattle.spec.specs.Tables.{most_clients, zero_request, zero_counts, State, waiting, deadlines_of, clients_of, client_table}
 use Rattle.spec.specs.Order.{place_of, put_in_order}
 use Rattle.spec.specs.Chart.{room_to, due_by, has_no_overfull, Search, is_candidate, has_smaller_ratio}
 use Rattle.spec.specs.Calls.Submit.{new_request, counted_in, with_new, victim_place}
@@ -30,7 +30,7 @@ use Rattle.spec.proofs.Laws.Sound.{Ahead, ClientExists}
 use Rattle.spec.proofs.Laws.Accepted.{SubmitReady, submit_ready}
 use Rattle.spec.proofs.Laws.Every.{value, is_true, is_false, same_test, all_at}
 use Rattle.spec.proofs.Laws.Places.{Roomy, feasible_roomy}
-use Rattle.occupancy.specs.Scans.{overfull_from, latest_of, put_at, counts_with, smallest_ratio_place, HaveRatios, Wins}
+use Rattle.occupancy.specs.Scans.{overfull_from, if_any, latest_of, put_at, counts_with, smallest_ratio_place, HaveRatios, Wins}
 use Rattle.occupancy.proofs.BestClient.{place_wins}
 use Rattle.occupancy.proofs.Columns.{column_insert, take_put}
 use Rattle.occupancy.proofs.LastOfEach.{Source, before, placed, source, latest_least}
@@ -325,67 +325,37 @@ place_last client deadline s r {found} e some = go (chosen client deadline s r) 
     go keeps q = absurd (omega arith)
     go (drops D h l c n v) q = subst (λ (x : ℕ). due_by deadline (waiting s) ≤ due_by x (waiting s)) (sym q) l
 
--- ---- by what the searches found
+-- ---- by what the searches found the choice is the submit's
 module _
-    {client deadline : ℕ} {head : Head} {latest numbers : List ℕ} {place found : ℕ} {s : State}
-    (f : SearchResults client deadline head latest numbers place found s) where
+    {client deadline : ℕ} {latest : List ℕ} {place : ℕ} {found : Option ℕ} {s : State}
+    (f : SearchResults client deadline latest place found s) where
+  abbrev clients : ℕ
+  clients = s.head.setup.clients
+
   ready : SubmitReady client deadline s
   ready = submit_ready client deadline s f.accepted
 
-  what : Chosen client deadline s found (submit_choice client deadline s)
-  what = subst (λ (x : ℕ). Chosen client deadline s x (submit_choice client deadline s)) (sym e) (chosen client deadline s ready)
+  -- it is one among the clients' last candidates
+  choice_drops : (D : ℕ) → latest ≡ latest_by client deadline s D → HaveRatios (counts_in client s) (latest_by client deadline s D) clients
+      → 0 < get_or (latest_by client deadline s D) client 0
+      → Wins (counts_in client s) (latest_by client deadline s D) clients (smallest_ratio_place (counts_in client s) latest clients)
+  choice_drops D e countable new =
+      let ratios = subst (λ (l : List ℕ). HaveRatios (counts_in client s) l clients) (sym e) countable in
+      let own = subst (λ (l : List ℕ). 0 < get_or l client 0) (sym e) new in
+      subst (λ (l : List ℕ). Wins (counts_in client s) l clients (smallest_ratio_place (counts_in client s) latest clients)) e
+      (place_wins (counts_in client s) latest clients ratios client ready.exists own)
+
+  pub choice_found : choice_by clients (counts_with client (client_table s)) latest place found ≡ submit_choice client deadline s
+  choice_found =
+      go (chosen client deadline s ready)
+      (f.searched ∙ ap (λ (k : ℕ). if_any (overfull_from s.head k (deadline ∷ drop k (deadlines_of (waiting s))))) f.placed)
     where
-      e : found ≡ overfull_from s.head (due_by deadline (waiting s))
-          (deadline ∷ drop (due_by deadline (waiting s)) (deadlines_of (waiting s)))
-      e =
-          f.searched
-          ∙ ap (λ (k : ℕ). overfull_from s.head k (deadline ∷ drop k (deadlines_of (waiting s)))) f.placed
-
-  choice_keeps : found ≡ 0 → Keep place ≡ submit_choice client deadline s
-  choice_keeps z = go what z
-    where
-      go : {x : ℕ} {d : Decision} → Chosen client deadline s x d → x ≡ 0 → Keep place ≡ d
-      go keeps e = ap Keep f.placed
-      go (drops D some l c n v) e = absurd (omega arith)
-
-  -- what the choice among the clients promises
-  abbrev ChoicePromised : (ℕ → Counts) → List ℕ → ℕ → ℕ → Type 0
-  ChoicePromised counts xs n victim =
-      HaveRatios counts xs n → (c : ℕ) → c < n → 0 < get_or xs c 0 → Wins counts xs n victim
-
-  -- it is one among the state's clients
-  of_state : (D victim : ℕ) → latest ≡ latest_by client deadline s D → ChoicePromised (counts_with client (records_of numbers)) latest head.setup.clients victim
-      → ChoicePromised (counts_in client s) (latest_by client deadline s D) s.head.setup.clients victim
-  of_state D victim e w =
-      subst (λ (n : ℕ). ChoicePromised (counts_in client s) (latest_by client deadline s D) n victim)
-      (ap (λ (h : Head). h.setup.clients) (sym f.head_same))
-      (subst (λ (ns : List ℕ). ChoicePromised (counts_with client (records_of ns)) (latest_by client deadline s D) head.setup.clients victim)
-      (sym f.numbers_same)
-      (subst (λ (xs : List ℕ). ChoicePromised (counts_with client (records_of numbers)) xs head.setup.clients victim) e w))
-
-  choice_drops : found ≢ 0 → {victim : ℕ} → ChoicePromised (counts_with client (records_of numbers)) latest head.setup.clients victim
-      → Drop place victim ≡ submit_choice client deadline s
-  choice_drops n {victim} w = go what n f.marked
-    where
-      go : {x : ℕ} {d : Decision} → Chosen client deadline s x d → x ≢ 0
-          → (0 < x → latest
-          ≡ latest_of 1 (put_at place client (take (due_by x (waiting s)) (clients_of (waiting s)))) (replicate most_clients 0))
-          → Drop place victim ≡ d
-      go keeps k m = absurd (k refl)
-      go (drops D some l countable new same) k m =
-          let e : latest ≡ latest_by client deadline s D =
-          m some
-          ∙ ap (λ (j : ℕ). latest_of 1 (put_at j client (take (due_by D (waiting s)) (clients_of (waiting s)))) unmarked)
-          f.placed in
-          let v = same victim (of_state D victim e w countable client ready.exists new) in
-          ap (λ (j : ℕ). Drop j victim) f.placed ∙ ap (Drop (due_by deadline (waiting s))) v
-
-  -- the choice by what was found is the submit's
-  pub choice_found : choice_by head.setup.clients (counts_with client (records_of numbers)) latest place found ≡ submit_choice client deadline s
-  choice_found = go (eqb found 0) (same found 0)
-    where
-      go : (b : Bool) → Same found 0 b
-          → cond b (Keep place) (Drop place (smallest_ratio_place (counts_with client (records_of numbers)) latest head.setup.clients))
-          ≡ submit_choice client deadline s
-      go true (same_yes z) = choice_keeps z
-      go false (same_no n) = choice_drops n (place_wins (counts_with client (records_of numbers)) latest head.setup.clients)
+      go : {x : ℕ} {d : Decision} → Chosen client deadline s x d → found ≡ if_any x
+          → choice_by clients (counts_with client (client_table s)) latest place found ≡ d
+      go keeps e = rw e (ap Keep f.placed)
+      go (drops D some l countable new same) e =
+          let q : found ≡ Some D = e ∙ rw (ne_eqb D 0 (omega (arith, some))) refl in
+          let m : latest ≡ latest_by client deadline s D =
+          f.marked D q
+          ∙ ap (λ (j : ℕ). latest_of 1 (put_at j client (take (due_by D (waiting s)) (clients_of (waiting s)))) unmarked) f.placed in
+          rw q (ap₂ Drop f.placed (same (smallest_ratio_place (counts_in client s) latest clients) (choice_drops D m countable new)))

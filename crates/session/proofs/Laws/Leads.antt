@@ -8,7 +8,7 @@ use Rattle.spec.specs.declared.types.Frame.{Frame}
 use Rattle.spec.specs.Tables.{State}
 use Rattle.spec.specs.Lines.Frames.{frame_of}
 use Rattle.spec.specs.Lines.Session.{Text, text_of, line_outcome, replies}
-use Rattle.session.specs.declared.types.NextLine.{NextLine}
+use Rattle.session.specs.declared.types.Fed.{Fed}
 use Rattle.frame.specs.Lines.{slice}
 use Rattle.session.specs.Standing.{Begun, state_after, Reached, Leads}
 use Rattle.session.specs.Feeding.{Whole, None}
@@ -48,17 +48,17 @@ leads_then s₀ k₀ i s k o j s' k' o' f g p b =
     (rw (replies_append s₀ t.lines (text_of (t.rest ++ j)).lines, x.state, x.answers, y.answers))
 
 -- what stands next in the input, behind whatever line is begun
-module _ (input : List ℕ) (used : ℕ) (skip : Bool) (turn : NextLine) (s : State) where
-  pub whole_leads : Whole input used skip turn
-      → Leads s skip (slice used turn.used input) (line_outcome turn.frame s).after turn.skip (line_outcome turn.frame s).bytes
+module _ (input : List ℕ) (used : ℕ) (skip : Bool) where
+  pub whole_leads : (behind : ℕ) (frame : Frame) (s : State) → Whole input used skip behind frame
+      → Leads s skip (slice used behind input) (line_outcome frame s).after false (line_outcome frame s).bytes
   unfolding state_after replies
-  whole_leads w p b =
-      reached s p (slice used turn.used input) (line_outcome turn.frame s).after turn.skip (line_outcome turn.frame s).bytes
-      (ended (w.line p)) (w.reads p b) (ap (λ (f : Frame). (line_outcome f s).after) (w.frame p b)) (rw w.skip_ends refl)
-      (append-nil (line_outcome (frame_of (w.line p)) s).bytes ∙ ap (λ (f : Frame). (line_outcome f s).bytes) (w.frame p b))
+  whole_leads behind frame s w p b =
+      reached s p (slice used behind input) (line_outcome frame s).after false (line_outcome frame s).bytes
+      (ended (w.line p)) (w.reads p b) (ap (λ (f : Frame). (line_outcome f s).after) (w.frame_so p b)) refl
+      (append-nil (line_outcome (frame_of (w.line p)) s).bytes ∙ ap (λ (f : Frame). (line_outcome f s).bytes) (w.frame_so p b))
 
-  pub none_leads : None input used skip turn → Leads s skip (slice used turn.used input) s turn.skip []
+  pub none_leads : (r : Fed) (s : State) → None input used skip r → Leads s skip (slice used r.used input) s r.session.skip []
   unfolding state_after replies
-  none_leads n p b =
-      reached s p (slice used turn.used input) s turn.skip [] (begun (p ++ slice used turn.used input))
+  none_leads r s n p b =
+      reached s p (slice used r.used input) s r.session.skip [] (begun (p ++ slice used r.used input))
       (n.reads p b) refl (n.begun p b) refl

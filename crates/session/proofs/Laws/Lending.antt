@@ -8,15 +8,17 @@ use borrow.Author.Tests.{leb-true, le-leb}
 use lib.Dec.{leb, eqb}
 use lib.ListN.{length}
 use Rattle.slots.proofs.Laws.Tests.{Same, same_yes, same_no, same}
+use Rattle.spec.specs.declared.types.Frame.{Frame}
 use Rattle.spec.specs.declared.types.Setup.{Setup}
 use Rattle.spec.specs.Every.{is_within}
 use Rattle.spec.specs.Tables.{most_records, most_clients, State, client_width}
 use Rattle.spec.specs.Setup.{Refusal, first_match, setup_refusals}
 use Rattle.spec.specs.Calls.Outcomes.{Outcome, unless_refused, refusing}
 use Rattle.spec.specs.Calls.Open.{open_refusals}
+use Rattle.spec.specs.Lines.Frames.{task}
 use Rattle.spec.proofs.Laws.Every.{Value, is_true, is_false, value, cond_true}
 use Rattle.session.specs.declared.types.Session.{Session}
-use Rattle.session.specs.Standing.{do_fit, up_to}
+use Rattle.session.specs.Standing.{do_fit, up_to, lengths_for, records_for, numbers_for}
 
 -- ---- tables that will do, as facts
 pub record TablesFit (s : Session) (waiting numbers starts : ℕ) : Type 0 where
@@ -58,7 +60,17 @@ up_within most n = go (leb n most) refl
     go true e = rw e
     go false e = rw and-false
 
--- so open is refused alike on tables as long as a frame names and on those that are lent
+-- what a frame's call is lent is within tables that will do
+pub lent_within : (frame : Frame) (s : Session) (waiting numbers starts : ℕ) → do_fit s waiting numbers starts ≡ true
+    → (records_for frame s ≤ waiting) × (numbers_for frame s ≤ numbers)
+unfolding records_for numbers_for
+lent_within frame s waiting numbers starts e =
+    let f = fit_facts s waiting numbers starts e in
+    let n = up_most most_records (lengths_for (task frame).named s).records in
+    let c = up_most most_clients (lengths_for (task frame).named s).clients in
+    (omega (arith, f.waiting_long, n), omega (arith, f.numbers_long, c))
+
+-- open is refused alike on tables as long as a frame names and on those that are lent
 pub open_match_lem : (setup : Setup) (records : ℕ) (t u : State)
     → length t.waiting_table ≡ up_to most_records records → length t.client_numbers ≡ client_width * up_to most_clients setup.clients
     → length u.waiting_table ≡ records → length u.client_numbers ≡ client_width * setup.clients

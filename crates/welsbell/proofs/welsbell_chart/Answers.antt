@@ -11,7 +11,7 @@ pub returns : goal.returns
 unfolding chart_accepted
 returns c =
     let a = c.args in (
-      exports_read (chart a.output.now) a.head.now a.hours.now a.values.now c.head_of-h.ensures
-          c.chart-reply.ensures.0 c.write_values.ensures (λ t. refl),
-      c.chart-reply.ensures.1 ∙ ap (λ (x : Head). chart_output a.output.now (state_of x a.waiting.now a.clients.now)) c.head_of-h.ensures,
+      exports_read (chart a.output.now) a.head.now a.hours.now a.values.now c.head_of.ensures
+          c.chart-reply.ensures.0 c.write_answer.ensures (λ t. refl),
+      c.chart-reply.ensures.1 ∙ ap (λ (x : Head). chart_output a.output.now (state_of x a.waiting.now a.clients.now)) c.head_of.ensures,
     )

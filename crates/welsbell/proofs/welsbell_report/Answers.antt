@@ -8,5 +8,5 @@ use Rattle.welsbell.proofs.welsbell_report.Goals as goal
 pub returns : goal.returns
 unfolding report_accepted
 returns c =
-    exports_read (report c.args.client) c.args.head.now c.args.hours.now c.args.values.now c.head_of-h.ensures
-    c.report-reply.ensures c.write_values.ensures (λ t. refl)
+    exports_read (report c.args.client) c.args.head.now c.args.hours.now c.args.values.now c.head_of.ensures
+    c.report-reply.ensures c.write_answer.ensures (λ t. refl)

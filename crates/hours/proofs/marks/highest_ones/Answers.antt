@@ -11,5 +11,5 @@ returns-then-n-eq0 c = search rules
 pub returns : goal.returns
 returns c =
     let a = c.args in
-    let e = highest_ones a.x a.bits a.n (omega arith) c.requires.2 in
-    (e, omega (arith, highest_most a.x a.bits a.n))
+    let e = highest_ones a.word a.n (omega arith) (omega arith) in
+    (omega arith, omega (arith, highest_most a.word a.n))

@@ -1,6 +1,7 @@
 -- `starts::write_starts` meets its contract: a turn writes the start slot of one record more, in front of those that stand.
-use Rattle.std.proofs.Common.{◌≡◌, ◌++◌, ◌∷◌, ◌-◌, ◌<◌, ◌≤◌, ℕ, List, min, length, set, take, drop, get_or, sym, ap, ◌∙◌, arith}
-use lib.ListN.{take-append-drop}
+use Rattle.std.proofs.Common.{◌≡◌, ◌<◌, ◌≤◌, ◌++◌, ◌∷◌, [], ◌+◌, ◌-◌, sym, ap, ◌∙◌, arith, List, ℕ, length, min, take, set, get_or}
+use Rattle.std.proofs.Math.Seq.{take-length}
+use Rattle.std.proofs.lemmas.List.{append-nil}
 use Rattle.spec.specs.declared.types.Setup.{Setup}
 use Rattle.spec.specs.declared.types.Request.{Request}
 use Rattle.spec.specs.Tables.{zero_request}
@@ -9,40 +10,56 @@ use Rattle.table.specs.Widths.{largest64}
 use Rattle.occupancy.proofs.StartsAndSegments.{starts_from, starts_none, starts_more, set_last}
 use Rattle.occupancy.proofs.starts.write_starts.Goals as goal
 
--- the request w stands in front of the records whose start slots are known: one start more
-one_more : (setup : Setup) (ws : List Request) (n i next : ℕ) (w : Request) → 0 < i → i ≤ n → n ≤ length ws
-    → w ≡ get_or ws (i - 1) zero_request → w.deadline ≤ largest64 → next ≡ get_or (starts_from setup ws n i) 0 largest64
-    → starts_from setup ws n (i - 1) ≡ latest_open setup (min w.deadline next) ∷ starts_from setup ws n i
-one_more setup ws n i next w some within records is fits behind =
-    rw is (starts_more setup ws n i next some within records (rw is at fits) behind)
+-- at the beginning all entries stand as they were
+untouched : (out : List ℕ) (n : ℕ) → n ≡ length out → out ≡ take n out ++ []
+untouched out n e = sym (append-nil (take n out) ∙ rw e (take-length out))
 
--- it is written in front of those that stand
-written : (out rest behind more old new : List ℕ) (i start : ℕ) → 0 < i → i ≤ length out → old ≡ take i out ++ (behind ++ rest)
-    → new ≡ set old (i - 1) start → more ≡ start ∷ behind → new ≡ take (i - 1) out ++ (more ++ rest)
-written out rest behind more old new i start some inside stands set-is more-is =
-    rw (set-is, stands, more-is) (set_last out (behind ++ rest) i start some inside)
+-- what the chart has come to behind the record at an index, and with it
+module _ (setup : Setup) (ws : List Request) (i : ℕ) (before after : Setup × ℕ) where
+  one_more : 0 < i → i ≤ length ws → (get_or ws (i - 1) zero_request).deadline ≤ largest64
+      → before ≡ (setup, get_or (starts_from setup ws i) 0 largest64)
+      → after ≡ (before.0, latest_open before.0 (min (get_or ws (i - 1) zero_request).deadline before.1))
+      → starts_from setup ws (i - 1) ≡ after.1 ∷ starts_from setup ws i
+  one_more some inside fits behind found =
+      let back : i - 1 + 1 ≡ i = omega arith in
+      let next = ap (λ (p : Setup × ℕ). p.1) behind in
+      let of_setup = ap (λ (p : Setup × ℕ). p.0) behind in
+      let start = ap (λ (p : Setup × ℕ). p.1) found in
+      let more = starts_more setup ws (i - 1) before.1 (omega arith) fits (rw back next) in
+      rw (start, of_setup) (rw back at more)
+
+  reached : 0 < i → i ≤ length ws → (get_or ws (i - 1) zero_request).deadline ≤ largest64
+      → before ≡ (setup, get_or (starts_from setup ws i) 0 largest64)
+      → after ≡ (before.0, latest_open before.0 (min (get_or ws (i - 1) zero_request).deadline before.1))
+      → after ≡ (setup, get_or (starts_from setup ws (i - 1)) 0 largest64)
+  reached some inside fits behind found =
+      rw (one_more some inside fits behind found)
+      (found ∙ ap (λ (s : Setup). (s, latest_open before.0 (min (get_or ws (i - 1) zero_request).deadline before.1))) (ap (λ (p : Setup × ℕ). p.0) behind)
+      ∙ ap (λ (x : ℕ). (setup, x)) (sym (ap (λ (p : Setup × ℕ). p.1) found)))
+
+-- the start slot is written in front of those that stand
+written : (out stands behind more : List ℕ) (i start next : ℕ) → 0 < i → i ≤ length out → stands ≡ take i out ++ behind → start ≡ next
+    → more ≡ next ∷ behind → set stands (i - 1) start ≡ take (i - 1) out ++ more
+written out stands behind more i start next some inside stands-is is more-is =
+    rw (stands-is, is, more-is) (set_last out behind i next some inside)
 
 pub loop-i-init : goal.loop-i-init
 loop-i-init c =
-    let a = c.args in (
-      omega arith,
-      rw (starts_none a.setup a.t.now a.n) c.reached_at_end-at.ensures.0,
-      c.reached_at_end-at.ensures.1,
-      rw (starts_none a.setup a.t.now a.n) (sym (take-append-drop a.n a.out.now)),
-    )
+    let a = c.args in
+    rw (starts_none a.setup a.waiting.now) (c.at_end-reached.ensures, untouched a.out.now (length a.waiting.now) c.requires)
 
 pub loop-i-preserved : goal.loop-i-preserved
 loop-i-preserved c =
     let a = c.args in
     let i = c.loop-i.i in
-    let fits : c.get-w.result.deadline ≤ largest64 = omega arith in
-    let more =
-    one_more a.setup a.t.now a.n i c.loop-i.at.next c.get-w.result c.loop-i-test.true c.loop-i.invariant.0 c.requires.0 c.get-w.ensures
-    fits c.loop-i.invariant.1
-    in (
-      omega arith,
-      c.put_start-at.ensures.0 ∙ sym (ap (λ (starts : List ℕ). get_or starts 0 largest64) more),
-      c.put_start-at.ensures.1,
-      written a.out.now (drop a.n a.out.now) _ _ _ _ i _ c.loop-i-test.true (omega arith) c.loop-i.invariant.3 c.put_start-at.ensures.2
-          more,
+    let fits : (get_or a.waiting.now (i - 1) zero_request).deadline ≤ largest64 = omega arith in
+    let before = c.loop-i.reached in
+    let after = c.go_before.new.self in
+    let more = one_more a.setup a.waiting.now i before after c.loop-i-test.true (omega arith) fits c.loop-i.invariant.0 c.go_before.ensures in (
+      reached a.setup a.waiting.now i before after c.loop-i-test.true (omega arith) fits c.loop-i.invariant.0 c.go_before.ensures,
+      written a.out.now c.loop-i.out (starts_from a.setup a.waiting.now i) _ i _ after.1 c.loop-i-test.true (omega arith) c.loop-i.invariant.1
+          (ap (λ (p : Setup × ℕ). p.1) c.reached.view_is) more,
     )
+
+pub returns : goal.returns
+returns c = let first : c.loop-i.i ≡ 0 = omega arith in rw first at c.loop-i.invariant.1

@@ -1,20 +1,28 @@
 -- `queue::submission::drop_at` meets its contract: where the new record itself goes nothing changes, and else the exchange leaves the
 -- same table as putting it in and then taking the other out (`Laws/Placement.antt`).
-use Rattle.std.proofs.Common.{◌∙◌}
-use Rattle.decide.specs.Submit.{insertion_of}
+use Rattle.std.proofs.Common.{refl, ◌∙◌}
 use Rattle.queue.proofs.Laws.Placement.{drops_new, drops_other}
 use Rattle.queue.proofs.submission.drop_at.Goals as goal
 
-pub returns-then-victim-place : goal.returns-then-victim-place
-returns-then-victim-place c =
-    let tied = drops_new _ _ _ _ c.if-victim-place.true in
-    (c.insertion_of.ensures ∙ (λ i. insertion_of (tied.0 i) (c.exchange_of-exchange.ensures.2 i)), tied.1)
+pub returns-then-victim-place-clause-insertion : goal.returns-then-victim-place-clause-insertion
+returns-then-victim-place-clause-insertion c =
+    let a = c.args in
+    rw (c.exchange_of-out.ensures.shift, ← (drops_new a.place a.victim a.new a.waiting.now c.if-victim-place.true).0) refl
 
-pub returns : goal.returns
-returns c =
-    let found = c.exchange_of-exchange.ensures in
-    let tied =
-    drops_other c.args.place c.args.victim c.args.new c.args.waiting.now found.0 found.1 c.if-victim-place.false in (
-      c.insertion_of-2.ensures ∙ (λ i. insertion_of ((c.replace-gone.ensures.0 ∙ tied.0) i) (found.2 i)),
-      c.replace-gone.ensures.1 ∙ tied.1,
-    )
+pub returns-then-victim-place-clause-table : goal.returns-then-victim-place-clause-table
+returns-then-victim-place-clause-table c =
+    let a = c.args in
+    (drops_new a.place a.victim a.new a.waiting.now c.if-victim-place.true).1
+
+pub returns-else-victim-place-clause-insertion : goal.returns-else-victim-place-clause-insertion
+returns-else-victim-place-clause-insertion c =
+    let a = c.args in
+    let found = c.exchange_of-out.ensures in
+    let tied = drops_other a.place a.victim a.new a.waiting.now found.out found.at c.if-victim-place.false in
+    rw (found.shift, c.replace-gone.ensures.0, tied.0) refl
+
+pub returns-else-victim-place-clause-table : goal.returns-else-victim-place-clause-table
+returns-else-victim-place-clause-table c =
+    let a = c.args in
+    let found = c.exchange_of-out.ensures in
+    c.replace-gone.ensures.1 ∙ (drops_other a.place a.victim a.new a.waiting.now found.out found.at c.if-victim-place.false).1

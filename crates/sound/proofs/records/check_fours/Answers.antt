@@ -1,45 +1,40 @@
--- `sound::records::check_fours` meets its contract: a turn stands wherever the pass has come to (`Turn`), at a whole number of fours.
-use Rattle.std.proofs.Common.{◌+◌, ◌≤◌, ◌&&◌, not, true, ltb, refl, ◌∙◌, arith}
-use lib.Dec.{T}
-use Rattle.sound.proofs.Turns.{comes_next, sets_out, turns_on, turns_over}
-use Rattle.sound.proofs.PassWalks.{Turn, goes_on}
+-- `sound::records::check_fours` meets its contract: one more four stands behind those so far.
+use Rattle.std.proofs.Common.{sym, ◌+◌, ◌*◌, [], refl, ap, ◌∙◌, length, get_or, arith, rules}
+use lib.ListN.{length-append, take, drop}
+use Rattle.sound.specs.Checks.{joined}
+use Rattle.sound.proofs.Turns.{none_counted, more_countable, fewer_bounded, counted_on, stopped_on, one_more_four, fours_split, last_of_fours}
 use Rattle.sound.proofs.records.check_fours.Goals as goal
 
-pub loop-i-init : goal.loop-i-init
-loop-i-init c =
-    let a = c.args in
-    record {
-      fours = refl;
-      behind = refl;
-      reached = sets_out a.head a.t.now 0 a.n a.n true a.tally.now (omega arith) c.requires.3;
-    }
+pub loop-k-init : goal.loop-k-init
+loop-k-init c = record { size = refl; in_hand = search rules; counted = none_counted }
 
-pub loop-i-preserved : goal.loop-i-preserved
-loop-i-preserved c =
-    let a = c.args in
-    let l = c.loop-i in
-    let u : Turn a.head a.t.now 0 (true, a.tally.now) a.n =
-    record {
-      i = l.i;
-      before = l.before;
-      passed = l.passed;
-      tally = l.tally;
-      size = l.auto.tally;
-      behind = l.invariant.behind;
-      reached = l.invariant.reached;
-    } in
-    let held : T (ltb l.i a.n && l.passed) = rw c.loop-i-test.true tt in
-    let on = goes_on u held in
-    let last : l.i + 4 ≤ a.n = omega (arith, on.0, l.invariant.fours, c.requires.2) in
-    record {
-      fours = omega (arith, l.invariant.fours);
-      behind = c.get-before.ensures ∙ comes_next a.t.now (l.i + 3) (l.i + 4) (omega arith);
-      reached = turns_on on.1 c.requires.0 4 (l.i + 4) refl last c.check_four-passed.ensures;
-    }
+pub check_run-requires : goal.check_run-requires
+check_run-requires c =
+    let l = c.loop-k in
+    let four = c.told-fours l.k c.loop-k-test.true in (
+      fewer_bounded (4 * l.k + length (get_or c.args.fours.now l.k [])) c.requires.0 (omega arith),
+      more_countable (length (get_or c.args.fours.now l.k [])) l.invariant.counted c.requires.1 (omega (arith, l.invariant.size)),
+    )
 
-pub returns : goal.returns
-returns c =
-    let a = c.args in
-    let l = c.loop-i in
-    let over : T (not (ltb l.i a.n && l.passed)) = rw c.loop-i-test.false tt in
-    turns_over l.invariant.reached c.requires.0 a.n (omega arith) over
+pub returns-then-not-check_run : goal.returns-then-not-check_run
+returns-then-not-check_run c =
+    let fours = c.args.fours.now in
+    let l = c.loop-k in
+    stopped_on (joined (drop (l.k + 1) fours)) (fours_split fours (l.k + 1))
+    (counted_on (sym (one_more_four fours l.k c.loop-k-test.true)) l.invariant.counted (4 * l.k) (omega (arith, l.invariant.size))
+    l.invariant.in_hand (rw c.if-not-check_run.true at c.check_run.ensures))
+
+pub loop-k-preserved : goal.loop-k-preserved
+loop-k-preserved c =
+    let fours = c.args.fours.now in
+    let l = c.loop-k in
+    let four = c.told-fours l.k c.loop-k-test.true in
+    record {
+      size =
+          ap length (one_more_four fours l.k c.loop-k-test.true)
+          ∙ omega (arith, length-append (joined (take l.k fours)) (get_or fours l.k []), l.invariant.size);
+      in_hand = last_of_fours fours l.k c.loop-k-test.true four;
+      counted =
+          counted_on (sym (one_more_four fours l.k c.loop-k-test.true)) l.invariant.counted (4 * l.k) (omega (arith, l.invariant.size))
+          l.invariant.in_hand (rw c.if-not-check_run.false at c.check_run.ensures);
+    }

@@ -1,15 +1,12 @@
--- The turns go by fours, the record before is in hand, and the pass stands where it has come to (`OnTheWay`).
-use Rattle.std.proofs.Common.{◌≡◌, ◌-◌, ◌%◌, true}
-use Rattle.sound.specs.Checks.{record_before}
-use Rattle.sound.proofs.Turns.{OnTheWay}
+-- The fours so far have passed and are counted, and the last record of them is in hand.
+use Rattle.std.proofs.Common.{◌≡◌, ◌*◌, true, take, length}
+use Rattle.spec.specs.Tables.{zero_request}
+use Rattle.sound.specs.Checks.{joined, last_of, Counted}
 use Rattle.sound.proofs.records.check_fours.Given as goal
 
-abbrev pub invariant-loop-i : goal.invariant-loop-i
-invariant-loop-i l = record {
-  fours : l.i % 4 ≡ 0;
-  behind : l.before ≡ record_before l.t l.i;
-  reached : OnTheWay l.head l.t 0 (true, l.fn.tally) l.n l.i l.passed l.tally;
+abbrev pub invariant-loop-k : goal.invariant-loop-k
+invariant-loop-k l = record {
+  size : length (joined (take l.k l.fours)) ≡ 4 * l.k;
+  in_hand : l.before ≡ last_of zero_request (joined (take l.k l.fours));
+  counted : Counted l.head 0 zero_request (joined (take l.k l.fours)) l.fn.tally.counts true l.tally.counts;
 }
-
-abbrev pub decreases-loop-i : goal.decreases-loop-i
-decreases-loop-i l = l.n - l.i

@@ -10,5 +10,5 @@ returns c =
     let a = c.args in
     let ahead = sym c.is_ahead_by.ensures ∙ c.if-not-is_ahead_by.false in
     let some : 1 ≤ a.w.deadline = omega (arith, ltb-true (a.head.clock + a.i) a.w.deadline ahead) in
-    one_comparison a.before a.w some
+    rw c.from.ensures (one_comparison a.before a.w some)
     ∙ sym (next_order a.head a.i a.before a.w c.if-w-lt1.false c.if-head-w.false c.if-head-w-2.false ahead)

@@ -9,4 +9,4 @@ pub returns : goal.returns
 returns c =
     c.put_at.ensures
     ∙ changed_at_same _ (one_more_unless_full c.args.which) _ _
-    (c.one_more-counted.ensures ∙ ap (one_more_unless_full c.args.which) c.counts_at-k.ensures)
+    (c.one_more-counted.ensures ∙ ap (one_more_unless_full c.args.which) c.counts_at.ensures)

@@ -9,19 +9,13 @@ use Rattle.table.proofs.period.restart.Goals as goal
 pub loop-i-init : goal.loop-i-init
 loop-i-init c = changed_start restarted_counts _
 
-pub get-k-requires : goal.get-k-requires
-get-k-requires c = omega (arith, (length_records c.args.numbers.now).0)
-
-pub put-requires : goal.put-requires
-put-requires c = omega (arith, (length_records c.args.numbers.now).0)
-
 pub loop-i-preserved : goal.loop-i-preserved
 loop-i-preserved c =
     let i = c.loop-i.i in
     let xs = c.loop-i.numbers in
     let e : c.put.new.numbers ≡ changed_at restarted_counts i xs =
     c.put.ensures
-    ∙ changed_at_same _ restarted_counts i xs (c.restarted_counts-fresh.ensures ∙ ap restarted_counts c.get-k.ensures) in
+    ∙ changed_at_same _ restarted_counts i xs (c.restarted_counts.ensures ∙ ap restarted_counts c.get.ensures) in
     ap (changed_from restarted_counts (i + 1)) e ∙ changed_turn restarted_counts i xs ∙ c.loop-i.invariant
 
 pub returns : goal.returns

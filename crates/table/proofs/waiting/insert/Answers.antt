@@ -1,12 +1,20 @@
 -- `table::waiting::insert` meets its contract: it is refused, or r goes in for the record behind the first n.
 -- Assumes nothing.
-use Rattle.std.proofs.Common.{◌∙◌}
+use Rattle.std.proofs.Common.{◌≡◌, ◌∙◌}
+use Rattle.table.specs.Records.{inserted}
 use Rattle.table.proofs.MovedRecords.{not_inserted, inserts}
+use Rattle.table.proofs.waiting.insert.Goals.{then-at-n, else-at-n}
 use Rattle.table.proofs.waiting.insert.Goals as goal
-
-pub returns-then-n-at : goal.returns-then-n-at
-returns-then-n-at c = (c.shift_at-shift.ensures, not_inserted c.args.n c.args.at c.args.r c.args.t.now c.if-n-at.true)
 
 pub returns : goal.returns
 returns c =
-    (c.shift_at-shift.ensures, c.replace.ensures.1 ∙ inserts c.args.n c.args.at c.args.r c.args.t.now c.if-n-at.false)
+    let n = c.args.n in
+    let at = c.args.at in
+    let r = c.args.r in
+    let ys = c.args.t.now in
+    let put_in : c.if-at-n.t ≡ inserted n at r ys =
+    elim c.if-at-n.branch [
+      | then-at-n w ↦ w.t-is ∙ w.replace.ensures.1 ∙ inserts n at r ys w.if-at-n.true
+      | else-at-n w ↦ w.t-is ∙ not_inserted n at r ys w.if-at-n.false
+    ] in
+    (c.saturating_sub.ensures, put_in)
