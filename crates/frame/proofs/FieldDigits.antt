@@ -17,12 +17,21 @@ use Rattle.spec.proofs.Laws.Every.{all_at, every_facts}
 use Rattle.frame.specs.Digits.{values_from, digit_table}
 
 -- ---- the table
+length_values : (character n : ℕ) → length (values_from character n) ≡ n
+unfolding values_from
+length_values character zero = refl
+length_values character (suc n) = omega (arith, length_values (suc character) n)
+
 values_at_lem : (character n k : ℕ) → k < n → get_or (values_from character n) k 0 ≡ digit_of (character + k)
 unfolding values_from
 values_at_lem character zero k h = absurd (omega arith)
 values_at_lem character (suc n) zero h = let p : character + 0 ≡ character = omega arith in rw p
 values_at_lem character (suc n) (suc k) h =
     let p : character + suc k ≡ suc character + k = omega arith in rw p (values_at_lem (suc character) n k (omega arith))
+
+pub table_length : length digit_table ≡ 256
+unfolding digit_table
+table_length = length_values 0 256
 
 pub table_at : (k : ℕ) → k < 256 → get_or digit_table k 0 ≡ digit_of k
 unfolding digit_table

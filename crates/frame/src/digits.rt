@@ -8,13 +8,13 @@ use crate::values::DigitTable;
 // A line whose characters are all digits, with the table of their values.
 #[derive(Clone, Copy)]
 pub(crate) struct Digits<'a> {
-    table: &'a DigitTable,
+    table: DigitTable<'a>,
     line: &'a [u8],
     ghost are_digits: { every is_digit line.now ≡ true },
 }
 
 // Whether each character is a digit.
-fn are_digits(table: &DigitTable, line: &[u8]) -> bool
+fn are_digits(table: DigitTable, line: &[u8]) -> bool
     ensures { result ≡ every is_digit line.now }
 {
     line.iter().all(|character| table.value_of(*character) < 16)
@@ -22,7 +22,7 @@ fn are_digits(table: &DigitTable, line: &[u8]) -> bool
 
 impl<'a> Digits<'a> {
     // A line's digits, or `None` where one of its characters is none.
-    pub(crate) fn new(table: &'a DigitTable, line: &'a [u8]) -> Option<Digits<'a>>
+    pub(crate) fn new(table: DigitTable<'a>, line: &'a [u8]) -> Option<Digits<'a>>
         ensures { MatchOption result (every is_digit line.now ≡ false) (λ digits. digits.line.now ≡ line.now) }
     {
         if are_digits(table, line) {

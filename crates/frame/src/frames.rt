@@ -2,6 +2,7 @@
 ghost use Rattle.std.specs.Prelude.{◌≡◌, length, MatchOption};
 ghost use Rattle.spec.specs.declared.types.Frame.TheVariants.{Bad};
 ghost use Rattle.spec.specs.Lines.Frames.{open_kind, digits_for, frame_in, frame_of};
+ghost use Rattle.frame.specs.Digits.{digit_table};
 ghost use Rattle.frame.specs.Kinds.{named, IsKindOf};
 
 use crate::digits::Digits;
@@ -104,7 +105,7 @@ fn open_frame(digits: Digits) -> Frame
 }
 
 // The frame that a line is, where it is one.
-fn frame_in(table: &DigitTable, line: &[u8]) -> Option<Frame>
+fn frame_in(table: DigitTable, line: &[u8]) -> Option<Frame>
     ensures { MatchOption result (frame_of line.now ≡ Bad) (λ frame. frame_of line.now ≡ frame) }
 {
     let count = line.len();
@@ -122,8 +123,9 @@ fn frame_in(table: &DigitTable, line: &[u8]) -> Option<Frame>
 }
 
 // The frame that a line is, and `Bad` where it is none.
-pub fn frame_of(table: &DigitTable, line: &[u8]) -> Frame
+pub fn frame_of(table: &[u8], line: &[u8]) -> Frame
+    requires { table.now ≡ digit_table }
     ensures { result ≡ frame_of line.now }
 {
-    frame_in(table, line).unwrap_or(Frame::Bad)
+    frame_in(DigitTable::new(table), line).unwrap_or(Frame::Bad)
 }

@@ -26,20 +26,29 @@ const VALUES: [u8; 256] = [
     255,
 ];
 
-// The table, which a caller makes once and lends: `VALUES[i]` itself would copy all 256 entries at each use.
-#[derive(Drop)]
-pub struct DigitTable {
-    values: [u8; 256],
-    ghost is_table: { values ≡ digit_table },
+// The table, for a caller to make once and lend: `VALUES[i]` itself would copy all 256 entries at each use.
+pub fn digit_table() -> [u8; 256]
+    ensures { result ≡ digit_table }
+{
+    VALUES
 }
 
-impl DigitTable {
-    pub fn new() -> DigitTable {
-        DigitTable { values: VALUES }
+// The table as it is lent.
+#[derive(Clone, Copy)]
+pub(crate) struct DigitTable<'a> {
+    values: &'a [u8],
+    ghost is_table: { values.now ≡ digit_table },
+}
+
+impl<'a> DigitTable<'a> {
+    pub(crate) fn new(values: &'a [u8]) -> DigitTable<'a>
+        requires { values.now ≡ digit_table }
+    {
+        DigitTable { values }
     }
 
     // A character's value.
-    pub(crate) fn value_of(&self, character: u8) -> u8
+    pub(crate) fn value_of(self, character: u8) -> u8
         ensures { result ≡ digit_of character }
     {
         self.values[usize::from(character)]

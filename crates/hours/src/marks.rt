@@ -89,7 +89,7 @@ fn count_word(counts: &mut [u8], from: usize, word: u64, n: usize)
 }
 
 // How many of the week's first hours are open, for each number of hours.
-pub(crate) fn count_open_hours(setup: Setup) -> [u8; HOURS as usize + 1]
+pub fn count_open_hours(setup: Setup) -> [u8; HOURS as usize + 1]
     ensures { Counted setup result }
 {
     let mut counts = [0; HOURS as usize + 1];

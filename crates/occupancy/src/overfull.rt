@@ -5,7 +5,7 @@ ghost use Rattle.spec.specs.Tables.{most_clients, most_records, clock_end, deadl
 ghost use Rattle.spec.specs.Chart.{room_to, has_smaller_ratio};
 ghost use Rattle.hours.specs.Week.{are_all_open};
 ghost use Rattle.table.specs.Widths.{largest16, largest32};
-ghost use Rattle.occupancy.specs.Scans.{Sorted, place_by, overfull_from, if_any, latest_of, counts_with, better_candidate, smallest_ratio_place};
+ghost use Rattle.occupancy.specs.Scans.{Sorted, place_by, overfull_from, if_any, candidate_count, latest_of, counts_with, better_candidate, smallest_ratio_place};
 
 use crate::open_search;
 use crate::scan::{first_full, if_any};
@@ -95,6 +95,14 @@ pub fn first_overfull(head: Head, behind: &[Request], before: usize, deadline: u
         return overfull_in_all(head, behind, before + 1);
     }
     overfull_in_open(head, behind, before + 1)
+}
+
+// How many of n waiting records are candidates, where so many are due by the first overfull deadline: those, and none where no deadline is
+// overfull.
+pub fn candidates(n: usize, due: usize, found: u64) -> usize
+    ensures { result ≡ candidate_count n due found }
+{
+    if found == 0 { 0 } else { due.min(n) }
 }
 
 // A place of a client's request, 1 added, goes over what stood there of the client.

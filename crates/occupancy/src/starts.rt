@@ -1,5 +1,5 @@
 // The chart's start slots, from the last record to the first, in one pass from the waiting table.
-ghost use Rattle.std.specs.Prelude.{◌≡◌, min, length};
+ghost use Rattle.std.specs.Prelude.{◌≡◌, ◌≤◌, ◌++◌, min, length, drop};
 ghost use Rattle.spec.specs.Tables.{deadlines_of};
 ghost use Rattle.hours.specs.Week.{latest_open};
 ghost use Rattle.occupancy.specs.Charted.{start_slots};
@@ -68,11 +68,11 @@ impl Reached {
     }
 }
 
-// The start slots of these records, into as many entries of the output. By index, since of entries written through `iter_mut` no proof knows
-// what they hold.
+// The start slots of these records, into the first entries of the output; those beyond stay as they are. By index, since of entries written
+// through `iter_mut` no proof knows what they hold.
 pub fn write_starts(setup: Setup, waiting: &[Request], out: &mut [u64])
-    requires { length waiting.now ≡ length out.old }
-    ensures { out.new ≡ start_slots setup (deadlines_of waiting.now) }
+    requires { length waiting.now ≤ length out.old }
+    ensures { out.new ≡ start_slots setup (deadlines_of waiting.now) ++ drop (length waiting.now) out.old }
 {
     let mut reached = Reached::at_end(setup);
     for i in (0..waiting.len()).rev() {

@@ -1,5 +1,7 @@
 -- What a submit has to do, before anything is changed: document 01, "Calls", "Refusals" and "Chart and victim". Assumes nothing.
 use Rattle.std.specs.Prelude.{ℕ, Result, Ok, Err, cond, eqb}
+use Rattle.spec.specs.declared.types.Reason.{Reason}
+use Rattle.spec.specs.Reasons.{number_of}
 use Rattle.spec.specs.Tables.{State, waiting}
 use Rattle.spec.specs.Setup.{first_match}
 use Rattle.spec.specs.Order.{place_of}
@@ -20,3 +22,8 @@ unfoldable pub submit_decision : ℕ → ℕ → State → Result Decision ℕ
 submit_decision client deadline s =
     cond (eqb (first_match (submit_refusals client deadline s)) 0) (Ok (submit_choice client deadline s))
     (Err (first_match (submit_refusals client deadline s)))
+
+-- the same as code has it, where a reason stands for its number
+abbrev pub decided_by : Result Decision Reason → Result Decision ℕ
+decided_by (Ok decision) = Ok decision
+decided_by (Err why) = Err (number_of why)

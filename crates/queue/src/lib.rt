@@ -4,9 +4,9 @@
 
 mod submission;
 
-ghost use Rattle.std.specs.Prelude.{◌≡◌};
+ghost use Rattle.std.specs.Prelude.{◌≡◌, length, replicate};
 ghost use Rattle.spec.specs.declared.types.Head.{Head};
-ghost use Rattle.spec.specs.Tables.{state_of};
+ghost use Rattle.spec.specs.Tables.{zero_request, state_of};
 ghost use Rattle.spec.specs.Calls.Chart.{chart_output};
 ghost use Rattle.spec.specs.Calls.{opening, tick, report, chart};
 ghost use Rattle.queue.specs.Gives.{Gives, ComesTo};
@@ -33,9 +33,18 @@ fn try_open(waiting: &mut [Request], clients: &mut [u32], setup: Setup) -> Resul
     ensures { (head : Head) → ComesTo (opening setup) (state_of head waiting.old clients.old) result waiting.new clients.new }
 {
     decide::open::check(waiting, clients, setup)?;
+    clear(waiting, clients);
+    Ok(decide::open::reply(setup))
+}
+
+// ".. and every record to zero.": both tables.
+#[tactic(auto, using(crate::proofs::Laws::Open::zeroed))]
+fn clear(waiting: &mut [Request], clients: &mut [u32])
+    ensures records { waiting.new ≡ replicate (length waiting.old) zero_request }
+    ensures numbers { clients.new ≡ replicate (length clients.old) 0 }
+{
     waiting.fill(Request::default());
     clients.fill(0);
-    Ok(decide::open::reply(setup))
 }
 
 // Tick: the first waiting record is served, or none waits, or the slot is closed; then the clock rises by 1, and a period may begin.
@@ -114,6 +123,6 @@ fn try_chart(
 {
     decide::chart::check(head, waiting, clients, output)?;
     let n = head.waiting as usize;
-    starts::write_starts(head.setup, &waiting[..n], &mut output[..n]);
+    starts::write_starts(head.setup, &waiting[..n], output);
     Ok(decide::chart::reply(head))
 }

@@ -6,7 +6,7 @@ ghost use Rattle.spec.specs.Calls.Submit.{submit_refusals};
 ghost use Rattle.spec.specs.Calls.{submit};
 ghost use Rattle.queue.specs.Gives.{Gives, ComesTo};
 ghost use Rattle.queue.specs.Placement.{without_victim, table_after, drop_by, insertion_by};
-ghost use Rattle.queue.specs.Decision.{submit_choice};
+ghost use Rattle.queue.specs.Decision.{submit_choice, submit_decision, decided_by};
 
 use decide::reply::unless_refused;
 use decide::submit::{Decision, Exchange, Insertion, exchange_of};
@@ -36,13 +36,29 @@ fn accepted_decision(
         return Decision::Keep { place };
     };
     let due = overfull::due_by(all, found);
+    let last = overfull::candidates(all.len(), due, found);
     let mut latest = [0u16; MOST_CLIENTS];
     overfull::note_last_of_each(before, &mut latest, 1);
     overfull::note(&mut latest, client, place + 1);
-    overfull::note_last_of_each(&behind[..due - place], &mut latest, place + 2);
+    overfull::note_last_of_each(&behind[..last - place], &mut latest, place + 2);
     let theirs = &latest[..head.setup.clients as usize];
     let victim = overfull::smallest_ratio_place(theirs, clients, client);
     Decision::Drop { place, victim }
+}
+
+// What a submit has to do, or why it is refused.
+fn submit_decision(
+    waiting: &[Request],
+    clients: &[u32],
+    head: Head,
+    client: u64,
+    deadline: u64,
+) -> Result<Decision, Reason>
+    ensures { decided_by result ≡ submit_decision client deadline
+        (state_of head waiting.now clients.now) }
+{
+    decide::submit::check(head, waiting, clients, client, deadline)?;
+    Ok(accepted_decision(waiting, clients, head, client, deadline))
 }
 
 // A drop: `new` goes in at `place`, and the record that then stands at `victim` goes out, as one change: each is taken where it stands
@@ -114,8 +130,7 @@ fn try_submit(
 ) -> Result<Reply, Reason>
     ensures { ComesTo (submit client deadline) (state_of head waiting.old clients.old) result waiting.new clients.new }
 {
-    decide::submit::check(head, waiting, clients, client, deadline)?;
-    let decision = accepted_decision(waiting, clients, head, client, deadline);
+    let decision = submit_decision(waiting, clients, head, client, deadline)?;
     let new = decide::submit::new_request(head, client, deadline);
     let insertion = put_in(waiting, decision, head, new);
     decide::submit::count(clients, client, insertion.gone);

@@ -12,9 +12,8 @@ ghost use Rattle.session.specs.Standing.{reserved_of, fits_in};
 ghost use Rattle.session.specs.Lent.{tables_of, SameTables};
 ghost use Rattle.session.specs.Feeding.{can_with, Steps, FedBy};
 
-use frame::answers;
 use frame::lines::Reader;
-use frame::values::DigitTable;
+use frame::{answers, values};
 use queue::Reply;
 use spec::bounds::{MOST_CLIENTS, MOST_RECORDS};
 use spec::types::{Frame, Head, Request};
@@ -133,7 +132,7 @@ pub fn feed(
     if !lent.fits(session) {
         return Fed { full: true, ..fed };
     }
-    let table = DigitTable::new();
+    let table = values::digit_table();
     let mut reader = Reader::new(input, 0);
     while lent.has_room(fed.put) {
         let behind = reader.next();

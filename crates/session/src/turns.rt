@@ -4,11 +4,11 @@ ghost use Rattle.spec.specs.declared.types.Answer.TheVariants.{Refused};
 ghost use Rattle.spec.specs.Calls.Readings.{reading};
 ghost use Rattle.session.specs.Standing.{up_to, records_for, numbers_for, records_after};
 ghost use Rattle.session.specs.Parts.{session_start};
+ghost use Rattle.frame.specs.Digits.{digit_table};
 ghost use Rattle.frame.specs.Lines.{NoFeed};
 ghost use Rattle.session.specs.Feeding.{frame_behind, Stops, answered, owed_in};
 
 use crate::types::{Fed, Session};
-use frame::values::DigitTable;
 use frame::{answers, frames};
 use queue::Reply;
 use spec::bounds::{MOST_CLIENTS, MOST_RECORDS};
@@ -23,7 +23,8 @@ pub fn start() -> Session
 }
 
 // What a whole line is. One that was read past so far has more digits than any frame.
-pub(crate) fn whole(table: &DigitTable, line: &[u8], skip: bool) -> Frame
+pub(crate) fn whole(table: &[u8], line: &[u8], skip: bool) -> Frame
+    requires { table.now ≡ digit_table }
     ensures { result ≡ frame_behind skip line.now }
 {
     if skip {

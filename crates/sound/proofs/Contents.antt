@@ -1,12 +1,12 @@
 -- What the passes ask of tables whose lengths and head are not refused, and what they come to. Assumes nothing.
-use Prim.Native.Nat.{ℕ, ◌-◌, ◌*◌, ◌≤◌}
+use Prim.Native.Nat.{ℕ, ◌*◌, ◌≤◌}
 use mathlib.Core.Path.{◌≡◌, refl, sym, ap, ◌∙◌}
 use mathlib.Core.Logic.{◌≢◌}
 use mathlib.Core.Bool.{Bool, true, false, cond, ◌&&◌}
 use mathlib.Core.List.{List}
 use native.Mathlib.Omega.{arith}
-use lib.ListN.{length, take, drop, replicate, length-take, length-drop}
-use lib.Seq.{take_all, length-take-le}
+use lib.ListN.{length, take, drop, replicate, length-take}
+use lib.Seq.{length-take-le}
 use Rattle.spec.specs.declared.types.Head.{Head}
 use Rattle.spec.specs.declared.types.Request.{Request}
 use Rattle.spec.specs.declared.types.Reason.{Reason}
@@ -91,16 +91,13 @@ module _ (head : Head) (ws : List Request) (xs : List ℕ) where
 
     pub contents_told : (tally : List ℕ) (next zero balanced : Bool)
         → Passed head (take head.waiting ws) (replicate tally_size 0) next tally
-        → zero ≡ every is_zero_request (take (length ws - head.waiting) (drop head.waiting ws))
+        → zero ≡ every is_zero_request (drop head.waiting ws)
         → balanced ≡ every_from (λ c k. does_balance k (tallied_of tally c)) 0 (take head.setup.clients (records_of xs))
         → cond (next && (zero && balanced)) 0 5 ≡ contents_refusal s
     unfolding contents_refusal
     contents_told tally next zero balanced p z b =
         ap (λ (x : Bool). cond x 0 5)
-        (found_contents s (head_passed s asked).0 (head_passed s asked).1 tally next zero balanced p
-        (z
-        ∙ ap (every is_zero_request)
-        (take_all (length ws - head.waiting) (drop head.waiting ws) (omega (arith, length-drop head.waiting ws)))) b)
+        (found_contents s (head_passed s asked).0 (head_passed s asked).1 tally next zero balanced p z b)
 
     -- contents that call for something are refused by it
     pub refused_by_contents : contents_refusal s ≢ 0 → contents_refusal s ≡ tables_refusal s

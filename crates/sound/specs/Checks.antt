@@ -1,6 +1,6 @@
 -- The tests of one pass over the waiting records, of one over the clients, and of a second one over the waiting records where hours are
 -- closed. Assumes nothing.
-use Rattle.std.specs.Prelude.{ℕ, zero, suc, ◌+◌, ◌*◌, ◌≤◌, ◌<◌, ◌≡◌, Bool, true, cond, ◌&&◌, List, [], ◌∷◌, ◌++◌}
+use Rattle.std.specs.Prelude.{◌%◌, ℕ, zero, suc, ◌+◌, ◌*◌, ◌≤◌, ◌<◌, ◌≡◌, Bool, true, cond, ◌&&◌, List, [], ◌∷◌, ◌++◌}
 use Rattle.std.specs.Prelude.{leb, ltb, eqb, get_or, set}
 use Rattle.std.specs.Int.Bits.{bit_or}
 use Rattle.spec.specs.declared.types.Head.{Head}
@@ -105,6 +105,10 @@ do_four_balance tally numbers c =
 -- a count per client with these requests counted
 pub record Tallied (ws : List Request) (tally₀ tally : List ℕ) : Type 0 where
   pub at : (c : ℕ) → c < most_clients → tallied_of tally c ≡ tallied_of tally₀ c + waiting_of c ws
+
+-- a request w with the index i, counted for its client if it passed
+abbrev pub counted_if : Bool → ℕ → Request → List ℕ → List ℕ
+counted_if passed i w tally = cond passed (one_more (tally_place (i % parts) w.client) tally) tally
 
 -- what turns over these records find, the first with the index i, behind the one before it: whether each may stand where it does, and then
 -- the count per client with them

@@ -1,11 +1,11 @@
 // The refusal that the tables call for: first by the lengths and the head, then by the waiting records, those behind them, and the
 // clients' counts, each record and each client looked at once, and each waiting record once more where hours are closed.
-ghost use Rattle.std.specs.Prelude.{◌≡◌, cond, length};
-ghost use Rattle.spec.specs.Every.{is_within};
+ghost use Rattle.std.specs.Prelude.{◌≡◌, ◌≤◌, cond, length, drop};
+ghost use Rattle.spec.specs.Every.{every, is_within};
 ghost use Rattle.spec.specs.Tables.{state_of};
 ghost use Rattle.spec.specs.Setup.{first_match, setup_refusals};
 ghost use Rattle.spec.specs.Reasons.{refused_by};
-ghost use Rattle.spec.specs.Sound.{is_head_within};
+ghost use Rattle.spec.specs.Sound.{is_zero_request, is_head_within};
 ghost use Rattle.sound.specs.Checks.{has_shape, head_refusal, contents_refusal, tables_refusal};
 
 use crate::tally::Tally;
@@ -86,6 +86,14 @@ fn sound_if(holds: bool) -> Result<(), Reason>
     Err(Reason::Unsound)
 }
 
+// Whether the records behind the first n are zero.
+fn are_zero_behind(waiting: &[Request], n: usize) -> bool
+    requires { n ≤ length waiting.now }
+    ensures { result ≡ every is_zero_request (drop n waiting.now) }
+{
+    records::are_zero(&waiting[n..])
+}
+
 // Whether the contents of the tables are sound where all slots count, if lengths and head are not refused: the waiting records are passed
 // over first, then those behind them, then the clients.
 fn check_contents(waiting: &[Request], numbers: &[u32], head: Head) -> Result<(), Reason>
@@ -95,7 +103,7 @@ fn check_contents(waiting: &[Request], numbers: &[u32], head: Head) -> Result<()
     let mut tally = Tally::new();
     let n = head.waiting as usize;
     sound_if(records::are_next(&waiting[..n], &mut tally, head))?;
-    sound_if(records::are_zero(&waiting[n..]))?;
+    sound_if(are_zero_behind(waiting, n))?;
     sound_if(tally.are_balanced(numbers, head.setup.clients as usize))
 }
 

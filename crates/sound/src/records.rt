@@ -3,7 +3,7 @@ ghost use Rattle.std.specs.Prelude.{◌+◌, ◌*◌, ◌≤◌, ◌≡◌, ◌&
 ghost use Rattle.spec.specs.Every.{every};
 ghost use Rattle.spec.specs.Tables.{most_records, clock_end, zero_request};
 ghost use Rattle.spec.specs.Sound.{is_zero_request};
-ghost use Rattle.sound.specs.Checks.{is_next, is_near, Countable, Bounded, Counted, joined, last_of, bits_of, Passed};
+ghost use Rattle.sound.specs.Checks.{is_next, is_near, Countable, Bounded, Counted, counted_if, joined, last_of, bits_of, Passed};
 
 use crate::tally::Tally;
 use occupancy::overfull;
@@ -50,7 +50,8 @@ pub(crate) fn check_record(
     w: Request,
 ) -> bool
     requires { Bounded head i × Countable 1 tally.old.counts }
-    ensures { Counted head i before (w ∷ []) tally.old.counts result tally.new.counts }
+    ensures turn { Counted head i before (w ∷ []) tally.old.counts result tally.new.counts }
+    ensures counted { tally.new.counts ≡ counted_if result i w tally.old.counts }
 {
     let passed = is_next(head, i as u64, before, w);
     if passed {

@@ -33,6 +33,17 @@ pub struct Setup {
     pub marks160: u8,
 }
 
+// The setup before the first open, as a constant: `Setup::default()` is none.
+pub const ZERO_SETUP: Setup = Setup {
+    clients: 0,
+    period: 0,
+    hour: 0,
+    marks0: 0,
+    marks64: 0,
+    marks128: 0,
+    marks160: 0,
+};
+
 // "The head, passed and handed back: clients, period, clock, last request number, waiting count.", and what document 02 adds to a setup.
 #[derive(Clone, Copy, PartialEq, Eq, Default)]
 pub struct Head {

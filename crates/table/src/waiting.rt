@@ -106,17 +106,23 @@ pub fn replace(t: &mut [Request], out: usize, at: usize, r: Request) -> Request
     gone
 }
 
+// Of n waiting records, how many stand behind one that is put in at `at`.
+pub fn shift_at(n: usize, at: usize) -> usize
+    ensures { result ≡ shift_at n at }
+{
+    n.saturating_sub(at)
+}
+
 // Of n waiting records at the table's front, r is put in at `at`; those from there on move by one, over the record behind them. Nothing
 // changes where `at` is further back than that record, or no record is behind them. The whole table is lent, since the record behind them
-// changes too. Handed back is how many of the n stood from `at` on,
-// also where nothing changes.
+// changes too. Handed back is how many of the n stood from `at` on, also where nothing changes.
 pub fn insert(t: &mut [Request], n: usize, at: usize, r: Request) -> usize
     ensures { (result ≡ shift_at n at) × (t.new ≡ inserted n at r t.old) }
 {
     if at <= n {
         replace(t, n, at, r);
     }
-    n.saturating_sub(at)
+    shift_at(n, at)
 }
 
 // Of n waiting records at the table's front, the one at `at` is taken out and handed back; those behind it move by one, and a zero

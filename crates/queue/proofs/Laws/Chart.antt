@@ -1,5 +1,5 @@
 -- What the parts of a chart call come to together. Assumes nothing.
-use Rattle.std.proofs.Common.{◌≡◌, ◌≢◌, ℕ, ◌≤◌, Ok, List, ◌++◌, length, drop, refl, ◌∙◌}
+use Rattle.std.proofs.Common.{◌≡◌, ◌≢◌, ℕ, ◌≤◌, Ok, List, ◌++◌, length, drop, refl, sym, ◌∙◌}
 use Rattle.spec.specs.Tables.{State, waiting, deadlines_of}
 use Rattle.spec.specs.Setup.{first_match}
 use Rattle.spec.specs.Chart.{starts_of}
@@ -11,7 +11,7 @@ use Rattle.occupancy.specs.Charted.{start_slots}
 use Rattle.occupancy.proofs.StartsAndSegments.{starts_column}
 use Rattle.decide.specs.Chart.{chart_reply}
 use Rattle.queue.specs.Gives.{ComesTo}
-use Rattle.queue.proofs.Laws.Replies.{answers, accepted_gives}
+use Rattle.queue.proofs.Laws.Replies.{read_gives}
 
 module _ (output : List ℕ) (s : State) where
   -- a refused chart leaves the output as it was
@@ -46,4 +46,4 @@ module _ (output : List ℕ) (s : State) where
 
     pub chart_gives : ComesTo (chart output) s (Ok (chart_reply s.head)) s.waiting_table s.client_numbers
     unfolding chart_accepted
-    chart_gives = accepted_gives (chart output) s z refl (answers refl refl refl)
+    chart_gives = read_gives (chart output) s _ (sym z) (λ _. refl) refl

@@ -1,5 +1,5 @@
 -- What a call's refusals are told is what its whole list says, of a state whose tables call for the number that was found. Assumes nothing.
-use Rattle.std.proofs.Common.{◌≡◌, refl, ℕ, Bool, true, false, cond, not, eqb, List, [], ◌∷◌, length}
+use Rattle.std.proofs.Common.{◌≡◌, ℕ, Bool, true, false, cond, not, eqb, List, [], ◌∷◌, length}
 use lib.ListN.{length-replicate}
 use Rattle.spec.specs.declared.types.Setup.{Setup}
 use Rattle.spec.specs.Tables.{zero_request, State}
@@ -11,15 +11,6 @@ use Rattle.spec.specs.Calls.Tick.{tick_refusals}
 use Rattle.spec.specs.Calls.Report.{report_refusals}
 use Rattle.spec.specs.Calls.Chart.{chart_refusals}
 use Rattle.sound.specs.Checks.{tables_refusal}
-use Rattle.slots.proofs.Laws.Tests.{Same, same_yes, same_no, same}
-use Rattle.spec.specs.declared.types.Answer.{Answer}
-use Rattle.spec.specs.Tables.{state_of}
-use Rattle.spec.specs.Calls.Outcomes.{Outcome, saying, refusing, unless_refused}
-use Rattle.spec.specs.Calls.{Call, outcome_of, refusals_of, accepted_of}
-use Rattle.decide.specs.Reply.{refused_with}
-use Rattle.decide.specs.Matches.{reply_unless}
-use Rattle.queue.specs.Gives.{Reply, said, Gives}
-use Rattle.queue.proofs.Laws.Replies.{ReplyMatches, answers}
 use Rattle.decide.specs.Matches.{of_tables, open_match, submit_match, tick_match, report_match, chart_match}
 
 -- submit's refusals behind 4 and 5
@@ -65,40 +56,3 @@ module _ (s : State) {tables : ℕ} (found : tables ≡ tables_refusal s) where
   pub chart_told : (output : List ℕ) → chart_match tables s.head (length output) ≡ first_match (chart_refusals output s)
   unfolding chart_match chart_refusals
   chart_told output = rw (length-replicate {A = ℕ} (length output) 0) (tables_told (refusal12 output s ∷ []) s found)
-
--- ---- what a call comes to whose first match was found as a number
--- refused or accepted: what it hands back, and the numbers that it leaves
-module _ (rs : List Refusal) (s : State) (o : Outcome) {t : ℕ} (found : t ≡ first_match rs) where
-  pub unless_answers : {r accepted : Reply} {xs ys : List ℕ}
-      → (t ≡ 0 → ReplyMatches o accepted ys)
-      → r ≡ reply_unless t s.head accepted
-      → xs ≡ cond (eqb t 0) ys s.client_numbers
-      → ReplyMatches (unless_refused rs s o) r xs
-  unless_answers {accepted = accepted} {ys = ys} goes e h = rw (← found, e, h) (go (eqb t 0) (same t 0))
-    where
-      go : (b : Bool) → Same t 0 b
-          → ReplyMatches (cond b o (refusing t s)) (cond b accepted (refused_with s.head t))
-          (cond b ys s.client_numbers)
-      go true (same_yes z) = goes z
-      go false (same_no n) = answers refl refl refl
-
--- A call that changes nothing and answers a: it hands back that answer or the refusal, and the head
-pub read_gives : (c : Call) (s : State) (a : Answer) {t : ℕ} {r : Reply} → t ≡ first_match (refusals_of c s)
-    → (t ≡ 0 → accepted_of c s ≡ saying a s)
-    → r ≡ reply_unless t s.head (record { head = s.head; answer = a })
-    → Gives c s r (state_of r.head s.waiting_table s.client_numbers)
-unfolding outcome_of
-read_gives c s a {t} {r} found goes e =
-    let q = go (eqb t 0) (same t 0) in
-    record {
-      answers_same = rw (← found, e) q.0;
-      head_kept = refl;
-      after_same = rw (← found, e) q.1;
-    }
-  where
-    go : (b : Bool) → Same t 0 b
-        → let x = cond b (record { head = s.head; answer = a }) (refused_with s.head t) in
-        let o = cond b (accepted_of c s) (refusing t s) in
-        (said x ≡ o.answers) × (state_of x.head s.waiting_table s.client_numbers ≡ o.after)
-    go true (same_yes z) = rw (goes z) (refl, refl)
-    go false (same_no n) = (refl, refl)

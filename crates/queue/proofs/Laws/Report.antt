@@ -1,5 +1,5 @@
 -- What the parts of a report come to together. Assumes nothing.
-use Rattle.std.proofs.Common.{◌≡◌, ℕ, Ok, get_or, refl, arith}
+use Rattle.std.proofs.Common.{◌≡◌, ℕ, Ok, get_or, refl, sym, arith}
 use Rattle.spec.specs.Tables.{zero_counts, State, waiting, client_table}
 use Rattle.spec.specs.Setup.{first_match}
 use Rattle.spec.specs.Sound.{waiting_of}
@@ -9,7 +9,7 @@ use Rattle.spec.proofs.Laws.Accepted.{report_ready}
 use Rattle.table.specs.Clients.{waiting_count}
 use Rattle.decide.specs.Report.{report_reply}
 use Rattle.queue.specs.Gives.{ComesTo}
-use Rattle.queue.proofs.Laws.Replies.{answers, accepted_gives}
+use Rattle.queue.proofs.Laws.Replies.{read_gives}
 
 -- the counts of a client balance, so that what is neither served nor dropped waits
 balance : (client : ℕ) (s : State) → first_match (report_refusals client s) ≡ 0
@@ -22,4 +22,4 @@ balance client s z =
 pub reported : (client : ℕ) (s : State) → first_match (report_refusals client s) ≡ 0
     → ComesTo (report client) s (Ok (report_reply s.head client (get_or (client_table s) client zero_counts))) s.waiting_table s.client_numbers
 unfolding report_accepted
-reported client s z = accepted_gives (report client) s z refl (answers (rw (balance client s z)) refl refl)
+reported client s z = read_gives (report client) s _ (sym z) (λ _. rw (balance client s z)) refl

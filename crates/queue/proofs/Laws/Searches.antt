@@ -2,6 +2,7 @@
 use Rattle.std.proofs.Common.{◌≡◌, ℕ, zero, suc, ◌+◌, ◌-◌, ◌%◌, ◌≤◌, ◌<◌, Bool, true, false, cond, eqb, leb, Option, None}
 use Rattle.std.proofs.Common.{Some, List, [], ◌∷◌, length, get_or, take, drop, set, replicate, refl, sym, ap, ap₂, subst, ◌∙◌, arith}
 use Rattle.std.proofs.lemmas.List.{get_or-drop, take_all, take-map, drop-map, drop-take, length-take-le}
+use borrow.Author.Tests.{ne_eqb}
 use lib.ListN.{length-take, length-drop, length-map}
 use lib.Seq.{take-take, get_or-take}
 use Rattle.slots.proofs.Laws.Tests.{Same, same_yes, same_no, same}
@@ -15,7 +16,7 @@ use Rattle.spec.specs.Chart.{due_by}
 use Rattle.spec.specs.Calls.Submit.{submit_refusals}
 use Rattle.spec.proofs.Laws.Accepted.{SubmitReady, submit_ready, waiting_length}
 use Rattle.table.specs.Widths.{largest32}
-use Rattle.occupancy.specs.Scans.{Sorted, place_by, overfull_from, if_any, latest_of, put_at, best_of, smallest_ratio_place}
+use Rattle.occupancy.specs.Scans.{Sorted, place_by, overfull_from, if_any, candidate_count, latest_of, put_at, best_of, smallest_ratio_place}
 use Rattle.occupancy.proofs.Columns.{due_column}
 use Rattle.occupancy.proofs.LastOfEach.{latest_parts}
 use Rattle.occupancy.proofs.Searches.{place_counts}
@@ -112,6 +113,14 @@ module _ (client deadline : ℕ) (s : State) (accepted : first_match (submit_ref
     searched_state =
         searched
         ∙ ap (λ (l : List ℕ). if_any (overfull_from s.head place (deadline ∷ l))) (sym (drop-map (λ (w : Request). w.deadline) place ws))
+
+    -- all that are due by an overfull deadline are candidates
+    pub all_due : (D end last : ℕ) → found ≡ Some D → end ≡ place_by ds (length ws) D → last ≡ candidate_count (length ws) end D
+        → last ≡ place_by ds (length ws) D
+    all_due D end last e p q =
+        let some = found_some (overfull_from s.head place (deadline ∷ drop place ds)) D (sym e ∙ searched_state) in
+        let within_all = (within D end p).0 in
+        q ∙ rw (ne_eqb D 0 (λ z. omega (arith, z, some.0, some.1))) (omega (arith, within_all, p))
 
     -- the last that is due by an overfull deadline does not stand before the new one
     pub behind : (D end : ℕ) → found ≡ Some D → end ≡ place_by ds (length ws) D → place ≤ end

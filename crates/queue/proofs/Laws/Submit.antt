@@ -23,11 +23,11 @@ use Rattle.decide.specs.declared.submit.Decision.{Decision}
 use Rattle.decide.specs.declared.submit.Insertion.{Insertion}
 use Rattle.decide.specs.Submit.{next_number, numbered_request, submit_numbers, head_after_submit, kept_with, dropped_with, submit_reply}
 use Rattle.queue.specs.Placement.{table_after, insertion_by}
-use Rattle.queue.specs.Decision.{submit_choice}
+use Rattle.queue.specs.Decision.{submit_choice, submit_decision, decided_by}
 use Rattle.queue.specs.Gives.{ComesTo}
 use Rattle.queue.proofs.Laws.Replies.{whole, bounded, next_fits, ReplyMatches, answers, accepted_gives}
-use Rattle.queue.proofs.Laws.Decision.{Chosen, keeps, drops, submit_chosen}
-use Rattle.queue.proofs.Laws.Placement.{InsertionFor, chosen_table, submit_inserted}
+use Rattle.queue.proofs.Laws.Decision.{choice_decided, Chosen, keeps, drops, submit_chosen}
+use Rattle.queue.proofs.Laws.Placement.{InsertionFor, submit_inserted, table_by, submit_table}
 
 -- ---- a submit
 -- the head with the next number
@@ -117,13 +117,13 @@ module _ (client deadline : ℕ) (s : State) (z : first_match (submit_refusals c
   made = rw (given client deadline s ready) refl
 
   pub submitted : {decision : Decision} {new : Request} {insertion : Insertion} {ws : List Request} {xs : List ℕ}
-      → decision ≡ submit_choice client deadline s → new ≡ numbered_request s.head client deadline
+      → decided_by (Ok decision) ≡ submit_decision client deadline s → new ≡ numbered_request s.head client deadline
       → insertion ≡ insertion_by s.head new decision s.waiting_table → ws ≡ table_after s.head new decision s.waiting_table
       → xs ≡ submit_numbers client insertion.gone s.client_numbers
       → ComesTo (submit client deadline) s (Ok (submit_reply s.head insertion)) ws xs
   submitted {decision} {new} {insertion} {ws} {xs} decides news inserted moved counted =
       accepted_gives (submit client deadline) s z
-      (moved ∙ ap₂ (λ r d. table_after s.head r d s.waiting_table) (news ∙ made) decides ∙ rw none at (chosen_table client deadline s z))
+      (moved ∙ ap (table_by new s) decides ∙ rw none at (submit_table client deadline s new (λ _. news ∙ made)))
       (rw (counted, ← none) (submit_answers insertion
       (subst (InsertionFor client deadline s (submit_choice client deadline s)) (sym same) (submit_inserted client deadline s z))))
     where
@@ -131,4 +131,4 @@ module _ (client deadline : ℕ) (s : State) (z : first_match (submit_refusals c
       none = none_accepted (submit client deadline) s z
 
       same : insertion ≡ insertion_by s.head (new_request client deadline s) (submit_choice client deadline s) s.waiting_table
-      same = inserted ∙ ap₂ (λ r d. insertion_by s.head r d s.waiting_table) (news ∙ made) decides
+      same = inserted ∙ ap₂ (λ r d. insertion_by s.head r d s.waiting_table) (news ∙ made) (choice_decided client deadline s decides)

@@ -19,7 +19,7 @@ use Rattle.spec.proofs.Laws.Every.{length_map_from, get_d_map_from}
 use Rattle.spec.proofs.Laws.Clients.{counts_path}
 use Rattle.spec.proofs.Laws.Sound.{Balanced}
 use Rattle.spec.proofs.Laws.Accepted.{Ready, TickReady, tick_ready, waiting_length, table_held, Decided, accepts, refuses}
-use Rattle.spec.proofs.Calls.Refused.{outcome_decided}
+use Rattle.spec.proofs.Calls.Refused.{outcome_decided, none_accepted}
 use Rattle.spec.proofs.Calls.Keeps.{Tidy, tidy, AddsOne, tidy_remove}
 use Rattle.table.specs.Clients.{changed_at, one_more_unless_full, restarted_counts, restarted_numbers}
 use Rattle.table.specs.declared.clients.Count.TheVariants as count
@@ -201,17 +201,6 @@ module _ (s : State) (ready : Ready s) where
   gone_after true = first_gone (waiting s) refl
   gone_after false = refl
 
--- ---- a tick that is not refused
-module _ (s : State) (z : first_match (tick_refusals s) ≡ 0) {serves : Bool} (opens : serves ≡ is_open s.head.setup s.head.clock) where
-  pub ticked : {gone : Option Request} {ws : List Request} {xs : List ℕ} → gone ≡ served_from serves s.head s.waiting_table
-      → ws ≡ table_served serves s.head s.waiting_table → xs ≡ tick_numbers s.head gone s.client_numbers
-      → ComesTo tick s (Ok (tick_reply serves s.head gone)) ws xs
-  unfolding tick_accepted
-  ticked {gone} {ws} {xs} taken moved counted =
-      let who : gone ≡ cond serves (first_of (waiting s)) None = taken ∙ gone_after s (tick_ready s z).ready serves in
-      accepted_gives tick s z (rw (moved, ← opens) (table_after s (tick_ready s z).ready serves))
-      (rw (counted, who, ← opens) (tick_answers s (tick_ready s z) serves))
-
 -- ---- every tick, refused or not: the waiting table is the definition's
 pub tick_table : (s : State) {serves : Bool} → serves ≡ is_open s.head.setup s.head.clock
     → cond (eqb (first_match (tick_refusals s)) 0) (table_served serves s.head s.waiting_table) s.waiting_table
@@ -224,3 +213,14 @@ tick_table s {serves} opens = go (outcome_decided tick s)
         ≡ o.after.waiting_table
     go (accepts e) = rw (eq-eqb (first_match (tick_refusals s)) 0 e, ← opens) (table_after s (tick_ready s e).ready serves)
     go (refuses n) = rw (ne_eqb (first_match (tick_refusals s)) 0 n) refl
+
+-- ---- a tick that is not refused
+module _ (s : State) (z : first_match (tick_refusals s) ≡ 0) {serves : Bool} (opens : serves ≡ is_open s.head.setup s.head.clock) where
+  pub ticked : {gone : Option Request} {ws : List Request} {xs : List ℕ} → gone ≡ served_from serves s.head s.waiting_table
+      → ws ≡ table_served serves s.head s.waiting_table → xs ≡ tick_numbers s.head gone s.client_numbers
+      → ComesTo tick s (Ok (tick_reply serves s.head gone)) ws xs
+  unfolding tick_accepted
+  ticked {gone} {ws} {xs} taken moved counted =
+      let who : gone ≡ cond serves (first_of (waiting s)) None = taken ∙ gone_after s (tick_ready s z).ready serves in
+      accepted_gives tick s z (moved ∙ rw (none_accepted tick s z, eq-eqb (first_match (tick_refusals s)) 0 z) at (tick_table s opens))
+      (rw (counted, who, ← opens) (tick_answers s (tick_ready s z) serves))

@@ -1,5 +1,5 @@
 -- `queue::try_chart` meets its contract: its parts come together to what a chart call is said to do (`Laws/Chart.antt`).
-use Rattle.std.proofs.Common.{sym, ◌∙◌}
+use Rattle.std.proofs.Common.{sym, ◌∙◌, arith}
 use Rattle.std.proofs.lemmas.Result.{err_from_is_err_and}
 use Rattle.std.proofs.lemmas.List.{length-take-le}
 use Rattle.spec.specs.Tables.{state_of}
@@ -26,22 +26,12 @@ slice_bounds-write_starts-end c =
     let a = c.args in
     sym (length-take-le a.head.waiting a.waiting.now (waits a.output.now (state_of a.head a.waiting.now a.clients.now) (sym c.in_ok-check.ensures)))
 
-pub slice_bounds-write_starts-end-2 : goal.slice_bounds-write_starts-end-2
-slice_bounds-write_starts-end-2 c =
-    let a = c.args in
-    long a.output.now (state_of a.head a.waiting.now a.clients.now) (sym c.in_ok-check.ensures)
-
-pub slice_bounds-write_starts-end-3 : goal.slice_bounds-write_starts-end-3
-slice_bounds-write_starts-end-3 c =
-    let a = c.args in
-    sym (length-take-le a.head.waiting a.output.now (long a.output.now (state_of a.head a.waiting.now a.clients.now) (sym c.in_ok-check.ensures)))
-
 pub write_starts-requires : goal.write_starts-requires
 write_starts-requires c =
     let a = c.args in
     let s = state_of a.head a.waiting.now a.clients.now in
-    length-take-le a.head.waiting a.waiting.now (waits a.output.now s (sym c.in_ok-check.ensures))
-    ∙ sym (length-take-le a.head.waiting a.output.now (long a.output.now s (sym c.in_ok-check.ensures)))
+    let none = sym c.in_ok-check.ensures in
+    omega (arith, length-take-le a.head.waiting a.waiting.now (waits a.output.now s none), long a.output.now s none)
 
 pub returns-clause-reply : goal.returns-clause-reply
 returns-clause-reply c =
@@ -52,4 +42,6 @@ returns-clause-reply c =
 pub returns-clause-output : goal.returns-clause-output
 returns-clause-output c =
     let a = c.args in
-    rw c.write_starts.ensures (charted a.output.now (state_of a.head a.waiting.now a.clients.now) (sym c.in_ok-check.ensures))
+    let count =
+    length-take-le a.head.waiting a.waiting.now (waits a.output.now (state_of a.head a.waiting.now a.clients.now) (sym c.in_ok-check.ensures)) in
+    rw (c.write_starts.ensures, count) (charted a.output.now (state_of a.head a.waiting.now a.clients.now) (sym c.in_ok-check.ensures))

@@ -6,7 +6,7 @@ use Rattle.spec.specs.Tables.{client_table, state_of}
 use Rattle.occupancy.specs.Scans.{counts_with}
 use Rattle.decide.specs.declared.submit.Decision.TheVariants.{Drop}
 use Rattle.queue.proofs.Laws.Victim.{choice_found}
-use Rattle.queue.proofs.Laws.Searches.{waits, clock, some_slots, ascending_behind, clients, rises, within, behind, found_none, found_all}
+use Rattle.queue.proofs.Laws.Searches.{waits, clock, some_slots, ascending_behind, clients, rises, within, all_due, behind, found_none, found_all}
 use Rattle.queue.proofs.Laws.Searches.{victim_of_first}
 use Rattle.queue.proofs.submission.accepted_decision.Goals as goal
 
@@ -59,13 +59,18 @@ slice_bounds-note_last_of_each-count c =
     let s = state_of a.head a.waiting.now a.clients.now in
     let searched = rw c.split_at.ensures.back at c.first_overfull.ensures in
     behind a.client a.deadline s c.requires c.due_by-place.result c.due_by-place.ensures searched c.in-Some.found
-    c.due_by-due.result c.in-Some.is c.due_by-due.ensures
+    c.candidates-last.result c.in-Some.is
+    (all_due a.client a.deadline s c.requires c.due_by-place.result c.due_by-place.ensures searched c.in-Some.found
+    c.due_by-due.result c.candidates-last.result c.in-Some.is c.due_by-due.ensures c.candidates-last.ensures)
 
 pub slice_bounds-note_last_of_each-length : goal.slice_bounds-note_last_of_each-length
 slice_bounds-note_last_of_each-length c =
     let a = c.args in
     let s = state_of a.head a.waiting.now a.clients.now in
-    let ended = within a.client a.deadline s c.requires c.in-Some.found _ c.due_by-due.ensures in
+    let searched = rw c.split_at.ensures.back at c.first_overfull.ensures in
+    let ended = within a.client a.deadline s c.requires c.in-Some.found _
+    (all_due a.client a.deadline s c.requires c.due_by-place.result c.due_by-place.ensures searched c.in-Some.found
+    c.due_by-due.result c.candidates-last.result c.in-Some.is c.due_by-due.ensures c.candidates-last.ensures) in
     sym (length-take-le _ _ (omega (arith, c.split_at.ensures.back_len, ended.0)))
 
 pub note_last_of_each-requires-2 : goal.note_last_of_each-requires-2
@@ -73,11 +78,14 @@ note_last_of_each-requires-2 c =
     let a = c.args in
     let s = state_of a.head a.waiting.now a.clients.now in
     let placed = within a.client a.deadline s c.requires a.deadline _ c.due_by-place.ensures in
-    let ended = within a.client a.deadline s c.requires c.in-Some.found _ c.due_by-due.ensures in (
+    let searched = rw c.split_at.ensures.back at c.first_overfull.ensures in
+    let ended = within a.client a.deadline s c.requires c.in-Some.found _
+    (all_due a.client a.deadline s c.requires c.due_by-place.result c.due_by-place.ensures searched c.in-Some.found
+    c.due_by-due.result c.candidates-last.result c.in-Some.is c.due_by-due.ensures c.candidates-last.ensures) in (
       c.note.auto.latest ∙ c.note_last_of_each.auto.latest,
       omega (
         arith,
-        length-take (c.due_by-due.result - c.due_by-place.result) c.split_at.result.1.now,
+        length-take (c.candidates-last.result - c.due_by-place.result) c.split_at.result.1.now,
         placed.0,
         placed.1,
         ended.0,
@@ -117,6 +125,8 @@ returns c =
     ∙ rw c.in-Some.is at
     (choice_found
     (found_all a.client a.deadline s c.requires c.due_by-place.result c.due_by-place.ensures searched c.in-Some.found
-    c.due_by-due.result c.in-Some.is c.due_by-due.ensures _ _ _
+    c.candidates-last.result c.in-Some.is
+    (all_due a.client a.deadline s c.requires c.due_by-place.result c.due_by-place.ensures searched c.in-Some.found
+    c.due_by-due.result c.candidates-last.result c.in-Some.is c.due_by-due.ensures c.candidates-last.ensures) _ _ _
     (rw c.split_at.ensures.front at c.note_last_of_each.ensures) c.note.ensures
     (rw c.split_at.ensures.back at c.note_last_of_each-2.ensures)))

@@ -1,8 +1,8 @@
 -- `sound::check::check_contents` meets its contract: what each pass asks holds, and together they tell what the contents call for.
-use Rattle.std.proofs.Common.{ap, refl, ◌∙◌, arith}
+use Rattle.std.proofs.Common.{ap, refl, ◌∙◌}
 use Rattle.std.proofs.lemmas.Result.{err_from_is_err_and}
 use Rattle.spec.specs.Reasons.{number_of, refused_by}
-use Rattle.sound.proofs.Contents.{all_there, taken, few_there, next_asked, balanced_asked, contents_told, held, not_held}
+use Rattle.sound.proofs.Contents.{all_there, taken, next_asked, balanced_asked, contents_told, held, not_held}
 use Rattle.sound.proofs.check.check_contents.Goals as goal
 
 pub slice_bounds-are_next-end : goal.slice_bounds-are_next-end
@@ -13,16 +13,8 @@ are_next-requires c =
     let a = c.args in
     rw c.new-tally.ensures (next_asked a.head a.waiting.now a.numbers.now c.requires)
 
-pub offset_bounds-waiting-n : goal.offset_bounds-waiting-n
-offset_bounds-waiting-n c =
-    let a = c.args in
-    omega (arith, all_there a.head a.waiting.now a.numbers.now c.requires, few_there a.head a.waiting.now a.numbers.now c.requires)
-
-pub slice_bounds-are_zero-count : goal.slice_bounds-are_zero-count
-slice_bounds-are_zero-count c = let a = c.args in all_there a.head a.waiting.now a.numbers.now c.requires
-
-pub slice_bounds-are_zero-start : goal.slice_bounds-are_zero-start
-slice_bounds-are_zero-start c = let a = c.args in all_there a.head a.waiting.now a.numbers.now c.requires
+pub are_zero_behind-requires : goal.are_zero_behind-requires
+are_zero_behind-requires c = let a = c.args in all_there a.head a.waiting.now a.numbers.now c.requires
 
 pub are_balanced-requires : goal.are_balanced-requires
 are_balanced-requires c = let a = c.args in balanced_asked a.head a.waiting.now a.numbers.now c.requires
@@ -45,10 +37,10 @@ returns-in_err-sound_if-2 c =
     let refusal = c.in_err-sound_if-2.ensures in
     let next = rw c.new-tally.ensures at c.are_next.ensures in
     let told =
-    contents_told a.head a.waiting.now a.numbers.now c.requires c.are_next.new.tally.counts c.are_next.result c.are_zero.result _ next
-    c.are_zero.ensures refl in
+    contents_told a.head a.waiting.now a.numbers.now c.requires c.are_next.new.tally.counts c.are_next.result c.are_zero_behind.result _ next
+    c.are_zero_behind.ensures refl in
     let d = held c.are_next.result c.in_ok-sound_if.ensures in
-    let e = not_held c.are_zero.result _ refusal in
+    let e = not_held c.are_zero_behind.result _ refusal in
     ap refused_by p.1 ∙ ap number_of p.2 ∙ rw e at refusal ∙ rw (d, e) at told
 
 pub returns : goal.returns
@@ -56,8 +48,8 @@ returns c =
     let a = c.args in
     let next = rw c.new-tally.ensures at c.are_next.ensures in
     let told =
-    contents_told a.head a.waiting.now a.numbers.now c.requires c.are_next.new.tally.counts c.are_next.result c.are_zero.result
-    c.are_balanced.result next c.are_zero.ensures c.are_balanced.ensures in
+    contents_told a.head a.waiting.now a.numbers.now c.requires c.are_next.new.tally.counts c.are_next.result c.are_zero_behind.result
+    c.are_balanced.result next c.are_zero_behind.ensures c.are_balanced.ensures in
     let d = held c.are_next.result c.in_ok-sound_if.ensures in
-    let e = held c.are_zero.result c.in_ok-sound_if-2.ensures in
+    let e = held c.are_zero_behind.result c.in_ok-sound_if-2.ensures in
     c.sound_if-3.ensures ∙ rw (d, e) at told

@@ -22,7 +22,7 @@ returns-then-not-check_record c =
     let l = c.loop-k in
     stopped_on (drop (l.k + 1) ws) (take-append-drop (l.k + 1) ws)
     (counted_on (sym (take_more ws l.k zero_request c.loop-k-test.true)) l.invariant.counted (c.args.i + l.k) (omega (arith, length-take l.k ws))
-    l.invariant.in_hand (rw c.if-not-check_record.true at c.check_record.ensures))
+    l.invariant.in_hand (rw c.if-not-check_record.true at c.check_record.ensures.turn))
 
 pub loop-k-preserved : goal.loop-k-preserved
 loop-k-preserved c =
@@ -32,5 +32,5 @@ loop-k-preserved c =
       in_hand = one_more_last c.args.before ws l.k c.loop-k-test.true;
       counted =
           counted_on (sym (take_more ws l.k zero_request c.loop-k-test.true)) l.invariant.counted (c.args.i + l.k) (omega (arith, length-take l.k ws))
-          l.invariant.in_hand (rw c.if-not-check_record.false at c.check_record.ensures);
+          l.invariant.in_hand (rw c.if-not-check_record.false at c.check_record.ensures.turn);
     }

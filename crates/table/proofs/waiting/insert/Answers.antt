@@ -17,4 +17,4 @@ returns c =
       | then-at-n w ↦ w.t-is ∙ w.replace.ensures.1 ∙ inserts n at r ys w.if-at-n.true
       | else-at-n w ↦ w.t-is ∙ not_inserted n at r ys w.if-at-n.false
     ] in
-    (c.saturating_sub.ensures, put_in)
+    (c.shift_at.ensures, put_in)
